@@ -1,0 +1,158 @@
+-- The computed number of a field is the one that its columns hold.
+use Rattle.std.proofs.Common.{◌≡◌, ℕ, ◌+◌, ◌-◌, ◌<◌, ◌≤◌, ◌⊎◌, inl, inr, Bool, true, false, cond, leb, eqb, ◌&&◌, List, [], ◌∷◌, ◌++◌, length, get_or, Option, Some, None, refl, sym, ap, ◌∙◌, arith}
+use Rattle.std.specs.Prelude.{ℤ, pos, neg_ℤ}
+use Rattle.std.specs.Option.{option_map}
+use Rattle.std.specs.List.{list_all}
+use Rattle.std.specs.Char.{is_ascii_digit}
+use Rattle.std.specs.Str.Parse.{digits_value}
+use Rattle.std.proofs.lemmas.Bool.{le-leb, leb-true}
+use Rattle.std.proofs.lemmas.Bool.Decides.{nat_tests}
+use Rattle.std.proofs.lemmas.List.Folds.{list_all-append}
+use Rattle.std.proofs.lemmas.List.{get_or_append_left, get_or-append_right, length-append}
+use Rattle.mk_text.specs.Columns.{is_space, are_blank, trimmed}
+use Rattle.mk_text.specs.Fields.{Sign, NoSign, Plus, Minus, sign_text, signed, IsNumberField, IsField, digits_number, signed_in, field_in, FieldsAreRead}
+use Rattle.mk_text.proofs.DigitLemmas.{digit_at}
+use Rattle.mk_text.proofs.TrimLemmas.{AreBetween, trimmed_is_between, trimmed_between, trimmed_blank}
+
+-- ---- what the computation finds
+
+-- one to nine digits, and their number
+record AreDigits (ds : List ℕ) (n : ℕ) : Type 0 where
+  some : 1 ≤ length ds
+  few : length ds ≤ 9
+  digits : list_all is_ascii_digit ds ≡ true
+  value : n ≡ digits_value 10 ds
+
+-- a sign or none, and digits
+record AreSigned (cells : List ℕ) (z : ℤ) : Type 0 where
+  sign : Sign
+  ds : List ℕ
+  n : ℕ
+  whole : cells ≡ sign_text sign ++ ds
+  digits : AreDigits ds n
+  value : z ≡ signed sign n
+
+mapped : {A B : Type 0} (f : A → B) (o : Option A) (y : B) → option_map f o ≡ Some y → (x : A) × (o ≡ Some x) × (y ≡ f x)
+mapped f None y found = absurd cc
+mapped f (Some x) y found = (x, refl, cc)
+
+digits_by : (ds : List ℕ) (n : ℕ) (some few all : Bool) → leb 1 (length ds) ≡ some → leb (length ds) 9 ≡ few → list_all is_ascii_digit ds ≡ all → cond (some && (few && all)) (Some (digits_value 10 ds)) None ≡ Some n → AreDigits ds n
+digits_by ds n true true true a b d found = record { some = leb-true _ _ a; few = leb-true _ _ b; digits = d; value = cc }
+digits_by ds n true true false a b d found = absurd cc
+digits_by ds n true false all a b d found = absurd cc
+digits_by ds n false few all a b d found = absurd cc
+
+digits_found : (ds : List ℕ) (n : ℕ) → digits_number ds ≡ Some n → AreDigits ds n
+unfolding digits_number
+digits_found ds n found = digits_by ds n _ _ _ refl refl refl found
+
+signed_by : (c : ℕ) (cs : List ℕ) (z : ℤ) (plus minus : Bool) → eqb c 43 ≡ plus → eqb c 45 ≡ minus
+    → cond plus (option_map pos (digits_number cs)) (cond minus (option_map (λ n. neg_ℤ (pos n)) (digits_number cs)) (option_map pos (digits_number (c ∷ cs)))) ≡ Some z
+    → AreSigned (c ∷ cs) z
+signed_by c cs z true minus a b found =
+    let m = mapped pos (digits_number cs) z found in
+    let is : c ≡ 43 = grind (arith, nat_tests) in
+    record { sign = Plus; ds = cs; n = m.0; whole = ap (λ x. x ∷ cs) is; digits = digits_found cs m.0 m.1; value = m.2 }
+signed_by c cs z false true a b found =
+    let m = mapped (λ n. neg_ℤ (pos n)) (digits_number cs) z found in
+    let is : c ≡ 45 = grind (arith, nat_tests) in
+    record { sign = Minus; ds = cs; n = m.0; whole = ap (λ x. x ∷ cs) is; digits = digits_found cs m.0 m.1; value = m.2 }
+signed_by c cs z false false a b found =
+    let m = mapped pos (digits_number (c ∷ cs)) z found in
+    record { sign = NoSign; ds = c ∷ cs; n = m.0; whole = refl; digits = digits_found (c ∷ cs) m.0 m.1; value = m.2 }
+
+signed_found : (cells : List ℕ) (z : ℤ) → signed_in cells ≡ Some z → ((cells ≡ []) × (z ≡ pos 0)) ⊎ AreSigned cells z
+signed_found [] z found = inl (refl, cc)
+signed_found (c ∷ cs) z found = inr (signed_by c cs z _ _ refl refl found)
+
+-- blanks and blanks are blanks
+blanks_joined : (before after : List ℕ) → are_blank before ≡ true → are_blank after ≡ true → are_blank (before ++ after) ≡ true
+blanks_joined before after blank_before blank_after = rw (list_all-append is_space before after, blank_before) blank_after
+
+-- what is computed is the number of the field
+found : (cells : List ℕ) (z : ℤ) → field_in cells ≡ Some z → IsField cells z
+found cells z read =
+    let b = trimmed_is_between cells in
+    elim (signed_found (trimmed cells) z read) [
+      | inl h ↦
+          let whole : cells ≡ b.before ++ b.after = b.whole ∙ ap (λ (core : List ℕ). b.before ++ (core ++ b.after)) h.0 in
+          inl (ap are_blank whole ∙ blanks_joined b.before b.after b.blank_before b.blank_after, h.1)
+      | inr h ↦
+          inr (record {
+            before = b.before;
+            sign = h.sign;
+            digits = h.ds;
+            after = b.after;
+            whole = b.whole ∙ ap (λ (core : List ℕ). b.before ++ (core ++ b.after)) h.whole;
+            blank_before = b.blank_before;
+            blank_after = b.blank_after;
+            some_digits = h.digits.some;
+            few_digits = h.digits.few;
+            are_digits = h.digits.digits;
+            value = h.value ∙ ap (signed h.sign) h.digits.value;
+          })
+    ]
+
+-- ---- what columns that hold a number give
+
+-- a digit is no blank
+digit_no_space : (c : ℕ) → 48 ≤ c → is_space c ≡ false
+digit_no_space c least = grind (arith, nat_tests)
+
+pub digits_given : (ds : List ℕ) → 1 ≤ length ds → length ds ≤ 9 → list_all is_ascii_digit ds ≡ true → digits_number ds ≡ Some (digits_value 10 ds)
+unfolding digits_number
+digits_given ds some few digits = rw (le-leb 1 (length ds) some, le-leb (length ds) 9 few, digits) refl
+
+-- digits without a sign
+unsigned_given : (ds : List ℕ) → 1 ≤ length ds → list_all is_ascii_digit ds ≡ true → signed_in ds ≡ option_map pos (digits_number ds)
+unsigned_given [] some digits = absurd (omega arith)
+unsigned_given (d ∷ ds) some digits =
+    let first = digit_at (d ∷ ds) 0 digits (omega arith) in
+    let no_plus : eqb d 43 ≡ false = grind (arith, nat_tests) in
+    let no_minus : eqb d 45 ≡ false = grind (arith, nat_tests) in
+    rw (no_plus, no_minus) refl
+
+pub signed_given : (s : Sign) (ds : List ℕ) → 1 ≤ length ds → length ds ≤ 9 → list_all is_ascii_digit ds ≡ true → signed_in (sign_text s ++ ds) ≡ Some (signed s (digits_value 10 ds))
+signed_given NoSign ds some few digits = unsigned_given ds some digits ∙ ap (option_map pos) (digits_given ds some few digits)
+signed_given Plus ds some few digits = ap (option_map pos) (digits_given ds some few digits)
+signed_given Minus ds some few digits = ap (option_map (λ n. neg_ℤ (pos n))) (digits_given ds some few digits)
+
+-- a sign or a digit is no blank
+first_no_space : (s : Sign) (ds : List ℕ) → 1 ≤ length ds → list_all is_ascii_digit ds ≡ true → is_space (get_or (sign_text s ++ ds) 0 0) ≡ false
+first_no_space NoSign ds some digits = digit_no_space (get_or ds 0 0) (digit_at ds 0 digits (omega arith)).0
+first_no_space Plus ds some digits = refl
+first_no_space Minus ds some digits = refl
+
+-- the last one is a digit
+last_no_space : (s : Sign) (ds : List ℕ) → 1 ≤ length ds → list_all is_ascii_digit ds ≡ true → is_space (get_or (sign_text s ++ ds) (length (sign_text s ++ ds) - 1) 0) ≡ false
+last_no_space s ds some digits =
+    let size : length (sign_text s ++ ds) ≡ length (sign_text s) + length ds = length-append (sign_text s) ds in
+    let place : length (sign_text s ++ ds) - 1 - length (sign_text s) ≡ length ds - 1 = omega arith in
+    ap is_space (get_or-append_right (sign_text s) ds (length (sign_text s)) (length (sign_text s ++ ds) - 1) 0 refl (omega arith) ∙ ap (λ (i : ℕ). get_or ds i 0) place)
+    ∙ digit_no_space (get_or ds (length ds - 1) 0) (digit_at ds (length ds - 1) digits (omega arith)).0
+
+-- a sign or none and digits, between blanks
+pub number_given : (before after : List ℕ) (s : Sign) (ds : List ℕ) → are_blank before ≡ true → are_blank after ≡ true → 1 ≤ length ds → length ds ≤ 9 → list_all is_ascii_digit ds ≡ true → field_in (before ++ ((sign_text s ++ ds) ++ after)) ≡ Some (signed s (digits_value 10 ds))
+number_given before after s ds blank_before blank_after some few digits =
+    let core = sign_text s ++ ds in
+    let any : 0 < length core = omega (arith, length-append (sign_text s) ds) in
+    ap signed_in (trimmed_between before core after blank_before blank_after any (first_no_space s ds some digits) (last_no_space s ds some digits))
+    ∙ signed_given s ds some few digits
+
+given : (cells : List ℕ) (z : ℤ) → IsField cells z → field_in cells ≡ Some z
+given cells z (inl h) = ap signed_in (trimmed_blank cells h.0) ∙ ap Some (sym h.1)
+given cells z (inr h) =
+    ap field_in h.whole ∙ number_given h.before h.after h.sign h.digits h.blank_before h.blank_after h.some_digits h.few_digits h.are_digits ∙ ap Some (sym h.value)
+
+pub law : FieldsAreRead
+law cells z = (found cells z, given cells z)
+
+-- ---- for the answers of a reader
+
+-- what was read is the number that the columns hold
+pub some_is_field : (cells : List ℕ) (o : Option ℤ) (z : ℤ) → o ≡ field_in cells → o ≡ Some z → IsField cells z
+some_is_field cells o z read some = found cells z (sym read ∙ some)
+
+-- where nothing is read, they hold none
+pub none_is_no_field : (cells : List ℕ) → None ≡ field_in cells → (z : ℤ) → IsField cells z → ⊥
+none_is_no_field cells none z is = let some = given cells z is in cc

@@ -1,0 +1,6 @@
+pub mod PieceLemmas
+pub mod DigitLemmas
+pub mod TrimLemmas
+pub mod FieldLemmas
+pub mod SpellingLemmas
+pub mod RisingLemmas

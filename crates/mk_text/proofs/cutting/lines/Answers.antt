@@ -1,0 +1,50 @@
+use Rattle.std.proofs.Common.{arith, ◌≤◌, ◌<◌, ◌+◌, ◌++◌, ℕ, List, [], ◌∷◌, length, drop, sym, ap, ◌∙◌}
+use Rattle.std.proofs.lemmas.Grind.{common_steps}
+use Rattle.std.proofs.lemmas.List.{append-nil}
+use Rattle.mk_text.specs.declared.cutting.Span.{Span}
+use Rattle.mk_text.specs.Lines.{lines_of}
+use Rattle.mk_text.specs.Spans.{parts}
+use Rattle.mk_text.proofs.PieceLemmas.{lines_at, lines_last, lines_none, one_more, none_more}
+use Rattle.mk_text.proofs.cutting.lines.Goals as goal
+use Rattle.mk_text.proofs.cutting.lines.Goals.{then-byte-eq10+in_ok-push, else-byte-eq10, then-from-text+in_ok-push-2, else-from-text}
+
+pub loop-i-preserved : goal.loop-i-preserved
+loop-i-preserved c =
+    let text = c.args.text.now in
+    let inv = c.loop-i.invariant in
+    elim c.if-byte-eq10.branch [
+      | then-byte-eq10+in_ok-push w ↦
+          let at = lines_at text c.loop-i.from c.loop-i.i inv.started (omega arith) (omega arith) inv.none in
+          let line = at ∙ ap (λ (p : List ℕ). p ∷ lines_of (drop (c.loop-i.i + 1) text)) (sym w.end_of_line-to.ensures.line) in
+          let s : Span = record { from = c.loop-i.from; to = w.end_of_line-to.result } in
+          let more = one_more text c.loop-i.spans.items s (lines_of (drop c.loop-i.from text)) (lines_of (drop (c.loop-i.i + 1) text)) (lines_of text) inv.so_far line in
+          record {
+            started = omega arith;
+            so_far = rw (w.spans-is, w.from-is, w.in_ok-push.ensures.items) more;
+            none = λ k le lt. absurd (omega arith);
+            within = rw (w.spans-is, w.in_ok-push.ensures.items) (grind (arith, common_steps));
+          }
+      | else-byte-eq10 w ↦
+          record {
+            started = omega arith;
+            so_far = rw (w.spans-is, w.from-is) inv.so_far;
+            none = λ k le lt. none_more text c.loop-i.from c.loop-i.i inv.none w.if-byte-eq10.false k (omega arith) lt;
+            within = rw w.spans-is inv.within;
+          }
+    ]
+
+pub returns-clause-lines : goal.returns-clause-lines
+returns-clause-lines c =
+    let text = c.args.text.now in
+    let inv = c.loop-i.invariant in
+    elim c.if-from-text.branch [
+      | then-from-text+in_ok-push-2 w ↦
+          let none = λ (k : ℕ) (le : c.loop-i.from ≤ k) (lt : k < length text). inv.none k le (omega arith) in
+          let at = lines_last text c.loop-i.from (omega arith) none in
+          let line = at ∙ ap (λ (p : List ℕ). p ∷ []) (sym w.end_of_line-to-then-from-text.ensures.line) in
+          let s : Span = record { from = c.loop-i.from; to = w.end_of_line-to-then-from-text.result } in
+          let more = one_more text c.loop-i.spans.items s (lines_of (drop c.loop-i.from text)) [] (lines_of text) inv.so_far line in
+          rw (w.spans-is, w.in_ok-push-2.ensures.items) (sym (append-nil (parts text (c.loop-i.spans.items ++ s ∷ []))) ∙ more)
+      | else-from-text w ↦
+          rw w.spans-is (sym (append-nil (parts text c.loop-i.spans.items)) ∙ ap (λ (ts : List (List ℕ)). parts text c.loop-i.spans.items ++ ts) (sym (lines_none text c.loop-i.from (omega arith))) ∙ inv.so_far)
+    ]

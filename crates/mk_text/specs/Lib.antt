@@ -1,0 +1,6 @@
+pub mod Spans
+pub mod Lines
+pub mod Columns
+pub mod Fields
+pub mod Spelling
+pub mod Rising

@@ -1,0 +1,61 @@
+-- Lists of numbers in order, and lists of them that rise.
+--     IsBelow xs ys                      xs stands before ys: number by number, a proper prefix before what it begins
+--     Rises lists                        each list is below all that follow it
+--     Holds lists xs                     xs is one of the lists
+--     IsRisingListOfAll P lists          the rising list of all lists of numbers that have P
+use Rattle.std.specs.Prelude.{◌≡◌, ℕ, ◌<◌, ◌⊎◌, List, [], ◌∷◌, ◌++◌, take, drop}
+use Rattle.std.specs.List.{AllByRecursion}
+
+-- number by number, a proper prefix before what it begins
+abbrev pub IsBelow : List ℕ → List ℕ → Type 0
+IsBelow xs [] = ⊥
+IsBelow [] (y ∷ ys) = Unit {0}
+IsBelow (x ∷ xs) (y ∷ ys) = (x < y) ⊎ ((x ≡ y) × IsBelow xs ys)
+
+-- each list has P
+abbrev pub Each : (List ℕ → Type 0) → List (List ℕ) → Type 0
+Each P lists = AllByRecursion P lists
+
+-- each list is below all that follow it
+abbrev pub Rises : List (List ℕ) → Type 0
+Rises [] = Unit {0}
+Rises (xs ∷ others) = Each (λ ys. IsBelow xs ys) others × Rises others
+
+-- xs is one of the lists
+abbrev pub Holds : List (List ℕ) → List ℕ → Type 0
+Holds [] xs = ⊥
+Holds (ys ∷ others) xs = (ys ≡ xs) ⊎ Holds others xs
+
+-- the lists rise, each has P, and each list of numbers that has P is among them
+pub record IsRisingListOfAll (P : List ℕ → Type 0) (lists : List (List ℕ)) : Type 0 where
+  pub rises : Rises lists
+  pub each : (xs : List ℕ) → Holds lists xs → P xs
+  pub all : (xs : List ℕ) → P xs → Holds lists xs
+
+-- ---- laws
+
+-- two rising lists that hold the same are one
+abbrev pub OneRisingList : Type 0
+OneRisingList =
+    (lists others : List (List ℕ)) → Rises lists → Rises others
+    → ((xs : List ℕ) → Holds lists xs → Holds others xs) → ((xs : List ℕ) → Holds others xs → Holds lists xs)
+    → lists ≡ others
+
+-- the first so many of a rising list rise, and stand below all others in it
+abbrev pub FirstOfRising : Type 0
+FirstOfRising =
+    (n : ℕ) (lists : List (List ℕ)) → Rises lists
+    → Rises (take n lists) × ((xs ys : List ℕ) → Holds (take n lists) xs → Holds (drop n lists) ys → IsBelow xs ys)
+
+-- the lists up to a place, which are below it, and those from it on, which aren't
+pub record IsCutAt (place : List ℕ) (lists front back : List (List ℕ)) : Type 0 where
+  pub whole : lists ≡ front ++ back
+  pub below : Each (λ xs. IsBelow xs place) front
+  pub not_below : Each (λ xs. IsBelow xs place → ⊥) back
+  pub rises : Rises back
+
+-- a place cuts a rising list in two
+abbrev pub RisingFromPlace : Type 0
+RisingFromPlace =
+    (place : List ℕ) (lists : List (List ℕ)) → Rises lists
+    → (front : List (List ℕ)) × (back : List (List ℕ)) × IsCutAt place lists front back

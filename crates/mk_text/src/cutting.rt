@@ -1,0 +1,74 @@
+// The lines of a text, and the words of a line.
+ghost use Rattle.std.specs.Prelude.{◌≡◌, ◌≤◌, All, IfOk, length, slice_range};
+ghost use Rattle.mk_text.specs.Lines.{lines_of, words_of, without_cr};
+ghost use Rattle.mk_text.specs.Spans.{AreWithin, parts};
+
+use crate::Memory;
+use std::alloc::Global;
+
+/// The bytes of a text from the place `from` on, up to the place `to`. Places count from 0.
+#[derive(Clone, Copy, Debug, PartialEq, Eq)]
+pub struct Span {
+    pub from: usize,
+    pub to: usize,
+}
+
+/// The lines of a text: its pieces between LF bytes, one CR dropped at the end of each.
+pub fn lines(alloc: Global, text: &[u8]) -> Result<Vec<Span>, Memory>
+    ensures lines { IfOk result (λ spans. parts text.now spans.items ≡ lines_of text.now) }
+    ensures within { IfOk result (λ spans. AreWithin text.now spans.items) }
+{
+    let mut spans = Vec::new(alloc);
+    let mut from = 0;
+    for (i, byte) in text.iter().enumerate() {
+        if *byte == b'\n' {
+            let to = end_of_line(text, from, i);
+            spans.push(Span { from, to })?;
+            from = i + 1;
+        }
+    }
+    if from < text.len() {
+        let to = end_of_line(text, from, text.len());
+        spans.push(Span { from, to })?;
+    }
+    Ok(spans)
+}
+
+// Where the line ends whose piece is `from` to `to`: before its CR, where it has one.
+fn end_of_line(text: &[u8], from: usize, to: usize) -> usize
+    requires order { from ≤ to }
+    requires within { to ≤ length text.now }
+    ensures line { slice_range text.now from result ≡ without_cr (slice_range text.now from to) }
+    ensures order { from ≤ result }
+    ensures within { result ≤ to }
+{
+    if to > from && text[to - 1] == b'\r' {
+        to - 1
+    } else {
+        to
+    }
+}
+
+/// The words of a line: its longest runs of bytes other than blanks.
+pub fn words(alloc: Global, line: &[u8]) -> Result<Vec<Span>, Memory>
+    ensures words { IfOk result (λ spans. parts line.now spans.items ≡ words_of line.now) }
+    ensures within { IfOk result (λ spans. AreWithin line.now spans.items) }
+{
+    let mut spans = Vec::new(alloc);
+    let mut from = 0;
+    for (i, byte) in line.iter().enumerate() {
+        if *byte == b' ' {
+            if from < i {
+                spans.push(Span { from, to: i })?;
+            }
+            from = i + 1;
+        }
+    }
+    if from < line.len() {
+        spans.push(Span {
+            from,
+            to: line.len(),
+        })?;
+    }
+    Ok(spans)
+}

@@ -1,0 +1,57 @@
+// Numeric fields.
+ghost use Rattle.std.specs.Prelude.{◌≡◌, ◌≤◌, ◌<◌, ◌^◌, ℤ, IfSome, IfNone};
+ghost use Rattle.std.specs.List.{list_all};
+ghost use Rattle.std.specs.Char.{is_ascii_digit};
+ghost use Rattle.mk_text.specs.Columns.{columns};
+ghost use Rattle.mk_text.specs.Fields.{IsField, field_of, signed_in, digits_number};
+
+use crate::columns::trimmed_column;
+
+/// The number of the columns `from` to `to`, or None where they are no numeric field.
+#[tactic(auto, unfolding(crate::specs::Fields::field_of))]
+pub fn field(line: &[u8], from: usize, to: usize) -> Option<i32>
+    requires first { 1 ≤ from }
+    requires order { from ≤ to }
+    ensures number { IfSome result (IsField (columns line.now from to)) }
+    ensures none { IfNone result ((n : ℤ) → IsField (columns line.now from to) n → ⊥) }
+    ensures value { result ≡ field_of line.now from to }
+{
+    signed(trimmed_column(line, from, to))
+}
+
+// The number of an optional sign and digits, and 0 of nothing.
+fn signed(cells: &[u8]) -> Option<i32>
+    ensures { result ≡ signed_in cells.now }
+{
+    match cells {
+        [] => Some(0),
+        [b'+', digits @ ..] => Some(unsigned(digits)? as i32),
+        [b'-', digits @ ..] => Some(-(unsigned(digits)? as i32)),
+        digits => Some(unsigned(digits)? as i32),
+    }
+}
+
+// The number of one to nine digits.
+#[tactic(auto, unfolding(crate::specs::Fields::digits_number))]
+fn unsigned(digits: &[u8]) -> Option<u32>
+    ensures value { result ≡ digits_number digits.now }
+    ensures small { IfSome result (λ n. n < 10 ^ 9) }
+{
+    if digits.is_empty() || digits.len() > 9 {
+        return None;
+    }
+    if !are_digits(digits) {
+        return None;
+    }
+    let mut number: u32 = 0;
+    for digit in digits {
+        number = number * 10 + u32::from(*digit - b'0');
+    }
+    Some(number)
+}
+
+fn are_digits(cells: &[u8]) -> bool
+    ensures { result ≡ list_all is_ascii_digit cells.now }
+{
+    cells.iter().all(|cell| cell.is_ascii_digit())
+}

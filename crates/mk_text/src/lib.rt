@@ -1,0 +1,31 @@
+//! Texts: their lines and words, the columns of a line, the numbers in them, and lists of numbers in order.
+//!
+//! The readers above use one promise. A column range is a numeric field with a number exactly as `IsField` in
+//! `specs/Fields.antt` says, over the lines of `specs/Lines.antt`; `field` gives that number, or None exactly where there
+//! is none. What is said everywhere of lists of numbers, that one is below another and that a list rises, stands in
+//! `specs/Rising.antt`, with its laws in `laws`.
+//!
+//! Which columns hold what isn't known here: see `mk_ctab`.
+#![tactic(auto)]
+
+mod columns;
+mod cutting;
+mod decimals;
+mod fields;
+mod laws;
+mod lists;
+#[cfg(test)]
+mod tests;
+mod texts;
+
+pub use columns::{column, is_blank, trimmed_column};
+pub use cutting::{Span, lines, words};
+pub use decimals::put_number;
+pub use fields::field;
+pub use laws::{
+    field_is_exact, first_of_rising, one_rising_list, right_justified_is_read, rising_from_place,
+    signed_right_justified_is_read,
+};
+pub use lists::{Bytes, Listed, Numbers, Place};
+pub use std::alloc::AllocError as Memory;
+pub use texts::Text;
