@@ -4,3 +4,4 @@ pub mod TrimLemmas
 pub mod FieldLemmas
 pub mod SpellingLemmas
 pub mod RisingLemmas
+pub mod ChoiceLemmas

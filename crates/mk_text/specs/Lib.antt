@@ -4,3 +4,4 @@ pub mod Columns
 pub mod Fields
 pub mod Spelling
 pub mod Rising
+pub mod Choices

@@ -1,5 +1,6 @@
 // Laws over the definitions alone, each carried by a function that does nothing.
 ghost use Rattle.mk_text.specs.Fields.{FieldsAreRead};
+ghost use Rattle.mk_text.specs.Choices.{ChoicesThatPass};
 ghost use Rattle.mk_text.specs.Rising.{OneRisingList, FirstOfRising, RisingFromPlace};
 ghost use Rattle.mk_text.specs.Spelling.{RightJustifiedIsRead, SignedRightJustifiedIsRead};
 
@@ -21,6 +22,11 @@ pub fn first_of_rising()
 /// What isn't below a place is the end of a rising list, and rises.
 pub fn rising_from_place()
     ensures { RisingFromPlace }
+{}
+
+/// The choices of numbers that pass a test, in order, are the rising list of all that do.
+pub fn choices_rise()
+    ensures { ChoicesThatPass }
 {}
 
 /// A number that is written right-justified in its columns is the number of that field.

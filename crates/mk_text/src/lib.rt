@@ -23,8 +23,8 @@ pub use cutting::{Span, lines, words};
 pub use decimals::put_number;
 pub use fields::field;
 pub use laws::{
-    field_is_exact, first_of_rising, one_rising_list, right_justified_is_read, rising_from_place,
-    signed_right_justified_is_read,
+    choices_rise, field_is_exact, first_of_rising, one_rising_list, right_justified_is_read,
+    rising_from_place, signed_right_justified_is_read,
 };
 pub use lists::{Bytes, Listed, Numbers, Place};
 pub use std::alloc::AllocError as Memory;

@@ -1,0 +1,4 @@
+pub mod PlainLines
+pub mod PlainFile
+pub mod PlainFacts
+pub mod PlainReading

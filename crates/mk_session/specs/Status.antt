@@ -1,0 +1,23 @@
+-- The statuses of a run.
+use Rattle.std.specs.Prelude.{◌≡◌, ℕ}
+use Rattle.mk_outside.specs.declared.answers.FileFail.{FileFail}
+use Rattle.mk_outside.specs.declared.answers.FileFail.TheVariants as fail
+use Rattle.mk_session.specs.declared.status.Status.{Status}
+use Rattle.mk_session.specs.declared.status.Status.TheVariants.{Done, Refused, Words, Read, Write, Store, Memory, BadStore, ScriptLong}
+
+-- the exit status of the program
+abbrev pub code_of : Status → ℕ
+code_of Done = 0
+code_of Refused = 1
+code_of Words = 2
+code_of Read = 3
+code_of Write = 4
+code_of Store = 5
+code_of Memory = 6
+code_of BadStore = 7
+code_of ScriptLong = 8
+
+-- how a run ends whose read failed
+abbrev pub IsStatusOfFail : FileFail → Status → Type 0
+IsStatusOfFail fail.Failed status = status ≡ Read
+IsStatusOfFail fail.Memory status = status ≡ Memory

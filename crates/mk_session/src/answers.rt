@@ -1,0 +1,42 @@
+// The bytes of an answer.
+ghost use Rattle.std.specs.Prelude.{◌≡◌, ◌++◌, IfOk, OnOk};
+ghost use Rattle.mk_session.specs.Answers.{hits_text, hit_line, numbers_text};
+
+use mk_text::{Memory, Numbers, put_number};
+use std::alloc::Global;
+
+/// The answer that lists these hits, of which at most so many are listed.
+#[tactic(auto, unfolding(crate::specs::Answers::hits_text))]
+pub fn hits_answer(alloc: Global, hits: &[Numbers], most: usize) -> Result<Vec<u8>, Memory>
+    ensures { IfOk result (λ answer. answer.items ≡ hits_text hits.now most) }
+{
+    let mut answer = Vec::new(alloc);
+    for hit in hits {
+        put_hit(alloc, &mut answer, hit.as_slice())?;
+    }
+    if hits.len() < most {
+        answer.extend_from_slice(b"end\n")?;
+    } else {
+        answer.extend_from_slice(b"more 0\n")?;
+    }
+    Ok(answer)
+}
+
+fn put_hit(alloc: Global, answer: &mut Vec<u8>, atoms: &[u32]) -> Result<(), Memory>
+    ensures { OnOk result (answer.new.items ≡ answer.old.items ++ hit_line atoms.now) }
+{
+    answer.extend_from_slice(b"hit 1 choice map")?;
+    put_numbers(alloc, answer, atoms)?;
+    answer.extend_from_slice(b"\n")
+}
+
+// Each number after a blank.
+fn put_numbers(alloc: Global, answer: &mut Vec<u8>, numbers: &[u32]) -> Result<(), Memory>
+    ensures { OnOk result (answer.new.items ≡ answer.old.items ++ numbers_text numbers.now) }
+{
+    for number in numbers {
+        answer.push(b' ')?;
+        put_number(alloc, answer, u64::from(*number))?;
+    }
+    Ok(())
+}
