@@ -6,16 +6,18 @@ use Rattle.std.proofs.lemmas.List.Sums.{sum_by-append}
 use Rattle.std.proofs.lemmas.Bool.{leb-true, ltb-true}
 use Rattle.std.proofs.lemmas.Bool.Decides.{nat_tests}
 use Rattle.std.proofs.lemmas.List.{append-nil}
+use Rattle.mk_text.proofs.TestLemmas.{both, neither, not_true}
 use Rattle.mk_ctab.specs.declared.plain_table.PlainBond.{PlainBond}
 use Rattle.mk_ctab.specs.declared.plain_table.PlainTable.{PlainTable}
 use Rattle.mk_ctab.specs.declared.plain_lines.PlainCounts.{PlainCounts}
 use Rattle.mk_ctab.specs.PlainLines.{counts_of, is_in_limits, natural_at, is_zero_at, is_version, word_of, bond_of, joins}
 use Rattle.mk_ctab.specs.PlainFile.{IsPlainFile, EachMayFollow, may_follow, is_same_pair, degree}
 use Rattle.mk_ctab.specs.PlainFacts.{IsBetween, HasNoPairTwice, IsPlainTable}
-use Rattle.mk_ctab.proofs.PlainLemmas.{bind_some, guard_some, chosen_some, both}
+use Rattle.mk_ctab.proofs.PlainLemmas.{bind_some, guard_some, chosen_some}
 
 -- ---- the limits
 
+-- the numbers that a counts line gives were tested
 counts_chosen : (query : Bool) (atoms bonds : ℕ) (c : PlainCounts) → cond (is_in_limits query atoms bonds) (Some (record { atoms = atoms; bonds = bonds })) None ≡ Some c → is_in_limits query c.atoms c.bonds ≡ true
 counts_chosen query atoms bonds c some =
     let h = chosen_some (is_in_limits query atoms bonds) (Some (record { atoms = atoms; bonds = bonds })) c some in
@@ -40,6 +42,7 @@ record AreFew (query : Bool) (atoms bonds : ℕ) : Type 0 where
   few_bonds : bonds ≤ 999
   query_atoms : query ≡ true → (1 ≤ atoms) × (atoms ≤ 512)
 
+-- what the limits say of the two numbers
 few_by : (query : Bool) (atoms bonds : ℕ) → is_in_limits query atoms bonds ≡ true → AreFew query atoms bonds
 few_by true atoms bonds in_limits =
     let b = both (leb bonds 999) _ in_limits in
@@ -54,6 +57,7 @@ few_by false atoms bonds in_limits =
 
 -- ---- the ends
 
+-- what was tested of the ends
 joins_between : (atoms : ℕ) (bond : PlainBond) → joins atoms bond.first bond.second bond.kind ≡ true → IsBetween atoms bond
 joins_between atoms bond join =
     let ends = both (leb 1 bond.first && leb bond.first atoms) _ join in
@@ -69,6 +73,7 @@ joins_between atoms bond join =
       distinct = λ same. (let t = apart.0 in absurd (grind (arith, nat_tests)));
     }
 
+-- the bond that a bond line gives was tested
 bond_chosen : (atoms first second kind : ℕ) (bond : PlainBond) → cond (joins atoms first second kind) (Some (record { first = first; second = second; kind = kind })) None ≡ Some bond → joins atoms bond.first bond.second bond.kind ≡ true
 bond_chosen atoms first second kind bond some =
     let h = chosen_some (joins atoms first second kind) (Some (record { first = first; second = second; kind = kind })) bond some in
@@ -86,10 +91,12 @@ bond_between atoms line bond some =
     let kind = bind_some (natural_at line 7 9) (λ (kind : ℕ). cond (joins atoms first.0 second.0 kind) (Some (record { first = first.0; second = second.0; kind = kind })) None) bond second.2 in
     joins_between atoms bond (bond_chosen atoms first.0 second.0 kind.0 bond kind.2)
 
+-- one more at the front
 all_first : (atoms : ℕ) (bond : PlainBond) (bonds : List PlainBond) → IsBetween atoms bond → All (IsBetween atoms) bonds → All (IsBetween atoms) (bond ∷ bonds)
 all_first atoms bond bonds here there zero d lt = here
 all_first atoms bond bonds here there (suc k) d lt = there k d (omega arith)
 
+-- so do the bonds of all bond lines
 all_between : (atoms : ℕ) (lines : List (List ℕ)) (bonds : List PlainBond) → AllZip (λ line bond. bond_of atoms line ≡ Some bond) lines bonds → All (IsBetween atoms) bonds
 all_between atoms [] [] each = λ k d lt. absurd (omega arith)
 all_between atoms [] (bond ∷ bonds) each = elim each [ ]
@@ -98,11 +105,7 @@ all_between atoms (line ∷ lines) (bond ∷ bonds) each = all_first atoms bond 
 
 -- ---- pairs
 
--- neither of two tests
-neither : (a b : Bool) → (a || b) ≡ false → (a ≡ false) × (b ≡ false)
-neither true b fails = absurd cc
-neither false b fails = (refl, fails)
-
+-- one more that differs from the first
 apart_push : (bonds : List PlainBond) (bond other : PlainBond) → AllByRecursion (λ o. is_same_pair other o ≡ false) bonds → is_same_pair other bond ≡ false → AllByRecursion (λ o. is_same_pair other o ≡ false) (bonds ++ bond ∷ [])
 apart_push [] bond other each apart = (apart, tt)
 apart_push (b ∷ bonds) bond other each apart = (each.0, apart_push bonds bond other each.1 apart)
@@ -114,10 +117,7 @@ pairs_push (other ∷ bonds) bond unlike new =
     let apart = neither (is_same_pair other bond) (list_any (λ o. is_same_pair o bond) bonds) new in
     (apart_push bonds bond other unlike.0 apart.0, pairs_push bonds bond unlike.1 apart.1)
 
-not_true : (b : Bool) → not b ≡ true → b ≡ false
-not_true true h = absurd cc
-not_true false h = refl
-
+-- bonds that may follow one another leave no pair twice
 pairs_kept : (earlier bonds : List PlainBond) → HasNoPairTwice earlier → EachMayFollow earlier bonds → HasNoPairTwice (earlier ++ bonds)
 pairs_kept earlier [] none follow = rw (append-nil earlier) none
 pairs_kept earlier (bond ∷ bonds) none follow =
@@ -146,12 +146,14 @@ degree_kept_by earlier bond atom false true e g room_first room_second few =
     omega arith
 degree_kept_by earlier bond atom false false e g room_first room_second few = omega arith
 
+-- a bond that may follow leaves no atom with more than 20
 degrees_push : (earlier : List PlainBond) (bond : PlainBond) → may_follow earlier bond ≡ true → ((atom : ℕ) → degree earlier atom ≤ 20) → (atom : ℕ) → degree (earlier ++ bond ∷ []) atom ≤ 20
 degrees_push earlier bond follows few atom =
     let rooms = both (not (list_any (λ other. is_same_pair other bond) earlier)) _ follows in
     let each = both (ltb (degree earlier bond.first) 20) (ltb (degree earlier bond.second) 20) rooms.1 in
     rw (degree_push earlier bond atom) (degree_kept_by earlier bond atom _ _ refl refl (ltb-true _ _ each.0) (ltb-true _ _ each.1) (few atom))
 
+-- nor do bonds that may follow one another
 degrees_kept : (earlier bonds : List PlainBond) → ((atom : ℕ) → degree earlier atom ≤ 20) → EachMayFollow earlier bonds → (atom : ℕ) → degree (earlier ++ bonds) atom ≤ 20
 degrees_kept earlier [] few follow atom = rw (append-nil earlier) (few atom)
 degrees_kept earlier (bond ∷ bonds) few follow atom =
@@ -160,6 +162,7 @@ degrees_kept earlier (bond ∷ bonds) few follow atom =
 
 -- ---- the whole
 
+-- the table of a plain file keeps all of it
 pub keeps : (query : Bool) (lines : List (List ℕ)) (table : PlainTable) → IsPlainFile query lines table → IsPlainTable query table
 keeps query lines table file =
     let few = few_by query (length table.elements) (length table.bonds) (counts_in_limits query file.counts_line _ file.counted) in

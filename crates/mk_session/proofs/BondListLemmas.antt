@@ -11,6 +11,7 @@ use Rattle.mk_session.specs.BondLists.{bonds_of, bond_lists, has_end}
 
 -- ---- the lists
 
+-- one number more
 pub range_push : (a n : ℕ) → range_with_len a (suc n) ≡ range_with_len a n ++ (a + n) ∷ []
 range_push a zero = let same : a + 0 ≡ a = omega arith in rw same refl
 range_push a (suc n) = let same : a + 1 + n ≡ a + suc n = omega arith in rw (range_push (a + 1) n, same) refl
@@ -59,16 +60,20 @@ pub record IsHalfBetween (atoms atom : ℕ) (half : HalfBond) : Type 0 where
   pub within : half.to ≤ atoms
   pub other : half.to ≡ atom → ⊥
 
+-- one more at the front
 pub all_cons : {X : Type 0} (P : X → Type 0) (x : X) (xs : List X) → P x → All P xs → All P (x ∷ xs)
 all_cons P x xs here there zero d lt = here
 all_cons P x xs here there (suc k) d lt = there k d (omega arith)
 
+-- of the first
 pub all_head : {X : Type 0} (P : X → Type 0) (x : X) (xs : List X) → All P (x ∷ xs) → P x
 all_head P x xs all = all 0 x (omega arith)
 
+-- of the others
 pub all_tail : {X : Type 0} (P : X → Type 0) (x : X) (xs : List X) → All P (x ∷ xs) → All P xs
 all_tail P x xs all = λ k d lt. all (suc k) d (omega arith)
 
+-- one bond more, by its ends
 halves_by : (atoms atom : ℕ) (bond : PlainBond) (bonds : List PlainBond) (first second : Bool) → eqb bond.first atom ≡ first → eqb bond.second atom ≡ second → IsBetween atoms bond → All (IsHalfBetween atoms atom) (bonds_of bonds atom) → All (IsHalfBetween atoms atom) (bonds_of (bond ∷ bonds) atom)
 halves_by atoms atom bond bonds true second e g ends there =
     let is : bond.first ≡ atom = grind (arith, nat_tests) in
@@ -86,6 +91,7 @@ halves_between atoms atom [] ends = λ k d lt. absurd (omega arith)
 halves_between atoms atom (bond ∷ bonds) ends =
     halves_by atoms atom bond bonds _ _ refl refl (all_head (IsBetween atoms) bond bonds ends) (halves_between atoms atom bonds (all_tail (IsBetween atoms) bond bonds ends))
 
+-- one half bond more, by its end
 has_end_by : (atoms : ℕ) (half : HalfBond) (halves : List HalfBond) (n : ℕ) (b : Bool) → eqb half.to n ≡ b → half.to ≤ atoms → (has_end halves n ≡ true → n ≤ atoms) → (b || has_end halves n) ≡ true → n ≤ atoms
 has_end_by atoms half halves n true e here there ends = (let is : half.to ≡ n = grind (arith, nat_tests) in omega arith)
 has_end_by atoms half halves n false e here there ends = there ends
@@ -101,5 +107,6 @@ has_end-within atoms (half ∷ halves) n within ends =
 pub ends_from_first : (atoms atom : ℕ) (halves : List HalfBond) → All (IsHalfBetween atoms atom) halves → All (λ half. 1 ≤ half.to) halves
 ends_from_first atoms atom halves all = λ k d lt. (all k d lt).from_first
 
+-- each is within
 pub ends_within : (atoms atom : ℕ) (halves : List HalfBond) → All (IsHalfBetween atoms atom) halves → All (λ half. half.to ≤ atoms) halves
 ends_within atoms atom halves all = λ k d lt. (all k d lt).within

@@ -6,6 +6,7 @@ use Rattle.std.specs.Prelude.{nat_eq, slice_index}
 use Rattle.std.proofs.lemmas.Bool.{ne_eqb}
 use Rattle.std.proofs.lemmas.Bool.Decides.{nat_tests}
 use Rattle.std.proofs.lemmas.List.Kept.{AllPairs-cons}
+use Rattle.mk_text.proofs.TestLemmas.{both, and_true, not_true, neither, or_left, or_right}
 use Rattle.mk_ctab.specs.declared.plain_table.PlainBond.{PlainBond}
 use Rattle.mk_ctab.specs.declared.plain_table.PlainTable.{PlainTable}
 use Rattle.mk_text.specs.Choices.{IsPassed}
@@ -15,21 +16,6 @@ use Rattle.mk_session.specs.Search.{are_distinct, is_joined, elements_fit, bonds
 use Rattle.mk_session.proofs.BondListLemmas.{all_cons, all_head, all_tail}
 
 -- ---- tests on lists
-
-both : (a b : Bool) → (a && b) ≡ true → (a ≡ true) × (b ≡ true)
-both true b h = (refl, h)
-both false b h = absurd cc
-
-and_true : (a b : Bool) → a ≡ true → b ≡ true → (a && b) ≡ true
-and_true a b h g = rw (h, g) refl
-
-not_true : (b : Bool) → not b ≡ true → b ≡ false
-not_true true h = absurd cc
-not_true false h = refl
-
-neither : (a b : Bool) → (a || b) ≡ false → (a ≡ false) × (b ≡ false)
-neither true b h = absurd cc
-neither false b h = (refl, h)
 
 module _ {X : Type 0} (p : X → Bool) where
   -- an element that passes
@@ -47,13 +33,6 @@ module _ {X : Type 0} (p : X → Bool) where
   any_found : (xs : List X) → list_any p xs ≡ true → IsFound xs
   any_found [] any = absurd cc
   any_found (y ∷ xs) any = found_by y xs (p y) refl any (any_found xs)
-
-  or_left : (a b : Bool) → a ≡ true → (a || b) ≡ true
-  or_left a b h = rw h refl
-
-  or_right : (a b : Bool) → b ≡ true → (a || b) ≡ true
-  or_right true b h = refl
-  or_right false b h = h
 
   any_given : (xs : List X) (x : X) (k : ℕ) → k < length xs → get_or xs k x ≡ x → p x ≡ true → list_any p xs ≡ true
   any_given [] x k within at passes = absurd (omega arith)
@@ -73,32 +52,38 @@ pub all_places : {X : Type 0} (P : X → Type 0) (xs : List X) → AllByRecursio
 all_places P [] each = λ k d lt. absurd (omega arith)
 all_places P (x ∷ xs) each = all_cons P x xs each.0 (all_places P xs each.1)
 
+-- and the other way round
 pub all_recursion : {X : Type 0} (P : X → Type 0) (xs : List X) → All P xs → AllByRecursion P xs
 all_recursion P [] all = tt
 all_recursion P (x ∷ xs) all = (all_head P x xs all, all_recursion P xs (all_tail P x xs all))
 
 -- ---- no atom twice
 
+-- none of the others is the first
 others_differ : (a : ℕ) (others : List ℕ) → list_any (λ b. eqb b a) others ≡ false → All (λ b. a ≢ b) others
 others_differ a [] none = λ k d lt. absurd (omega arith)
 others_differ a (b ∷ others) none =
     let h = neither (eqb b a) (list_any (λ b. eqb b a) others) none in
     all_cons (λ (c : ℕ). a ≢ c) b others (λ same. (let e = h.0 in absurd (grind (arith, nat_tests)))) (others_differ a others h.1)
 
+-- the test for distinct atoms says that they are
 distinct_found : (hit : List ℕ) → are_distinct hit ≡ true → AllPairs (λ a b. a ≢ b) hit
 distinct_found [] distinct = λ i j d order within. absurd (omega arith)
 distinct_found (a ∷ others) distinct =
     let h = both (not (list_any (λ b. eqb b a) others)) (are_distinct others) distinct in
     AllPairs-cons (λ (x y : ℕ). x ≢ y) a others (others_differ a others (not_true _ h.0)) (distinct_found others h.1)
 
+-- others that differ from the first
 none_equal : (a : ℕ) (others : List ℕ) → All (λ b. a ≢ b) others → list_any (λ b. eqb b a) others ≡ false
 none_equal a [] differ = refl
 none_equal a (b ∷ others) differ =
     rw (ne_eqb b a (λ same. all_head (λ (c : ℕ). a ≢ c) b others differ (sym same))) (none_equal a others (all_tail (λ (c : ℕ). a ≢ c) b others differ))
 
+-- the first differs from all others
 first_differs : (a : ℕ) (others : List ℕ) → AllPairs (λ a b. a ≢ b) (a ∷ others) → All (λ b. a ≢ b) others
 first_differs a others pairs = λ k d within. pairs 0 (suc k) d (omega arith) (omega arith)
 
+-- distinct atoms pass the test
 distinct_given : (hit : List ℕ) → AllPairs (λ a b. a ≢ b) hit → are_distinct hit ≡ true
 distinct_given [] pairs = refl
 distinct_given (a ∷ others) pairs =
@@ -107,6 +92,7 @@ distinct_given (a ∷ others) pairs =
 
 -- ---- elements
 
+-- the test of the elements says that each is equal
 elements_found : (m hit es : List ℕ) → pointwise nat_eq (map (λ a. slice_index m (a - 1)) hit) es ≡ true → (k : ℕ) → k < length es → slice_index m (get_or hit k 0 - 1) ≡ get_or es k 0
 elements_found m [] [] same k within = absurd (omega arith)
 elements_found m [] (e ∷ es) same k within = absurd cc
@@ -116,9 +102,11 @@ elements_found m (a ∷ hit) (e ∷ es) same (suc k) within =
     let h = both (nat_eq (slice_index m (a - 1)) e) (pointwise nat_eq (map (λ a. slice_index m (a - 1)) hit) es) same in
     elements_found m hit es h.1 k (omega arith)
 
+-- equal numbers pass the test
 eqb_same : (a b : ℕ) → a ≡ b → eqb a b ≡ true
 eqb_same a b same = grind (arith, nat_tests)
 
+-- equal elements pass the test
 elements_given : (m hit es : List ℕ) → length hit ≡ length es → ((k : ℕ) → k < length es → slice_index m (get_or hit k 0 - 1) ≡ get_or es k 0) → pointwise nat_eq (map (λ a. slice_index m (a - 1)) hit) es ≡ true
 elements_given m [] [] one_each each = refl
 elements_given m [] (e ∷ es) one_each each = absurd (omega arith)
@@ -128,29 +116,34 @@ elements_given m (a ∷ hit) (e ∷ es) one_each each =
 
 -- ---- bonds
 
+-- numbers that pass the test are equal
 eqb_is : (a b : ℕ) → eqb a b ≡ true → a ≡ b
 eqb_is a b same = grind (arith, nat_tests)
 
+-- the two orders of the ends
 ends_by : (o : PlainBond) (a b : ℕ) (straight : Bool) → (eqb o.first a && eqb o.second b) ≡ straight → (straight || (eqb o.first b && eqb o.second a)) ≡ true → AreEnds o a b
 ends_by o a b true e h = (let g = both (eqb o.first a) (eqb o.second b) e in inl (eqb_is _ _ g.0, eqb_is _ _ g.1))
 ends_by o a b false e h = (let g = both (eqb o.first b) (eqb o.second a) h in inr (eqb_is _ _ g.0, eqb_is _ _ g.1))
 
+-- the test for a bond finds it
 joined_found : (bonds : List PlainBond) (kind a b : ℕ) → is_joined bonds kind a b ≡ true → AreJoined bonds kind a b
 joined_found bonds kind a b joined =
     let f = any_found (λ (o : PlainBond). eqb o.kind kind && ((eqb o.first a && eqb o.second b) || (eqb o.first b && eqb o.second a))) bonds joined in
     let h = both (eqb f.x.kind kind) _ f.passes in
     record { bond = f.x; drawn = f.at; same_kind = eqb_is _ _ h.0; ends = ends_by f.x a b _ refl h.1 }
 
+-- a bond is found by the test
 joined_given : (bonds : List PlainBond) (kind a b : ℕ) → AreJoined bonds kind a b → is_joined bonds kind a b ≡ true
 joined_given bonds kind a b j =
     any_given (λ (o : PlainBond). eqb o.kind kind && ((eqb o.first a && eqb o.second b) || (eqb o.first b && eqb o.second a))) bonds j.bond j.drawn.0 j.drawn.1 j.drawn.2
     (and_true _ _ (eqb_same _ _ j.same_kind) (elim j.ends [
-      | inl h ↦ or_left {X = ℕ} (λ _. true) _ _ (and_true _ _ (eqb_same _ _ h.0) (eqb_same _ _ h.1))
-      | inr h ↦ or_right {X = ℕ} (λ _. true) _ _ (and_true _ _ (eqb_same _ _ h.0) (eqb_same _ _ h.1))
+      | inl h ↦ or_left _ _ (and_true _ _ (eqb_same _ _ h.0) (eqb_same _ _ h.1))
+      | inr h ↦ or_right _ _ (and_true _ _ (eqb_same _ _ h.0) (eqb_same _ _ h.1))
     ]))
 
 -- ---- the hit
 
+-- what passes the tests is a hit
 pub hit_found : (q m : PlainTable) (hit : List ℕ) → IsPassed (length m.elements) (length q.elements) (is_hit q m) hit → IsHit q m hit
 unfolding is_hit
 hit_found q m hit passed =
@@ -165,6 +158,7 @@ hit_found q m hit passed =
       bonds = λ k d within. joined_found m.bonds _ _ _ (joined k d within);
     }
 
+-- a hit passes the tests
 pub hit_given : (q m : PlainTable) (hit : List ℕ) → IsHit q m hit → IsPassed (length m.elements) (length q.elements) (is_hit q m) hit
 unfolding is_hit
 hit_given q m hit h =
@@ -178,6 +172,7 @@ hit_given q m hit h =
           (all_given (λ (b : PlainBond). is_joined m.bonds b.kind (image hit b.first) (image hit b.second)) q.bonds (λ k d within. joined_given m.bonds _ _ _ (h.bonds k d within))));
     }
 
+-- the plain program gives the rising list of all hits
 pub law : HitsAreListed
 unfolding hits_of
 law q m =

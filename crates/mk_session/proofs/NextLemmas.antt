@@ -17,9 +17,11 @@ use Rattle.mk_session.proofs.BondListLemmas.{all_head, all_tail}
 
 -- ---- tests joined
 
+-- part by part
 split_or : (p q : Bool) → p ≡ q → (r s : Bool) → r ≡ s → (p || r) ≡ (q || s)
 split_or p q e r s g = rw (e, g) refl
 
+-- the first end is the atom
 half_first : (p q r : Bool) → (p && q) ≡ (q && ((true && p) || (r && false)))
 half_first true true true = refl
 half_first true true false = refl
@@ -30,12 +32,14 @@ half_first false true false = refl
 half_first false false true = refl
 half_first false false false = refl
 
+-- the second end is
 half_second : (p q r : Bool) → (r && q) ≡ (q && ((false && p) || (r && true)))
 half_second p true true = refl
 half_second p true false = refl
 half_second p false true = refl
 half_second p false false = refl
 
+-- neither end is
 half_neither : (p q r : Bool) → (q && ((false && p) || (r && false))) ≡ false
 half_neither p true true = refl
 half_neither p true false = refl
@@ -44,6 +48,7 @@ half_neither p false false = refl
 
 -- ---- bonds of the molecule
 
+-- one bond more, by its ends
 half_by : (bond : PlainBond) (bonds : List PlainBond) (kind a b : ℕ) (first second : Bool) → eqb bond.first a ≡ first → eqb bond.second a ≡ second → (bond.first ≡ bond.second → ⊥) → has_half (bonds_of bonds a) b kind ≡ is_joined bonds kind a b → has_half (bonds_of (bond ∷ bonds) a) b kind ≡ is_joined (bond ∷ bonds) kind a b
 half_by bond bonds kind a b true true e g apart there =
     let one : bond.first ≡ a = grind (arith, nat_tests) in
@@ -62,6 +67,7 @@ half_is_joined n [] kind a b ends = refl
 half_is_joined n (bond ∷ bonds) kind a b ends =
     half_by bond bonds kind a b _ _ refl refl (all_head (IsBetween n) bond bonds ends).distinct (half_is_joined n bonds kind a b (all_tail (IsBetween n) bond bonds ends))
 
+-- the two orders of the ends
 swapped : (p q r s k : Bool) → (k && ((p && q) || (r && s))) ≡ (k && ((r && s) || (p && q)))
 swapped p q r s false = refl
 swapped true true true true true = refl
@@ -86,6 +92,7 @@ joined_back (o ∷ bonds) kind a b =
 image_before : (f : List ℕ) (c x : ℕ) → 1 ≤ x → x ≤ length f → image (f ++ c ∷ []) x ≡ image f x
 image_before f c x from_first within = get_or_append_left f (c ∷ []) 0 (x - 1) (omega arith)
 
+-- and of the next one
 image_next : (f : List ℕ) (c x : ℕ) → x ≡ length f + 1 → image (f ++ c ∷ []) x ≡ c
 image_next f c x next = get_or_at f c [] 0 (x - 1) (omega arith)
 
@@ -97,10 +104,12 @@ both_within b ms g first second = rw (le-leb _ _ first, le-leb _ _ second) refl
 first_behind : (b : PlainBond) (ms : List PlainBond) (g : List ℕ) → length g < b.first → bond_so_far b ms g ≡ true
 first_behind b ms g behind = rw (lt-leb _ _ behind) refl
 
+-- a test that holds in the middle
 or_true : (p q : Bool) → ((p || true) || q) ≡ true
 or_true true q = refl
 or_true false q = refl
 
+-- nor is one whose second end has none
 second_behind : (b : PlainBond) (ms : List PlainBond) (g : List ℕ) → length g < b.second → bond_so_far b ms g ≡ true
 second_behind b ms g behind = rw (lt-leb _ _ behind) (or_true _ _)
 
@@ -108,6 +117,7 @@ second_behind b ms g behind = rw (lt-leb _ _ behind) (or_true _ _)
 half_within : (n : ℕ) (m : PlainTable) (f : List ℕ) (c : ℕ) (half : HalfBond) → All (IsBetween n) m.bonds → half.to ≤ length f → half_met m f c half ≡ is_joined m.bonds half.kind (image f half.to) c
 half_within n m f c half ends within = rw (le-leb _ _ within) (half_is_joined n m.bonds half.kind (image f half.to) c ends)
 
+-- and one whose end has no image isn't
 half_behind : (m : PlainTable) (f : List ℕ) (c : ℕ) (half : HalfBond) → length f < half.to → half_met m f c half ≡ true
 half_behind m f c half behind = rw (lt-leb _ _ behind) refl
 
@@ -126,6 +136,7 @@ next_first n k m f c b ends between is =
           ∙ sym (half_within n m f c (record { to = b.second; kind = b.kind }) ends within)
     ]
 
+-- the same where the next atom is the second end
 next_second : (n k : ℕ) (m : PlainTable) (f : List ℕ) (c : ℕ) (b : PlainBond) → All (IsBetween n) m.bonds → IsBetween k b → b.second ≡ length f + 1 → bond_so_far b m.bonds (f ++ c ∷ []) ≡ half_met m f c (record { to = b.first; kind = b.kind })
 next_second n k m f c b ends between is =
     elim (cases_lt (length f) b.first) [
@@ -162,18 +173,22 @@ other_bond k m f c b between not_first not_second =
 next_unseen_first : (m : PlainTable) (f : List ℕ) (b : PlainBond) → b.first ≡ length f + 1 → bond_so_far b m.bonds f ≡ true
 next_unseen_first m f b is = first_behind b m.bonds f (omega arith)
 
+-- the same where the next atom is the second end
 next_unseen_second : (m : PlainTable) (f : List ℕ) (b : PlainBond) → b.second ≡ length f + 1 → bond_so_far b m.bonds f ≡ true
 next_unseen_second m f b is = second_behind b m.bonds f (omega arith)
 
+-- tests in another order
 and_moved : (p q r : Bool) → (p && (q && r)) ≡ ((true && q) && (p && r))
 and_moved true q r = refl
 and_moved false true r = refl
 and_moved false false r = refl
 
+-- tests in other groups
 and_grouped : (p q r : Bool) → (p && (q && r)) ≡ ((p && q) && r)
 and_grouped true q r = refl
 and_grouped false q r = refl
 
+-- one bond more, by its ends
 bonds_by : (n k : ℕ) (m : PlainTable) (f : List ℕ) (c : ℕ) (b : PlainBond) (bs : List PlainBond) (first second : Bool) → eqb b.first (length f + 1) ≡ first → eqb b.second (length f + 1) ≡ second → All (IsBetween n) m.bonds → IsBetween k b
     → bonds_so_far bs m.bonds (f ++ c ∷ []) ≡ (bonds_so_far bs m.bonds f && list_all (half_met m f c) (bonds_of bs (length f + 1)))
     → bonds_so_far (b ∷ bs) m.bonds (f ++ c ∷ []) ≡ (bonds_so_far (b ∷ bs) m.bonds f && list_all (half_met m f c) (bonds_of (b ∷ bs) (length f + 1)))
@@ -196,6 +211,7 @@ bonds_push n k m f c (b ∷ bs) ends between =
 
 -- ---- atoms
 
+-- tests in another order
 distinct_moved : (a d e c : Bool) → (not (a || (e || false)) && (d && not c)) ≡ ((not a && d) && not (e || c))
 distinct_moved true d e c = refl
 distinct_moved false true true c = refl
@@ -203,6 +219,7 @@ distinct_moved false true false c = refl
 distinct_moved false false true c = refl
 distinct_moved false false false c = refl
 
+-- numbers are compared in either order
 eqb_back : (a b : ℕ) → eqb a b ≡ eqb b a
 eqb_back a b = elim (cases_eq a b) [
   | inl same ↦ ap (λ (x : ℕ). eqb x b) same ∙ ap (λ (x : ℕ). eqb b x) (sym same)
@@ -230,6 +247,7 @@ elements_push (e ∷ q) m (a ∷ f) c short =
 
 -- ---- the whole
 
+-- three tests and three more
 three : (d e b d' e' b' : Bool) → (d && (e && b)) ≡ true → ((d && d') && ((e && e') && (b && b'))) ≡ (e' && (d' && b'))
 three true true true true true b' all = refl
 three true true true true false b' all = refl
@@ -248,6 +266,7 @@ fits_push n k q m f c ends between short fits =
 
 -- ---- candidates
 
+-- one half bond more, by its end
 half_by_end : (p q r s : Bool) → (p || s) ≡ false → (s ≡ false → r ≡ false) → ((p && q) || r) ≡ false
 half_by_end true q r s ends there = absurd cc
 half_by_end false q r s ends there = there ends
@@ -267,6 +286,7 @@ not_all p (y ∷ xs) x (suc k) within at fails = rw (not_all p xs x k (omega ari
     and_false true = refl
     and_false false = refl
 
+-- the last of three tests fails
 both_false : (p q r : Bool) → r ≡ false → (p && (q && r)) ≡ false
 both_false true true r fails = fails
 both_false true false r fails = refl

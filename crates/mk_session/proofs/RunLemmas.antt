@@ -5,6 +5,7 @@ use Rattle.std.specs.Option.{option_and_then, option_map}
 use Rattle.std.proofs.lemmas.Bool.{lt-ltb, ltb-true, ltb-false, le-ltb}
 use Rattle.std.proofs.lemmas.Bool.Decides.{nat_tests}
 use Rattle.std.proofs.lemmas.Slice.Eq.{bytes_eq-Decides}
+use Rattle.mk_text.proofs.TestLemmas.{both}
 use Rattle.mk_text.specs.Lines.{lines_of}
 use Rattle.mk_ctab.specs.declared.plain_table.PlainTable.{PlainTable}
 use Rattle.mk_ctab.specs.PlainFile.{IsPlainFile}
@@ -30,14 +31,17 @@ Says query most bytes TooLong = most < length bytes
 Says query most bytes Unbuilt = (length bytes ≤ most) × ((table : PlainTable) → IsPlainFile query (lines_of bytes) table → ⊥)
 Says query most bytes (Plain table) = (length bytes ≤ most) × IsPlainFile query (lines_of bytes) table
 
+-- a file within its limit
 judged_says : (query : Bool) (most : ℕ) (bytes : List ℕ) (o : Option PlainTable) → table_of query (lines_of bytes) ≡ o → length bytes ≤ most → Says query most bytes (judged o)
 judged_says query most bytes None read short = (short, λ table file. (let some = plain_given query (lines_of bytes) table file in cc))
 judged_says query most bytes (Some table) read short = (short, plain_found query (lines_of bytes) table read)
 
+-- by whether it is too long
 judgment_by : (query : Bool) (most : ℕ) (bytes : List ℕ) (long : Bool) → ltb most (length bytes) ≡ long → Says query most bytes (cond long TooLong (judged (table_of query (lines_of bytes))))
 judgment_by query most bytes true e = ltb-true _ _ e
 judgment_by query most bytes false e = judged_says query most bytes (table_of query (lines_of bytes)) refl (ltb-false _ _ e)
 
+-- a judgment says what it is for
 judgment_says : (query : Bool) (most : ℕ) (bytes : List ℕ) → Says query most bytes (judgment_of query most bytes)
 unfolding judgment_of
 judgment_says query most bytes = judgment_by query most bytes _ refl
@@ -47,23 +51,22 @@ too_long_judged : (query : Bool) (most : ℕ) (bytes : List ℕ) → most < leng
 unfolding judgment_of
 too_long_judged query most bytes long = rw (lt-ltb _ _ long) refl
 
+-- where there is no plain file nothing is read
 nothing_read : (query : Bool) (lines : List (List ℕ)) (o : Option PlainTable) → table_of query lines ≡ o → ((table : PlainTable) → IsPlainFile query lines table → ⊥) → o ≡ None
 nothing_read query lines None read unbuilt = refl
 nothing_read query lines (Some table) read unbuilt = absurd (unbuilt table (plain_found query lines table read))
 
+-- a file that is no plain file is judged so
 unbuilt_judged : (query : Bool) (most : ℕ) (bytes : List ℕ) → length bytes ≤ most → ((table : PlainTable) → IsPlainFile query (lines_of bytes) table → ⊥) → judgment_of query most bytes ≡ Unbuilt
 unfolding judgment_of
 unbuilt_judged query most bytes short unbuilt = rw (le-ltb _ _ short, nothing_read query (lines_of bytes) (table_of query (lines_of bytes)) refl unbuilt) refl
 
+-- and a plain file so
 plain_judged : (query : Bool) (most : ℕ) (bytes : List ℕ) (table : PlainTable) → length bytes ≤ most → IsPlainFile query (lines_of bytes) table → judgment_of query most bytes ≡ Plain table
 unfolding judgment_of
 plain_judged query most bytes table short file = rw (le-ltb _ _ short, plain_given query (lines_of bytes) table file) refl
 
 -- ---- words
-
-both : (a b : Bool) → (a && b) ≡ true → (a ≡ true) × (b ≡ true)
-both true b h = (refl, h)
-both false b h = absurd cc
 
 -- three words, the first of which is `match`
 words_are : (words : List (List ℕ)) → is_match words ≡ true → words ≡ match_words (word_at words 1) (word_at words 2)
@@ -81,18 +84,21 @@ words_are (a ∷ b ∷ c ∷ d ∷ words) is =
 not_match : (words : List (List ℕ)) → is_match words ≡ false → (query molecules : List ℕ) → words ≡ match_words query molecules → ⊥
 not_match words not query molecules is = (let never : true ≡ false = ap is_match (sym is) ∙ not in cc)
 
+-- where the words aren't `match` and two names the test fails
 match_by : (words : List (List ℕ)) (b : Bool) → is_match words ≡ b → ((query molecules : List ℕ) → words ≡ match_words query molecules → ⊥) → b ≡ false
 match_by words false is none = refl
 match_by words true is none = absurd (none (word_at words 1) (word_at words 2) (words_are words is))
 
 -- ---- what the computation finds
 
+-- the run once the molecules' file is judged
 molecules_found : (words : List (List ℕ)) (look : List ℕ → Option (List ℕ)) (query molecules : List ℕ) (wanted : PlainTable) (bytes : List ℕ) (j : Judgment) (o : Outcome) → words ≡ match_words query molecules → IsPlain true query_bytes look query wanted → look molecules ≡ Some bytes → Says false molecule_bytes bytes j → molecule_outcome wanted j ≡ o → IsRun words look o
 molecules_found words look query molecules wanted bytes TooLong o is plain there says e = MoleculesTooLong query molecules is wanted plain (record { bytes = bytes; found = there; long = says }) (sym e)
 molecules_found words look query molecules wanted bytes Unbuilt o is plain there says e = MoleculesUnbuilt query molecules is wanted plain (record { bytes = bytes; found = there; short = says.0; unbuilt = says.1 }) (sym e)
 molecules_found words look query molecules wanted bytes (Plain molecule) o is plain there says e =
     Listed query molecules is wanted plain molecule (record { bytes = bytes; found = there; short = says.0; plain = says.1 }) (hits_of wanted molecule) (hits_are wanted molecule) (sym e)
 
+-- the run once the query's file is judged
 query_found : (words : List (List ℕ)) (look : List ℕ → Option (List ℕ)) (query molecules bytes : List ℕ) (j : Judgment) (m : Option (List ℕ)) (o : Outcome) → words ≡ match_words query molecules → look query ≡ Some bytes → Says true query_bytes bytes j → look molecules ≡ m → query_outcome m j ≡ Some o → IsRun words look o
 query_found words look query molecules bytes TooLong m o is there says other e = QueryTooLong query molecules is (record { bytes = bytes; found = there; long = says }) cc
 query_found words look query molecules bytes Unbuilt m o is there says other e = QueryUnbuilt query molecules is (record { bytes = bytes; found = there; short = says.0; unbuilt = says.1 }) cc
@@ -100,6 +106,7 @@ query_found words look query molecules bytes (Plain wanted) None o is there says
 query_found words look query molecules bytes (Plain wanted) (Some others) o is there says other e =
     molecules_found words look query molecules wanted others (judgment_of false molecule_bytes others) o is (record { bytes = bytes; found = there; short = says.0; plain = says.1 }) other (judgment_says false molecule_bytes others) cc
 
+-- by whether the words are `match`
 found_by : (words : List (List ℕ)) (look : List ℕ → Option (List ℕ)) (o : Outcome) (b : Bool) → is_match words ≡ b
     → cond b (match_run look (word_at words 1) (word_at words 2)) (Some (record { bytes = codes "words not understood\n"; status = status.Words })) ≡ Some o → IsRun words look o
 unfolding match_run
@@ -108,16 +115,19 @@ found_by words look o true is e =
     let b = bind_some (look (word_at words 1)) (λ (bytes : List ℕ). query_outcome (look (word_at words 2)) (judgment_of true query_bytes bytes)) o e in
     query_found words look (word_at words 1) (word_at words 2) b.0 (judgment_of true query_bytes b.0) (look (word_at words 2)) o (words_are words is) b.1 (judgment_says true query_bytes b.0) refl b.2
 
+-- a computed outcome is the run's
 pub found : (words : List (List ℕ)) (look : List ℕ → Option (List ℕ)) (o : Outcome) → run_of words look ≡ Some o → IsRun words look o
 unfolding run_of
 found words look o e = found_by words look o _ refl e
 
 -- ---- what a run gives
 
+-- the computation once the query's file is judged
 given_match : (query molecules bytes : List ℕ) (look : List ℕ → Option (List ℕ)) (j : Judgment) → look query ≡ Some bytes → judgment_of true query_bytes bytes ≡ j → run_of (match_words query molecules) look ≡ query_outcome (look molecules) j
 unfolding run_of match_run
 given_match query molecules bytes look j there is = rw (there, is) refl
 
+-- and once both are
 given_plain : (query molecules bytes : List ℕ) (look : List ℕ → Option (List ℕ)) (wanted : PlainTable) (j : Judgment) → IsPlain true query_bytes look query wanted → look molecules ≡ Some bytes → judgment_of false molecule_bytes bytes ≡ j → run_of (match_words query molecules) look ≡ Some (molecule_outcome wanted j)
 given_plain query molecules bytes look wanted j plain there is =
     given_match query molecules plain.bytes look (Plain wanted) plain.found (plain_judged true query_bytes plain.bytes wanted plain.short plain.plain)
@@ -128,6 +138,7 @@ given_none : (words : List (List ℕ)) (look : List ℕ → Option (List ℕ)) �
 unfolding run_of
 given_none words look not = rw not refl
 
+-- the run's outcome is computed
 pub given : (words : List (List ℕ)) (look : List ℕ → Option (List ℕ)) (o : Outcome) → IsRun words look o → run_of words look ≡ Some o
 given words look o (NotUnderstood none e) = given_none words look (match_by words _ refl none) ∙ ap Some (sym e)
 given words look o (QueryTooLong query molecules is t e) =
@@ -143,6 +154,7 @@ given words look o (Listed query molecules is wanted plain molecule other hits a
     ap (λ (ws : List (List ℕ)). run_of ws look) is ∙ given_plain query molecules other.bytes look wanted (Plain molecule) plain other.found (plain_judged false molecule_bytes other.bytes molecule other.short other.plain)
     ∙ ap (λ (hs : List (List ℕ)). Some (record { bytes = hits_text (take 10000 hs) 10000; status = status.Done })) same ∙ ap Some (sym e)
 
+-- run and computation agree
 pub law : RunsAreComputed
 law words look o = (found words look o, given words look o)
 
@@ -154,6 +166,7 @@ answered TooLong others = (refused (codes "refused 4 query\n"), refl)
 answered Unbuilt others = (refused (codes "refused 12 unbuilt\n"), refl)
 answered (Plain wanted) others = (molecule_outcome wanted (judgment_of false molecule_bytes others), refl)
 
+-- by whether the words are `match`
 there_by : (words : List (List ℕ)) (look : List ℕ → Option (List ℕ)) (query molecules : Option (List ℕ)) (b : Bool) → is_match words ≡ b → look (word_at words 1) ≡ query → look (word_at words 2) ≡ molecules → IsSome query → IsSome molecules → (o : Outcome) × (run_of words look ≡ Some o)
 there_by words look query molecules false is first second q m = (record { bytes = codes "words not understood\n"; status = status.Words }, given_none words look is)
 there_by words look None molecules true is first second q m = absurd cc
@@ -164,6 +177,7 @@ there_by words look (Some bytes) (Some others) true is first second q m =
     let some = answered (judgment_of true query_bytes bytes) others in
     (some.0, run ∙ ap (λ (f : Option (List ℕ)). query_outcome f (judgment_of true query_bytes bytes)) second ∙ some.1)
 
+-- a run has an outcome where the files are there
 pub there : RunsWithTheirFiles
 there words look query molecules =
     let run = there_by words look (look (word_at words 1)) (look (word_at words 2)) _ refl refl refl query molecules in

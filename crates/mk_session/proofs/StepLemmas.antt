@@ -9,6 +9,7 @@ use Rattle.mk_session.specs.Search.{fits_next, hits_under, IsAnchor, is_candidat
 use Rattle.mk_session.proofs.SearchLemmas.{hits_under_none, none_fit}
 use Rattle.mk_session.proofs.NextLemmas.{fits_push, no_candidate}
 
+-- by whether there is an anchor
 no_candidate_by : (q m : PlainTable) (f : List ℕ) (anchor : Option ℕ) (a : ℕ) → IfSome anchor (IsAnchor q f) → is_candidate m anchor a ≡ false → fits_next q m f a ≡ false
 no_candidate_by q m f None a anchored none = absurd cc
 no_candidate_by q m f (Some anchor) a anchored none = no_candidate q m f anchor a anchored none

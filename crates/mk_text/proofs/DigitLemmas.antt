@@ -8,21 +8,21 @@ use Rattle.std.proofs.lemmas.Int.Digits.{digits_value-lt, digits_value_more}
 use Rattle.std.proofs.lemmas.Str.Parse.{digits_value-take-le}
 use Rattle.std.proofs.Math.Nat.{pow-le-pow_right}
 use Rattle.std.specs.Char.{is_ascii_digit}
+use Rattle.mk_text.proofs.TestLemmas.{both}
 
-and_split : (a b : Bool) → (a && b) ≡ true → (a ≡ true) × (b ≡ true)
-and_split true b h = (refl, h)
-and_split false b h = absurd cc
-
+-- a digit lies between 48 and 57
 pub is_digit_range : (b : ℕ) → is_ascii_digit b ≡ true → (48 ≤ b) × (b ≤ 57)
 is_digit_range b h = grind (arith, nat_tests)
 
+-- its value
 pub digit_is : (b : ℕ) → 48 ≤ b → b ≤ 57 → digit_value b ≡ b - 48
 digit_is b h k = grind (arith, nat_tests)
 
+-- each of some digits
 pub all_digits : (ds : List ℕ) → list_all is_ascii_digit ds ≡ true → AllDigits 10 ds
 all_digits [] h = tt
 all_digits (d ∷ ds) h =
-    let k = and_split (is_ascii_digit d) (list_all is_ascii_digit ds) h in
+    let k = both (is_ascii_digit d) (list_all is_ascii_digit ds) h in
     let r = is_digit_range d k.0 in
     (omega (arith, digit_is d r.0 r.1), all_digits ds k.1)
 
@@ -34,10 +34,11 @@ value_small ds i all le =
     let power : 10 ^ length ds ≤ 10 ^ 9 = pow-le-pow_right {n = 10} (omega arith) le in
     omega arith
 
+-- the digit at a place
 pub digit_at : (ds : List ℕ) (i : ℕ) → list_all is_ascii_digit ds ≡ true → i < length ds → (48 ≤ get_or ds i 0) × (get_or ds i 0 ≤ 57)
 digit_at [] i all lt = absurd (omega arith)
-digit_at (d ∷ ds) zero all lt = is_digit_range d (and_split (is_ascii_digit d) (list_all is_ascii_digit ds) all).0
-digit_at (d ∷ ds) (suc i) all lt = digit_at ds i (and_split (is_ascii_digit d) (list_all is_ascii_digit ds) all).1 (omega arith)
+digit_at (d ∷ ds) zero all lt = is_digit_range d (both (is_ascii_digit d) (list_all is_ascii_digit ds) all).0
+digit_at (d ∷ ds) (suc i) all lt = digit_at ds i (both (is_ascii_digit d) (list_all is_ascii_digit ds) all).1 (omega arith)
 
 -- one digit more
 pub value_more : (ds : List ℕ) (i n : ℕ) → list_all is_ascii_digit ds ≡ true → i < length ds → n ≡ digits_value 10 (take i ds) → digits_value 10 (take (i + 1) ds) ≡ n * 10 + (get_or ds i 0 - 48)

@@ -32,20 +32,24 @@ record AreSigned (cells : List ℕ) (z : ℤ) : Type 0 where
   digits : AreDigits ds n
   value : z ≡ signed sign n
 
+-- where a mapped value is there, a value was
 mapped : {A B : Type 0} (f : A → B) (o : Option A) (y : B) → option_map f o ≡ Some y → (x : A) × (o ≡ Some x) × (y ≡ f x)
 mapped f None y found = absurd cc
 mapped f (Some x) y found = (x, refl, cc)
 
+-- by the three tests of digits
 digits_by : (ds : List ℕ) (n : ℕ) (some few all : Bool) → leb 1 (length ds) ≡ some → leb (length ds) 9 ≡ few → list_all is_ascii_digit ds ≡ all → cond (some && (few && all)) (Some (digits_value 10 ds)) None ≡ Some n → AreDigits ds n
 digits_by ds n true true true a b d found = record { some = leb-true _ _ a; few = leb-true _ _ b; digits = d; value = cc }
 digits_by ds n true true false a b d found = absurd cc
 digits_by ds n true false all a b d found = absurd cc
 digits_by ds n false few all a b d found = absurd cc
 
+-- the number that is found is that of digits
 digits_found : (ds : List ℕ) (n : ℕ) → digits_number ds ≡ Some n → AreDigits ds n
 unfolding digits_number
 digits_found ds n found = digits_by ds n _ _ _ refl refl refl found
 
+-- by the first byte
 signed_by : (c : ℕ) (cs : List ℕ) (z : ℤ) (plus minus : Bool) → eqb c 43 ≡ plus → eqb c 45 ≡ minus
     → cond plus (option_map pos (digits_number cs)) (cond minus (option_map (λ n. neg_ℤ (pos n)) (digits_number cs)) (option_map pos (digits_number (c ∷ cs)))) ≡ Some z
     → AreSigned (c ∷ cs) z
@@ -61,6 +65,7 @@ signed_by c cs z false false a b found =
     let m = mapped pos (digits_number (c ∷ cs)) z found in
     record { sign = NoSign; ds = c ∷ cs; n = m.0; whole = refl; digits = digits_found (c ∷ cs) m.0 m.1; value = m.2 }
 
+-- what is found is nothing, or a sign or none and digits
 signed_found : (cells : List ℕ) (z : ℤ) → signed_in cells ≡ Some z → ((cells ≡ []) × (z ≡ pos 0)) ⊎ AreSigned cells z
 signed_found [] z found = inl (refl, cc)
 signed_found (c ∷ cs) z found = inr (signed_by c cs z _ _ refl refl found)
@@ -99,6 +104,7 @@ found cells z read =
 digit_no_space : (c : ℕ) → 48 ≤ c → is_space c ≡ false
 digit_no_space c least = grind (arith, nat_tests)
 
+-- the number of one to nine digits is found
 pub digits_given : (ds : List ℕ) → 1 ≤ length ds → length ds ≤ 9 → list_all is_ascii_digit ds ≡ true → digits_number ds ≡ Some (digits_value 10 ds)
 unfolding digits_number
 digits_given ds some few digits = rw (le-leb 1 (length ds) some, le-leb (length ds) 9 few, digits) refl
@@ -112,6 +118,7 @@ unsigned_given (d ∷ ds) some digits =
     let no_minus : eqb d 45 ≡ false = grind (arith, nat_tests) in
     rw (no_plus, no_minus) refl
 
+-- and that of a sign or none and digits
 pub signed_given : (s : Sign) (ds : List ℕ) → 1 ≤ length ds → length ds ≤ 9 → list_all is_ascii_digit ds ≡ true → signed_in (sign_text s ++ ds) ≡ Some (signed s (digits_value 10 ds))
 signed_given NoSign ds some few digits = unsigned_given ds some digits ∙ ap (option_map pos) (digits_given ds some few digits)
 signed_given Plus ds some few digits = ap (option_map pos) (digits_given ds some few digits)
@@ -139,11 +146,13 @@ number_given before after s ds blank_before blank_after some few digits =
     ap signed_in (trimmed_between before core after blank_before blank_after any (first_no_space s ds some digits) (last_no_space s ds some digits))
     ∙ signed_given s ds some few digits
 
+-- the number of a field is computed
 given : (cells : List ℕ) (z : ℤ) → IsField cells z → field_in cells ≡ Some z
 given cells z (inl h) = ap signed_in (trimmed_blank cells h.0) ∙ ap Some (sym h.1)
 given cells z (inr h) =
     ap field_in h.whole ∙ number_given h.before h.after h.sign h.digits h.blank_before h.blank_after h.some_digits h.few_digits h.are_digits ∙ ap Some (sym h.value)
 
+-- field and computation agree
 pub law : FieldsAreRead
 law cells z = (found cells z, given cells z)
 

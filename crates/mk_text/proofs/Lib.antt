@@ -1,3 +1,4 @@
+pub mod TestLemmas
 pub mod PieceLemmas
 pub mod DigitLemmas
 pub mod TrimLemmas

@@ -12,17 +12,20 @@ use Rattle.std.proofs.lemmas.Bool.Decides.{nat_tests}
 use Rattle.mk_text.specs.Lines.{without_cr, pieces, lines_of, words_of, has_bytes}
 use Rattle.mk_text.specs.Spans.{parts}
 
+-- one byte more
 pub range_more : (xs : List ℕ) (i j : ℕ) → i ≤ j → j < length xs → slice_range xs i (j + 1) ≡ slice_range xs i j ++ get_or xs j 0 ∷ []
 range_more xs i j le lt =
     let n : (j + 1) - i ≡ (j - i) + 1 = omega arith in
     let there : get_or (drop i xs) (j - i) 0 ≡ get_or xs j 0 = get_or-drop i xs (j - i) 0 ∙ ap (λ k. get_or xs k 0) (omega arith) in
     ap (λ k. take k (drop i xs)) n ∙ take_more (drop i xs) (j - i) 0 (omega (arith, length-drop i xs)) ∙ ap (λ (x : ℕ). take (j - i) (drop i xs) ++ x ∷ []) there
 
+-- a CR at the end is dropped
 pub without_cr-at_cr : (xs : List ℕ) (b : ℕ) → b ≡ 13 → without_cr (xs ++ b ∷ []) ≡ xs
 without_cr-at_cr [] b h = rw h refl
 without_cr-at_cr (x ∷ []) b h = rw h refl
 without_cr-at_cr (x ∷ y ∷ xs) b h = ap (λ (t : List ℕ). x ∷ t) (without_cr-at_cr (y ∷ xs) b h)
 
+-- any other byte stays
 pub without_cr-at_other : (xs : List ℕ) (b : ℕ) → eqb b 13 ≡ false → without_cr (xs ++ b ∷ []) ≡ xs ++ b ∷ []
 without_cr-at_other [] b h = rw h refl
 without_cr-at_other (x ∷ []) b h = rw h refl
@@ -38,12 +41,15 @@ pub pieces_last : (b : ℕ) (p : List ℕ) → ((k : ℕ) → k < length (b ∷ 
 pieces_last b [] h = rw (h 0 (omega arith)) refl
 pieces_last b (c ∷ p) h = rw (h 0 (omega arith), pieces_last c p (λ k lt. h (suc k) (omega arith))) refl
 
+-- no LF stands between two places
 abbrev pub NoLfBetween : List ℕ → ℕ → ℕ → Type 0
 NoLfBetween text start end = (k : ℕ) → start ≤ k → k < end → eqb (get_or text k 0) 10 ≡ false
 
+-- a byte of a part of a text
 in_range : (text : List ℕ) (start end k : ℕ) → k < end - start → get_or (slice_range text start end) k 0 ≡ get_or text (start + k) 0
 in_range text start end k lt = get_or-take (end - start) (drop start text) k 0 lt ∙ get_or-drop start text k 0
 
+-- so none stands in that part
 range_none : (text : List ℕ) (start end : ℕ) → NoLfBetween text start end → (k : ℕ) → k < length (slice_range text start end) → eqb (get_or (slice_range text start end) k 0) 10 ≡ false
 range_none text start end none k lt =
     let short : k < end - start = omega (arith, length-take (end - start) (drop start text)) in
@@ -56,6 +62,7 @@ lines_at text start i le lt is none =
     let whole : drop start text ≡ slice_range text start i ++ 10 ∷ drop (i + 1) text = drop_split text start i le ∙ ap (λ (t : List ℕ). slice_range text start i ++ t) (drop_more text i 0 lt ∙ ap (λ (b : ℕ). b ∷ drop (i + 1) text) is) in
     ap (λ (t : List ℕ). map without_cr (pieces t)) whole ∙ ap (map without_cr) (pieces_at (slice_range text start i) (drop (i + 1) text) (range_none text start i none))
 
+-- the last piece, where there is one
 last_of : (p : List ℕ) → 0 < length p → ((k : ℕ) → k < length p → eqb (get_or p k 0) 10 ≡ false) → pieces p ≡ p ∷ []
 last_of [] lt h = absurd (omega arith)
 last_of (b ∷ p) lt h = pieces_last b p h
@@ -78,9 +85,11 @@ one_more text spans s left rest total so_far e =
     let line = slice_range text s.from s.to in
     ap (λ (ts : List (List ℕ)). ts ++ rest) (map_push (λ (s : Span). slice_range text s.from s.to) spans s) ∙ append_assoc (parts text spans) (line ∷ []) rest ∙ ap (λ (ts : List (List ℕ)). parts text spans ++ ts) (sym e) ∙ so_far
 
+-- numbers that differ
 not_eqb : (a b : ℕ) → (a ≡ b → ⊥) → eqb a b ≡ false
 not_eqb a b h = grind (arith, nat_tests)
 
+-- one byte more that is no LF
 pub none_more : (text : List ℕ) (start i : ℕ) → NoLfBetween text start i → (get_or text i 0 ≡ 10 → ⊥) → NoLfBetween text start (i + 1)
 none_more text start i none here k le lt =
     elim (cases_lt k i) [
@@ -90,14 +99,17 @@ none_more text start i none here k le lt =
 
 -- ---- words
 
+-- no blank stands between two places
 abbrev pub NoBlankBetween : List ℕ → ℕ → ℕ → Type 0
 NoBlankBetween line start end = (k : ℕ) → start ≤ k → k < end → eqb (get_or line k 0) 32 ≡ false
 
+-- so none stands in that part
 run_none : (line : List ℕ) (start end : ℕ) → NoBlankBetween line start end → All (λ b. eqb b 32 ≡ false) (slice_range line start end)
 run_none line start end none k d lt =
     let short : k < end - start = omega (arith, length-take (end - start) (drop start line)) in
     ap (λ (b : ℕ). eqb b 32) (get_or_default (slice_range line start end) k d 0 lt ∙ in_range line start end k short) ∙ none (start + k) (omega arith) (omega arith)
 
+-- a part with a byte
 has_some : (xs : List ℕ) → 0 < length xs → has_bytes xs ≡ true
 has_some [] lt = absurd (omega arith)
 has_some (x ∷ xs) lt = refl
@@ -110,12 +122,14 @@ words_at line start i lt le is none =
     let some = has_some (slice_range line start i) (omega (arith, length-take (i - start) (drop start line), length-drop start line)) in
     ap (λ (t : List ℕ). filter has_bytes (slice_split (λ b. eqb b 32) t)) whole ∙ ap (filter has_bytes) (slice_split_at (λ b. eqb b 32) (slice_range line start i) 32 (drop (i + 1) line) (run_none line start i none) refl) ∙ rw some refl
 
+-- a blank behind a blank ends no word
 pub words_skip : (line : List ℕ) (start i : ℕ) → start ≡ i → i < length line → get_or line i 0 ≡ 32 → words_of (drop start line) ≡ words_of (drop (i + 1) line)
 unfolding words_of
 words_skip line start i same le is =
     let whole : drop start line ≡ 32 ∷ drop (i + 1) line = ap (λ (k : ℕ). drop k line) same ∙ drop_more line i 0 le ∙ ap (λ (b : ℕ). b ∷ drop (i + 1) line) is in
     ap (λ (t : List ℕ). filter has_bytes (slice_split (λ b. eqb b 32) t)) whole
 
+-- the word that ends with the line
 pub words_last : (line : List ℕ) (start : ℕ) → start < length line → NoBlankBetween line start (length line) → words_of (drop start line) ≡ slice_range line start (length line) ∷ []
 unfolding words_of
 words_last line start lt none =
@@ -123,13 +137,16 @@ words_last line start lt none =
     let some = has_some (slice_range line start (length line)) (omega (arith, length-take (length line - start) (drop start line), length-drop start line)) in
     ap (λ (t : List ℕ). filter has_bytes (slice_split (λ b. eqb b 32) t)) whole ∙ ap (filter has_bytes) (slice_split_none (λ b. eqb b 32) (slice_range line start (length line)) (run_none line start (length line) none)) ∙ rw some refl
 
+-- no word stands behind the end
 pub words_none : (line : List ℕ) (start : ℕ) → length line ≤ start → words_of (drop start line) ≡ []
 unfolding words_of
 words_none line start le = ap (λ (t : List ℕ). filter has_bytes (slice_split (λ b. eqb b 32) t)) (drop_all start line le)
 
+-- numbers that differ
 not_blank_eqb : (a b : ℕ) → (a ≡ b → ⊥) → eqb a b ≡ false
 not_blank_eqb a b h = grind (arith, nat_tests)
 
+-- one byte more that is no blank
 pub no_blank_more : (line : List ℕ) (start i : ℕ) → NoBlankBetween line start i → (get_or line i 0 ≡ 32 → ⊥) → NoBlankBetween line start (i + 1)
 no_blank_more line start i none here k le lt =
     elim (cases_lt k i) [

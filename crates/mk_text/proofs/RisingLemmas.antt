@@ -12,6 +12,7 @@ not_below_itself [] below = below
 not_below_itself (x ∷ xs) (inl less) = absurd (omega arith)
 not_below_itself (x ∷ xs) (inr h) = not_below_itself xs h.1
 
+-- what is below a list is below all above it
 pub below_through : (xs ys zs : List ℕ) → IsBelow xs ys → IsBelow ys zs → IsBelow xs zs
 below_through xs [] zs h g = absurd h
 below_through xs (y ∷ ys) [] h g = absurd g
@@ -39,17 +40,20 @@ below_or_not (x ∷ xs) (y ∷ ys) =
 
 -- ---- members
 
+-- what each has, one that is held has
 pub each_holds : (P : List ℕ → Type 0) (lists : List (List ℕ)) (xs : List ℕ) → Each P lists → Holds lists xs → P xs
 each_holds P [] xs each is = absurd is
 each_holds P (ys ∷ lists) xs each (inl same) = subst P same each.0
 each_holds P (ys ∷ lists) xs each (inr is) = each_holds P lists xs each.1 is
 
+-- and the other way round
 pub holds_each : (P : List ℕ → Type 0) (lists : List (List ℕ)) → ((xs : List ℕ) → Holds lists xs → P xs) → Each P lists
 holds_each P [] each = tt
 holds_each P (ys ∷ lists) each = (each ys (inl refl), holds_each P lists (λ xs is. each xs (inr is)))
 
 -- ---- at most one
 
+-- two rising lists that hold the same begin alike
 same_first : (xs ys : List ℕ) (lists others : List (List ℕ)) → Rises (xs ∷ lists) → Rises (ys ∷ others) → Holds (ys ∷ others) xs → Holds (xs ∷ lists) ys → xs ≡ ys
 same_first xs ys lists others r s (inl same) h = sym same
 same_first xs ys lists others r s (inr late) (inl same) = same
@@ -64,6 +68,7 @@ others_held xs lists others above held zs is =
       | inr behind ↦ behind
     ]
 
+-- and are one
 pub one_list : OneRisingList
 one_list [] [] r s to from = refl
 one_list [] (ys ∷ others) r s to from = absurd (from ys (inl refl))
@@ -83,23 +88,27 @@ one_of_all P lists others h g =
 
 -- ---- the first so many
 
+-- the first so many are held
 take_holds : (n : ℕ) (lists : List (List ℕ)) (xs : List ℕ) → Holds (take n lists) xs → Holds lists xs
 take_holds zero lists xs is = absurd is
 take_holds (suc n) [] xs is = absurd is
 take_holds (suc n) (ys ∷ lists) xs (inl same) = inl same
 take_holds (suc n) (ys ∷ lists) xs (inr is) = inr (take_holds n lists xs is)
 
+-- and so are the others
 drop_holds : (n : ℕ) (lists : List (List ℕ)) (xs : List ℕ) → Holds (drop n lists) xs → Holds lists xs
 drop_holds zero lists xs is = is
 drop_holds (suc n) [] xs is = absurd is
 drop_holds (suc n) (ys ∷ lists) xs is = inr (drop_holds n lists xs is)
 
+-- the first so many rise
 take_rises : (n : ℕ) (lists : List (List ℕ)) → Rises lists → Rises (take n lists)
 take_rises zero lists rises = tt
 take_rises (suc n) [] rises = tt
 take_rises (suc n) (xs ∷ lists) rises =
     (holds_each (λ ys. IsBelow xs ys) (take n lists) (λ ys is. each_holds (λ zs. IsBelow xs zs) lists ys rises.0 (take_holds n lists ys is)), take_rises n lists rises.1)
 
+-- and stand below the others
 take_below_drop : (n : ℕ) (lists : List (List ℕ)) (xs ys : List ℕ) → Rises lists → Holds (take n lists) xs → Holds (drop n lists) ys → IsBelow xs ys
 take_below_drop zero lists xs ys rises early late = absurd early
 take_below_drop (suc n) [] xs ys rises early late = absurd early
@@ -107,15 +116,18 @@ take_below_drop (suc n) (zs ∷ lists) xs ys rises (inl same) late =
     subst (λ (us : List ℕ). IsBelow us ys) same (each_holds (λ us. IsBelow zs us) lists ys rises.0 (drop_holds n lists ys late))
 take_below_drop (suc n) (zs ∷ lists) xs ys rises (inr early) late = take_below_drop n lists xs ys rises.1 early late
 
+-- so both hold
 pub first_so_many : FirstOfRising
 first_so_many n lists rises = (take_rises n lists rises, λ xs ys early late. take_below_drop n lists xs ys rises early late)
 
 -- ---- the part from a place on
 
+-- what is above a list that isn't below the place isn't either
 above_not_below : (place xs : List ℕ) (lists : List (List ℕ)) → (IsBelow xs place → ⊥) → Each (λ ys. IsBelow xs ys) lists → Each (λ ys. IsBelow ys place → ⊥) lists
 above_not_below place xs lists not above =
     holds_each (λ ys. IsBelow ys place → ⊥) lists (λ ys is below. not (below_through xs ys place (each_holds (λ zs. IsBelow xs zs) lists ys above is) below))
 
+-- a place cuts a rising list in two
 pub cut_at_place : RisingFromPlace
 cut_at_place place [] rises = ([], [], record { whole = refl; below = tt; not_below = tt; rises = tt })
 cut_at_place place (xs ∷ lists) rises =

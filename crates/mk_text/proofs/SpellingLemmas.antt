@@ -15,9 +15,11 @@ use Rattle.mk_text.proofs.FieldLemmas.{number_given}
 
 -- ---- decimal text
 
+-- a number below 10
 one_digit : (n : ℕ) → n < 10 → list_all is_ascii_digit ((48 + n) ∷ []) ≡ true
 one_digit n small = grind (arith, nat_tests)
 
+-- one digit more
 more_digits : (n : ℕ) (ds : List ℕ) → 10 ≤ n → list_all is_ascii_digit ds ≡ true → list_all is_ascii_digit (ds ++ ((48 + n % 10) ∷ [])) ≡ true
 more_digits n ds large digits =
     list_all-append is_ascii_digit ds ((48 + n % 10) ∷ []) ∙ ap (λ (b : Bool). b && list_all is_ascii_digit ((48 + n % 10) ∷ [])) digits ∙ one_digit (n % 10) (omega arith)
@@ -40,7 +42,7 @@ decimal_value n small = (decimal_is_IsNumeral n small).1
 pub columns_between : (before cells after : List ℕ) (a b : ℕ) → a ≡ length before + 1 → b ≡ length before + length cells → columns (before ++ (cells ++ after)) a b ≡ cells
 unfolding columns
 columns_between before cells after a b first last =
-    let pad = replicate b 32 in
+    let pad : List ℕ = replicate b 32 in
     let line : (before ++ (cells ++ after)) ++ pad ≡ before ++ (cells ++ (after ++ pad)) =
     append_assoc before (cells ++ after) pad ∙ ap (λ (xs : List ℕ). before ++ xs) (append_assoc cells after pad) in
     let start : a - 1 ≡ length before = omega arith in
@@ -48,20 +50,23 @@ columns_between before cells after a b first last =
     ap (drop (a - 1)) line ∙ drop_at before (cells ++ (after ++ pad)) (a - 1) (sym start) in
     ap (take (b - (a - 1))) left ∙ take_at cells (after ++ pad) (b - (a - 1)) (omega arith)
 
+-- blanks are blank
 blanks : (k : ℕ) → are_blank (replicate k 32) ≡ true
 blanks zero = refl
 blanks (suc k) = blanks k
 
+-- a text at the right of its columns fills them
 length-at_right : (width : ℕ) (text : List ℕ) → length text ≤ width → length (at_right width text) ≡ width
 length-at_right width text fits =
     omega (arith, length-append (replicate (width - length text) 32) text, length-replicate {A = ℕ} (width - length text) 32)
 
 -- ---- the laws
 
+-- a number is read again
 pub read_again : RightJustifiedIsRead
 unfolding field_of
 read_again before after width n small fits =
-    let pad = replicate (width - length (decimal n)) 32 in
+    let pad : List ℕ = replicate (width - length (decimal n)) 32 in
     let wide : n < 2 ^ 64 = omega arith in
     let cells = columns_between before (right_in width n) after (length before + 1) (length before + width) refl (omega (arith, length-at_right width (decimal n) fits)) in
     let some : 1 ≤ length (decimal n) = decimal_nonempty n wide in
@@ -69,13 +74,14 @@ read_again before after width n small fits =
     ap field_in (cells ∙ whole) ∙ number_given pad [] NoSign (decimal n) (blanks (width - length (decimal n))) refl some (few_digits n small) (decimal_digits n wide)
     ∙ ap (λ (k : ℕ). Some (pos k)) (decimal_value n wide)
 
+-- and so is one with a sign
 pub signed_read_again : SignedRightJustifiedIsRead
 unfolding field_of
 signed_read_again before after width (pos n) small fits = read_again before after width n small fits
 signed_read_again before after width (negsuc n) small fits =
     let text = signed_decimal (negsuc n) in
     let ds = decimal (suc n) in
-    let pad = replicate (width - length text) 32 in
+    let pad : List ℕ = replicate (width - length text) 32 in
     let wide : suc n < 2 ^ 64 = omega arith in
     let cells = columns_between before (signed_right_in width (negsuc n)) after (length before + 1) (length before + width) refl (omega (arith, length-at_right width text fits)) in
     let some : 1 ≤ length ds = decimal_nonempty (suc n) wide in

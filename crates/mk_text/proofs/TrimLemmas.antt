@@ -6,6 +6,7 @@ use Rattle.std.specs.List.{prefix_len, suffix_len, list_all}
 use Rattle.std.specs.Prelude.{reverse}
 use Rattle.std.proofs.lemmas.List.{take-append-le, take-append-drop, places, same_lists, append-nil, append_assoc, reverse-append, length_push, length-append, length-take, length-drop, get_or-take, get_or-drop, get_or_append_left, get_or-append_right, get_or-reverse, drop_at, take_at, take_all}
 use Rattle.std.proofs.lemmas.List.Sums.{prefix_len_is, suffix_len_is, prefix_len_passes, prefix_len_stops, prefix_len-le-length, suffix_len-le-length}
+use Rattle.mk_text.proofs.TestLemmas.{both}
 use Rattle.mk_text.specs.Columns.{columns, standing, is_space, are_blank, without_first_blanks, without_last_blanks, trimmed}
 
 -- the columns are what stands on the line, and blanks
@@ -13,11 +14,13 @@ pub columns_are : (line : List ℕ) (a b : ℕ) → 1 ≤ a → a ≤ b → colu
 unfolding columns
 columns_are line a b first order = same_lists _ _ (search (rules, places)) (λ k d h. grind (arith, places))
 
+-- a blank at the front goes
 first_yes : (c : ℕ) (cs : List ℕ) → is_space c ≡ true → without_first_blanks (c ∷ cs) ≡ without_first_blanks cs
 first_yes c cs blank =
     let n = prefix_len is_space cs in
     let more : 1 + n ≡ suc n = omega arith in rw (blank, more) refl
 
+-- any other byte stays
 first_no : (c : ℕ) (cs : List ℕ) → is_space c ≡ false → without_first_blanks (c ∷ cs) ≡ c ∷ cs
 first_no c cs other = rw other refl
 
@@ -28,6 +31,7 @@ last_space cells =
     let same : length (cells ++ 32 ∷ []) - suffix_len is_space (cells ++ 32 ∷ []) ≡ length cells - suffix_len is_space cells = omega (arith, length_push cells 32, one_more) in
     ap (λ n. take n (cells ++ 32 ∷ [])) same ∙ take-append-le (length cells - suffix_len is_space cells) cells (32 ∷ []) (omega arith)
 
+-- by the first byte
 trimmed_space_by : (c : ℕ) (cs : List ℕ) (b : Bool) → is_space c ≡ b → trimmed (cs ++ 32 ∷ []) ≡ trimmed cs → trimmed ((c ∷ cs) ++ 32 ∷ []) ≡ trimmed (c ∷ cs)
 trimmed_space_by c cs true blank same = ap without_last_blanks (first_yes c (cs ++ 32 ∷ []) blank) ∙ same ∙ sym (ap without_last_blanks (first_yes c cs blank))
 trimmed_space_by c cs false other same = ap without_last_blanks (first_no c (cs ++ 32 ∷ []) other) ∙ last_space (c ∷ cs) ∙ sym (ap without_last_blanks (first_no c cs other))
@@ -50,16 +54,11 @@ trimmed-columns line a b first order =
 
 -- ---- parts between blanks
 
--- both of two tests
-and_true : (a b : Bool) → (a && b) ≡ true → (a ≡ true) × (b ≡ true)
-and_true true b both = (refl, both)
-and_true false b both = absurd cc
-
 -- where all pass, each one passes
 pub list_all_at : (p : ℕ → Bool) (xs : List ℕ) (k : ℕ) → list_all p xs ≡ true → k < length xs → p (get_or xs k 0) ≡ true
 list_all_at p [] k all lt = absurd (omega arith)
-list_all_at p (x ∷ xs) zero all lt = (and_true (p x) (list_all p xs) all).0
-list_all_at p (x ∷ xs) (suc k) all lt = list_all_at p xs k (and_true (p x) (list_all p xs) all).1 (omega arith)
+list_all_at p (x ∷ xs) zero all lt = (both (p x) (list_all p xs) all).0
+list_all_at p (x ∷ xs) (suc k) all lt = list_all_at p xs k (both (p x) (list_all p xs) all).1 (omega arith)
 
 -- where each one passes, all do
 list_all_from : (p : ℕ → Bool) (xs : List ℕ) → ((k : ℕ) → k < length xs → p (get_or xs k 0) ≡ true) → list_all p xs ≡ true
@@ -91,7 +90,7 @@ trimmed_between before core after blank_before blank_after some first last =
 pub trimmed_blank : (cells : List ℕ) → are_blank cells ≡ true → trimmed cells ≡ []
 trimmed_blank [] blank = refl
 trimmed_blank (c ∷ cs) blank =
-    let both = and_true (is_space c) (list_all is_space cs) blank in
+    let both = both (is_space c) (list_all is_space cs) blank in
     ap without_last_blanks (first_yes c cs both.0) ∙ trimmed_blank cs both.1
 
 -- the last blanks are blanks
@@ -117,6 +116,7 @@ pub record AreBetween (cells core : List ℕ) : Type 0 where
   pub blank_before : are_blank before ≡ true
   pub blank_after : are_blank after ≡ true
 
+-- every cell is in one of the three
 pub trimmed_is_between : (cells : List ℕ) → AreBetween cells (trimmed cells)
 trimmed_is_between cells =
     let n = prefix_len is_space cells in

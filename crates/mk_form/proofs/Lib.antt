@@ -1,0 +1,22 @@
+pub mod Cuts
+pub mod Readings
+pub mod InWords
+pub mod Lines
+pub mod Sequence
+pub mod Seen
+pub mod Rows
+pub mod Choice
+pub mod Limit
+pub mod Until
+pub mod ToEnd
+pub mod UpTo
+pub mod Either
+pub mod Joined
+pub mod Stops
+pub mod Fronts
+pub mod NeverDue
+pub mod Below
+pub mod ByIndex
+pub mod RowLoops
+pub mod UntilLoops
+mod OnLiterals

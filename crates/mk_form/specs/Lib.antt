@@ -1,0 +1,16 @@
+pub mod Fronts
+pub mod Reading
+pub mod Exact
+pub mod InWords
+pub mod Limit
+pub mod Lines
+pub mod Sequence
+pub mod Seen
+pub mod Rows
+pub mod Choice
+pub mod Until
+pub mod ToEnd
+pub mod Either
+pub mod Joined
+pub mod StopLaws
+pub mod Examples
