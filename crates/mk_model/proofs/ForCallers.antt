@@ -1,0 +1,60 @@
+-- What the crates above need of the numbers of an atom's bonds.
+--     IsNumberOf bonds n k        k numbers a bond of atom n
+--     numbers_at-each             each number in the list of an atom is one
+--     numbers_at-all              and each such number is in the list
+use Rattle.std.proofs.Common.{◌≡◌, ◌≤◌, ◌<◌, ◌+◌, ◌-◌, ℕ, zero, suc, Bool, true, false, cond, List, [], ◌∷◌, refl, length, get_or, take, arith}
+use Rattle.mk_model.specs.declared.edge.Edge.{Edge}
+use Rattle.mk_model.specs.Edges.{numbers_from, numbers_at, touches}
+use Rattle.mk_model.specs.Filling.{degree}
+use Rattle.mk_model.proofs.DegreeLemmas.{length-numbers_from, get_or-numbers_from, degree_within}
+
+-- among bonds that are numbered from j on, k numbers one of atom n
+pub record IsNumberFrom (j : ℕ) (bonds : List Edge) (n k : ℕ) : Type 0 where
+  pub least : j ≤ k
+  pub most : k < j + length bonds
+  pub ends : (d : Edge) → touches n (get_or bonds (k - j) d) ≡ true
+
+-- k numbers a bond of atom n
+pub record IsNumberOf (bonds : List Edge) (n k : ℕ) : Type 0 where
+  pub least : 1 ≤ k
+  pub most : k ≤ length bonds
+  pub ends : (d : Edge) → touches n (get_or bonds (k - 1) d) ≡ true
+
+-- one bond more in front
+one_more : (j : ℕ) (edge : Edge) (bonds : List Edge) (n k : ℕ) → IsNumberFrom (j + 1) bonds n k → IsNumberFrom j (edge ∷ bonds) n k
+one_more j edge bonds n k is = record {
+  least = omega (arith, is.least);
+  most = omega (arith, is.most);
+  ends = λ d. let place : k - j ≡ suc (k - (j + 1)) = omega (arith, is.least) in rw place (is.ends d);
+}
+
+-- each number in the list numbers a bond of the atom
+numbers_from-each : (j : ℕ) (bonds : List Edge) (n i : ℕ) → i < length (numbers_from j bonds n) → IsNumberFrom j bonds n (get_or (numbers_from j bonds n) i 0)
+numbers_from-each j [] n i below = absurd (omega arith)
+numbers_from-each j (edge ∷ bonds) n i below = by_test (touches n edge) refl below (λ k. numbers_from-each (j + 1) bonds n k)
+  where
+    here : touches n edge ≡ true → IsNumberFrom j (edge ∷ bonds) n j
+    here ends = record { least = omega arith; most = omega arith; ends = λ d. let place : j - j ≡ 0 = omega arith in rw place ends }
+
+    by_test : (b : Bool) → touches n edge ≡ b → i < length (cond b (j ∷ numbers_from (j + 1) bonds n) (numbers_from (j + 1) bonds n)) → ((k : ℕ) → k < length (numbers_from (j + 1) bonds n) → IsNumberFrom (j + 1) bonds n (get_or (numbers_from (j + 1) bonds n) k 0)) → IsNumberFrom j (edge ∷ bonds) n (get_or (cond b (j ∷ numbers_from (j + 1) bonds n) (numbers_from (j + 1) bonds n)) i 0)
+    by_test true ends below each =
+        by_place i below
+      where
+        by_place : (i : ℕ) → i < length (j ∷ numbers_from (j + 1) bonds n) → IsNumberFrom j (edge ∷ bonds) n (get_or (j ∷ numbers_from (j + 1) bonds n) i 0)
+        by_place zero below = here ends
+        by_place (suc i) below = one_more j edge bonds n _ (each i (omega arith))
+    by_test false ends below each = one_more j edge bonds n _ (each i below)
+
+-- each number in the list of an atom numbers a bond of it
+pub numbers_at-each : (bonds : List Edge) (n i : ℕ) → i < length (numbers_at bonds n) → IsNumberOf bonds n (get_or (numbers_at bonds n) i 0)
+numbers_at-each bonds n i below =
+    let is = numbers_from-each 1 bonds n i below in
+    record { least = is.least; most = omega (arith, is.most); ends = is.ends }
+
+-- each bond of an atom has its number in the list
+pub numbers_at-all : (bonds : List Edge) (n b : ℕ) (d : Edge) → b < length bonds → touches n (get_or bonds b d) ≡ true → (i : ℕ) × (i < length (numbers_at bonds n)) × (get_or (numbers_at bonds n) i 0 ≡ b + 1)
+numbers_at-all bonds n b d below ends = (
+  degree (take b bonds) n,
+  omega (arith, length-numbers_from 1 bonds n, degree_within bonds b n d below ends),
+  omega (arith, get_or-numbers_from 1 bonds n b d below ends),
+)

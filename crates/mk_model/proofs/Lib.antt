@@ -1,0 +1,5 @@
+pub mod FlatLemmas
+pub mod DegreeLemmas
+pub mod FillLemmas
+pub mod ForCallers
+pub mod MoleculeLemmas

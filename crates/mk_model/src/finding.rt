@@ -1,0 +1,39 @@
+// Edges of bonds, and the bond between two atoms among some.
+ghost use Rattle.std.specs.Prelude.{◌≡◌, ◌≤◌, ◌<◌, ◌-◌, ℕ, All, IfOk, MatchOption, length, slice_index, slice_index_or};
+ghost use Rattle.mk_model.specs.Edges.{HasEnds};
+ghost use Rattle.mk_model.specs.Molecules.{BondAmong, edge_of, edges};
+
+use crate::{Edge, MolBond};
+use mk_text::Memory;
+use std::alloc::Global;
+
+/// The bonds without their marks.
+pub fn edges_of(alloc: Global, bonds: &[MolBond]) -> Result<Vec<Edge>, Memory>
+    ensures { IfOk result (λ list. list.items ≡ edges bonds.now) }
+{
+    bonds
+        .iter()
+        .map(|bond| Edge {
+            first: bond.first,
+            second: bond.second,
+            kind: bond.kind,
+        })
+        .collect(alloc)
+}
+
+/// The first of the numbered bonds that joins a and b.
+pub fn find_bond(bonds: &[MolBond], numbers: &[u32], a: u32, b: u32) -> Option<MolBond>
+    requires { All (λ number. (1 ≤ number) × (number ≤ length bonds.now)) numbers.now }
+    ensures { BondAmong bonds.now numbers.now a b result }
+{
+    for number in numbers {
+        let bond = bonds[*number as usize - 1];
+        if bond.first == a && bond.second == b {
+            return Some(bond);
+        }
+        if bond.first == b && bond.second == a {
+            return Some(bond);
+        }
+    }
+    None
+}

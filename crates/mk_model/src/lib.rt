@@ -1,0 +1,23 @@
+//! The plain types that the crates above share, and what their parts mean.
+//!
+//! Callers use one promise: a `Mol` keeps in its type that its lists are a molecule (`IsMolecule` in
+//! `specs/Molecules.antt`), with the marks of its bonds those of the definitions, and its readers give its parts exactly.
+//! What a ring bond is stands in `specs/Rings.antt`, the aromatic set in `specs/Aromatic.antt`. `Steps` counts calls in
+//! proofs and takes no bytes.
+//!
+//! How the marks are found is left to mk_rings, and how a table becomes a molecule to mk_mol.
+#![tactic(auto)]
+
+mod edge;
+mod finding;
+mod molecule;
+mod neighbours;
+mod steps;
+#[cfg(test)]
+mod tests;
+
+pub use edge::Edge;
+pub use mk_text::{Bytes, Memory, Place, Text};
+pub use molecule::{Atom, Mol, MolBond};
+pub use neighbours::Neighbours;
+pub use steps::Steps;

@@ -1,0 +1,9 @@
+pub mod WayLemmas
+pub mod ForestLemmas
+pub mod WalkLemmas
+pub mod RingLemmas
+pub mod GrowLemmas
+pub mod TreeLemmas
+pub mod SixLemmas
+pub mod RoundLemmas
+pub mod SearchLemmas

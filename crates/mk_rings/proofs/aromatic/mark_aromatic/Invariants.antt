@@ -1,0 +1,15 @@
+use Rattle.std.proofs.Common.{ℕ, Bool}
+use Rattle.mk_model.specs.Edges.{HasKind}
+use Rattle.mk_model.specs.Aromatic.{IsClosed}
+use Rattle.mk_rings.specs.Marks.{IsMarked}
+use Rattle.mk_rings.specs.SixRings.{LieIn, unmarked}
+use Rattle.mk_rings.proofs.aromatic.mark_aromatic.Given as goal
+
+abbrev pub invariant-loop : goal.invariant-loop
+invariant-loop l = record {
+  four : (b : ℕ) → HasKind l.bonds b 4 → IsMarked l.marks b;
+  within : (set : ℕ → Bool) → IsClosed l.bonds set → LieIn set l.marks;
+}
+
+abbrev pub decreases-loop : goal.decreases-loop
+decreases-loop l = unmarked l.marks

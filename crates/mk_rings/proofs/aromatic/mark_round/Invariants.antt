@@ -1,0 +1,5 @@
+use Rattle.mk_rings.proofs.RoundLemmas.{IsRounded}
+use Rattle.mk_rings.proofs.aromatic.mark_round.Given as goal
+
+abbrev pub invariant-loop-b : goal.invariant-loop-b
+invariant-loop-b l = IsRounded l.bonds l.fn.marks l.b l.found l.marks

@@ -1,0 +1,22 @@
+//! Ring bonds and the aromatic set, computed.
+//!
+//! Callers use two promises. `ring_bonds` marks exactly the ring bonds, and `aromatic_bonds` exactly the bonds of the
+//! aromatic set, by the definitions of mk_model (`specs/Rings.antt` and `specs/Aromatic.antt` there).
+//!
+//! Ring bonds are found on a spanning forest: a bond that isn't in it is a ring bond, and so are the bonds of the forest on
+//! the way between its ends (`specs/Forests.antt`). The time is that of the bonds, and for each closed ring that of the way
+//! round it. Which molecule the bonds come from isn't known here.
+#![tactic(auto)]
+
+mod aromatic;
+#[cfg(test)]
+mod checks;
+mod forest;
+mod marking;
+mod node;
+mod six_rings;
+#[cfg(test)]
+mod tests;
+
+pub use aromatic::aromatic_bonds;
+pub use marking::ring_bonds;

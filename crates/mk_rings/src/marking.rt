@@ -1,0 +1,85 @@
+// Marks of ring bonds by a spanning forest.
+ghost use Rattle.std.specs.Prelude.{◌≡◌, ◌≢◌, ◌≤◌, ◌<◌, ◌-◌, ◌↔◌, ◌⊎◌, ℕ, IfOk, IsTrue, length};
+ghost use Rattle.mk_model.specs.Edges.{AreBetween, IsGraph, Joins};
+ghost use Rattle.mk_model.specs.Rings.{IsRingBond};
+ghost use Rattle.mk_rings.specs.Forests.{HangsBy, IsForest, node};
+ghost use Rattle.mk_rings.specs.Marks.{IsMarked, Marks, MarksWay};
+
+use crate::forest::forest_of;
+use crate::node::Node;
+use mk_model::{Edge, Memory, Neighbours};
+use std::alloc::Global;
+
+/// Marks the ring bonds.
+pub fn ring_bonds(alloc: Global, atoms: u32, bonds: &[Edge]) -> Result<Vec<bool>, Memory>
+    requires { IsGraph atoms bonds.now }
+    ensures { IfOk result (λ marks. Marks (IsRingBond bonds.now) bonds.now marks.items) }
+{
+    let near = Neighbours::of(alloc, atoms, bonds)?;
+    let nodes = forest_of(alloc, &near, atoms, bonds)?;
+    let mut marks = vec![in alloc; false; bonds.len()]?;
+    mark_rings(&nodes, bonds, &mut marks);
+    Ok(marks)
+}
+
+// Marks each bond by which no atom hangs, and the bonds of the forest between its ends.
+fn mark_rings(nodes: &[Node], bonds: &[Edge], marks: &mut [bool])
+    requires ends { AreBetween (length nodes.now - 1) bonds.now }
+    requires forest { IsForest (length nodes.now - 1) bonds.now nodes.now }
+    requires size { length marks.old ≡ length bonds.now }
+    requires none { (b : ℕ) → ¬ (IsMarked marks.old b) }
+    ensures { Marks (IsRingBond bonds.now) bonds.now marks.new }
+{
+    for b in 0..bonds.len() {
+        let edge = bonds[b];
+        if hangs_by(nodes, edge.first, b) {
+            continue;
+        }
+        if hangs_by(nodes, edge.second, b) {
+            continue;
+        }
+        marks[b] = true;
+        mark_way(nodes, bonds, b, marks);
+    }
+}
+
+// Tells whether the atom hangs by the bond.
+fn hangs_by(nodes: &[Node], x: u32, b: usize) -> bool
+    requires { x < length nodes.now }
+    ensures { IsTrue result ↔ HangsBy nodes.now x b }
+{
+    let here = nodes[x as usize];
+    here.depth > 0 && here.via as usize == b
+}
+
+// Marks the bonds of the forest between the ends of a bond: the deeper of them goes up until they meet.
+fn mark_way(nodes: &[Node], bonds: &[Edge], b: usize, marks: &mut [bool])
+    requires bond { b < length bonds.now }
+    requires ends { AreBetween (length nodes.now - 1) bonds.now }
+    requires forest { IsForest (length nodes.now - 1) bonds.now nodes.now }
+    requires size { length marks.old ≡ length bonds.now }
+    ensures { (u v : ℕ) → Joins bonds.now b u v → MarksWay nodes.now u v marks.old marks.new }
+{
+    let edge = bonds[b];
+    let mut a = edge.first;
+    let mut c = edge.second;
+    while a != c {
+        let (deep, other) = deeper_first(nodes, a, c);
+        let here = nodes[deep as usize];
+        marks[here.via as usize] = true;
+        a = here.parent;
+        c = other;
+    }
+}
+
+// Two atoms with the deeper one first.
+fn deeper_first(nodes: &[Node], a: u32, c: u32) -> (u32, u32)
+    requires { (a < length nodes.now) × (c < length nodes.now) }
+    ensures order { (node nodes.now result.1).depth ≤ (node nodes.now result.0).depth }
+    ensures same { ((result.0 ≡ a) × (result.1 ≡ c)) ⊎ ((result.0 ≡ c) × (result.1 ≡ a)) }
+{
+    if nodes[c as usize].depth <= nodes[a as usize].depth {
+        return (a, c);
+    }
+    (c, a)
+}
