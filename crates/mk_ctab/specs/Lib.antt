@@ -2,3 +2,9 @@ pub mod PlainLines
 pub mod PlainFile
 pub mod PlainFacts
 pub mod PlainReading
+pub mod TableLines
+pub mod Table
+pub mod TableReading
+pub mod TableFacts
+pub mod TableFaults
+pub mod TableLaws

@@ -1,20 +1,37 @@
-//! Connection tables: so far those of plain files, which the first command reads.
+//! Connection tables of the format V2000: `read_table` reads a whole one. `read_plain` reads files of a few kinds of atoms
+//! and bonds alone, and serves the first command until queries are read whole.
 //!
-//! Callers use one promise. `read_plain` gives exactly the table of a plain file, or `Unbuilt` exactly where the text is
-//! none (`IsPlainFile` in `specs/PlainFile.antt`, the columns in docs/FORMAT.md). Every table that it gives keeps what
-//! `IsPlainTable` says.
+//! Callers use one promise. `read_table` gives exactly the table that begins at a line of a text, or names exactly the
+//! first line that no table can have there, and whether that line says V3000 (`IsTable` in `specs/Table.antt` over the
+//! lines of `specs/TableLines.antt`; the bad line as in mk_form; the columns in docs/FORMAT.md). Every table that it gives
+//! keeps what `IsRawTable` in `specs/TableFacts.antt` says. `table_at` in `specs/TableReading.antt` is the same, computed,
+//! and readers of longer texts go on from it.
 //!
-//! What a table means for a search isn't said here.
+//! `read_plain` gives exactly the table of a plain file, or `Unbuilt` exactly where the text is none (`IsPlainFile` in
+//! `specs/PlainFile.antt`). Every table that it gives keeps what `IsPlainTable` says.
+//!
+//! What a table means for a molecule, a query or a search isn't said here.
 #![tactic(auto)]
 
+mod fault;
 mod laws;
 mod plain_lines;
 mod plain_reading;
 mod plain_table;
+mod raw;
+mod table_lines;
+mod table_reading;
+#[cfg(test)]
+mod table_tests;
 #[cfg(test)]
 mod tests;
 
-pub use laws::plain_file_is_exact;
+pub use fault::TableFault;
+pub use laws::{plain_file_is_exact, table_is_exact};
 pub use mk_text::{Bytes, Listed, Memory};
 pub use plain_reading::{PlainFault, read_plain};
 pub use plain_table::{PlainBond, PlainBonds, PlainTable};
+pub use raw::{
+    Properties, RawAtom, RawAtoms, RawBond, RawBonds, RawList, RawLists, RawTable, Signed,
+};
+pub use table_reading::read_table;

@@ -5,7 +5,7 @@
 //! What a ring bond is stands in `specs/Rings.antt`, the aromatic set in `specs/Aromatic.antt`. `Steps` counts calls in
 //! proofs and takes no bytes.
 //!
-//! How the marks are found is left to mk_rings, and how a table becomes a molecule to mk_mol.
+//! How the marks are found is left to mk_rings, and how a table becomes a molecule to the crates above.
 #![tactic(auto)]
 
 mod edge;

@@ -4,7 +4,7 @@
 //! (`IsProperty` in `specs/Property.antt`). The same is said by a function on lists, `property_of` in
 //! `specs/Reading.antt`, and `property_is_exact` joins the two. The columns are those of docs/FORMAT.md, "Property lines".
 //!
-//! What a property means for a molecule or a query isn't known here: see `mk_mol` and `mk_query`.
+//! What a property means for a molecule or a query isn't known here.
 #![tactic(auto)]
 
 mod columns;

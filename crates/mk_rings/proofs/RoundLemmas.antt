@@ -8,7 +8,7 @@ use Rattle.mk_model.specs.declared.edge.Edge.{Edge}
 use Rattle.mk_model.specs.Edges.{AreBetween, IsBetween, Joins, HasKind}
 use Rattle.mk_model.specs.Aromatic.{Takes, IsClosed, IsAromatic}
 use Rattle.mk_rings.specs.Marks.{IsMarked, Marks}
-use Rattle.mk_rings.specs.SixRings.{CanClose, ClosesRing, LieIn, StayWithin, set_of, unmarked}
+use Rattle.mk_rings.specs.SixRings.{CanClose, ClosesRing, LieIn, Spreads, StayWithin, set_of, unmarked}
 use Rattle.mk_rings.proofs.SixLemmas.{IsRound, round_of_rule, turned, reversed, CanClose-round, round_from, closed_round}
 use Rattle.mk_rings.proofs.WalkLemmas.{joins_within, get_or-from_get, slice_get-at, marked-kept}
 
@@ -201,3 +201,42 @@ pub closes-other : (bonds : List Edge) (s : ℕ → Bool) (b : ℕ) (d : Edge) �
 closes-other bonds s b d one two c =
     let at : get_or bonds b d ≡ c.edge = get_or-from_get bonds b d c.edge c.at in
     ⊎_elim (λ e. one (ap (λ m. m.kind) at ∙ e)) (λ e. two (ap (λ m. m.kind) at ∙ e)) c.kind
+
+-- ---- marks that spread
+
+-- the old marks alone
+pub Spreads-none : (bonds : List Edge) (marks : List Bool) → Spreads bonds marks marks
+Spreads-none bonds marks = record { kept = λ b marked. marked; within = λ s closed lie. lie; no_more = omega arith }
+
+-- on from marks that spread to others
+pub Spreads-on : (bonds : List Edge) (a b c : List Bool) → Spreads bonds a b → Spreads bonds b c → Spreads bonds a c
+Spreads-on bonds a b c first second = record {
+  kept = λ k marked. second.kept k (first.kept k marked);
+  within = λ s closed lie. second.within s closed (first.within s closed lie);
+  no_more = omega (arith, first.no_more, second.no_more);
+}
+
+-- one mark more, of a bond that closes a six-ring
+pub Spreads-more : (atoms : ℕ) (bonds : List Edge) (old : List Bool) (n : ℕ) (marks : List Bool) → AreBetween atoms bonds → n < length marks → get_or marks n false ≡ false → ClosesRing bonds (set_of marks) n → Spreads bonds old marks → Spreads bonds old (set marks n true)
+Spreads-more atoms bonds old n marks ends below new closes before =
+    let one : Spreads bonds marks (set marks n true) = record {
+      kept = λ b marked. marked-kept marks n b below marked;
+      within = λ s closed lie b marked.
+          ⊎_elim
+          (λ same. let P : ℕ → Type 0 = λ k. IsTrue (s k) in subst P (sym same) (closed_ring atoms bonds marks s n ends closed lie closes))
+          (λ other. lie b (sym (get_or-set_other marks n b true false other) ∙ marked))
+          (cases_eq b n);
+      no_more = omega (arith, unmarked-set marks n below new);
+    } in
+    Spreads-on bonds old marks (set marks n true) before one
+
+-- a round in which a mark spreads
+pub IsRounded-spread : (bonds : List Edge) (old : List Bool) (n : ℕ) (marks new : List Bool) → IsRounded bonds old n true marks → Spreads bonds marks new → IsRounded bonds old n true new
+IsRounded-spread bonds old n marks new r s = record {
+  kept = λ b marked. s.kept b (r.kept b marked);
+  within = λ t closed lie. s.within t closed (r.within t closed lie);
+  more = λ t. omega (arith, r.more t, s.no_more);
+  no_more = omega (arith, r.no_more, s.no_more);
+  still = λ e. absurd (true≢false e);
+  done = λ e. absurd (true≢false e);
+}

@@ -4,7 +4,9 @@
 --     CanClose bonds set start path at label left     so many atoms further the path can be closed
 --     ClosesRing bonds set b            a six-ring that takes the labels goes through bond b
 --     StayWithin bonds old new          a closed set that held the old marks holds the new ones
-use Rattle.std.specs.Prelude.{◌≡◌, ◌≢◌, ◌<◌, ◌-◌, ◌⊎◌, ℕ, zero, suc, Bool, false, List, [], ◌∷◌, Some, IsTrue, length, count_by, not, slice_get, slice_index, slice_index_or}
+--     Spreads bonds old new             the old marks, and others that follow from them
+--     AllBelow bound list               each number of the list is below the bound
+use Rattle.std.specs.Prelude.{◌≡◌, ◌≢◌, ◌≤◌, ◌<◌, ◌-◌, ◌⊎◌, ℕ, zero, suc, Bool, false, List, [], ◌∷◌, Some, IsTrue, length, count_by, not, slice_get, slice_index, slice_index_or}
 use Rattle.mk_model.specs.declared.edge.Edge.{Edge}
 use Rattle.mk_model.specs.Edges.{Joins}
 use Rattle.mk_model.specs.Aromatic.{Takes, IsClosed}
@@ -47,3 +49,13 @@ StayWithin bonds old new = (set : ℕ → Bool) → IsClosed bonds set → LieIn
 -- how many bonds aren't marked
 abbrev pub unmarked : List Bool → ℕ
 unmarked marks = count_by not marks
+
+-- the old marks, and others that each closed set holds that held the old ones
+pub record Spreads (bonds : List Edge) (old new : List Bool) : Type 0 where
+  pub kept : (b : ℕ) → IsMarked old b → IsMarked new b
+  pub within : StayWithin bonds old new
+  pub no_more : unmarked new ≤ unmarked old
+
+-- each number of the list is below the bound
+abbrev pub AllBelow : ℕ → List ℕ → Type 0
+AllBelow bound list = (i : ℕ) → i < length list → slice_index list i < bound

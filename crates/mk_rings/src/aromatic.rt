@@ -3,9 +3,10 @@ ghost use Rattle.std.specs.Prelude.{◌≡◌, ◌≤◌, ◌<◌, ◌↔◌, �
 ghost use Rattle.mk_model.specs.Edges.{AreBetween, HasKind, IsGraph, rows_of};
 ghost use Rattle.mk_model.specs.Aromatic.{IsAromatic};
 ghost use Rattle.mk_rings.specs.Marks.{IsMarked, Marks};
-ghost use Rattle.mk_rings.specs.SixRings.{ClosesRing, set_of, StayWithin, unmarked};
+ghost use Rattle.mk_rings.specs.SixRings.{AllBelow, ClosesRing, set_of, StayWithin, unmarked};
 
 use crate::six_rings::closes_ring;
+use crate::spreading::spread;
 use mk_model::{Edge, Memory, Neighbours};
 use std::alloc::Global;
 
@@ -16,20 +17,22 @@ pub fn aromatic_bonds(alloc: Global, atoms: u32, bonds: &[Edge]) -> Result<Vec<b
 {
     let near = Neighbours::of(alloc, atoms, bonds)?;
     let mut marks = vec![in alloc; false; bonds.len()]?;
-    mark_aromatic(&near, bonds, &mut marks);
+    let mut queue = vec![in alloc; 0usize; bonds.len()]?;
+    mark_aromatic(&near, bonds, &mut marks, &mut queue);
     Ok(marks)
 }
 
 // Marks the bonds of type 4, and then round by round those that close a six-ring.
-fn mark_aromatic(near: &Neighbours, bonds: &[Edge], marks: &mut [bool])
+fn mark_aromatic(near: &Neighbours, bonds: &[Edge], marks: &mut [bool], queue: &mut [usize])
     requires ends { AreBetween (length near.now) bonds.now }
     requires rows { near.now ≡ rows_of (length near.now) bonds.now }
     requires size { length marks.old ≡ length bonds.now }
     requires none { (b : ℕ) → ¬ (IsMarked marks.old b) }
+    requires places { AllBelow (length bonds.now) queue.old }
     ensures { Marks (IsAromatic bonds.now) bonds.now marks.new }
 {
     mark_type_four(bonds, marks);
-    while mark_round(near, bonds, marks) {}
+    while mark_round(near, bonds, marks, queue) {}
 }
 
 // Marks the bonds of type 4.
@@ -42,11 +45,14 @@ fn mark_type_four(bonds: &[Edge], marks: &mut [bool])
     }
 }
 
-// Marks each bond that closes a six-ring with the bonds that are marked so far, and tells whether there was one.
-fn mark_round(near: &Neighbours, bonds: &[Edge], marks: &mut [bool]) -> bool
+// Marks each bond that closes a six-ring with the bonds that are marked so far, and those to which its mark spreads. Tells
+// whether there was one.
+fn mark_round(near: &Neighbours, bonds: &[Edge], marks: &mut [bool], queue: &mut [usize]) -> bool
     requires ends { AreBetween (length near.now) bonds.now }
     requires rows { near.now ≡ rows_of (length near.now) bonds.now }
     requires size { length marks.old ≡ length bonds.now }
+    requires places { AllBelow (length bonds.now) queue.old }
+    ensures places { AllBelow (length bonds.now) queue.new }
     ensures kept { (b : ℕ) → IsMarked marks.old b → IsMarked marks.new b }
     ensures within { StayWithin bonds.now marks.old marks.new }
     ensures more { IsTrue result → unmarked marks.new < unmarked marks.old }
@@ -61,6 +67,7 @@ fn mark_round(near: &Neighbours, bonds: &[Edge], marks: &mut [bool]) -> bool
             continue;
         }
         marks[b] = true;
+        spread(near, bonds, marks, queue, b);
         found = true;
     }
     found

@@ -15,6 +15,7 @@ mod forest;
 mod marking;
 mod node;
 mod six_rings;
+mod spreading;
 #[cfg(test)]
 mod tests;
 

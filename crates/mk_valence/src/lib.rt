@@ -3,7 +3,7 @@
 //! Callers use one promise: `hydrogens` gives the number of the rule (`added_hydrogens` in `specs/Hydrogens.antt`). The
 //! valences of an element stand in mk_elements.
 //!
-//! Which atoms are asked for, and where the hydrogens go, is left to mk_mol.
+//! Which atoms are asked for, and where the hydrogens go, is left to the crates above.
 #![tactic(auto)]
 
 mod gains;

@@ -5,6 +5,7 @@ use Rattle.mk_rings.proofs.aromatic.mark_aromatic.Goals as goal
 pub loop-init : goal.loop-init
 loop-init c = record {
   four = λ b kind. (c.mark_type_four.ensures b (kind_within c.args.bonds.now b 4 kind)).1 kind;
+  places = c.requires.places;
   within = λ s closed b marked.
       let below : b < length c.args.bonds.now = omega (arith, marked_within c.mark_type_four.new.marks b marked, c.mark_type_four.auto.marks, c.requires.size) in
       closed.type_four b ((c.mark_type_four.ensures b below).0 marked);

@@ -1,13 +1,14 @@
-use Rattle.std.proofs.Common.{ℕ, Bool}
+use Rattle.std.proofs.Common.{ℕ, Bool, length}
 use Rattle.mk_model.specs.Edges.{HasKind}
 use Rattle.mk_model.specs.Aromatic.{IsClosed}
 use Rattle.mk_rings.specs.Marks.{IsMarked}
-use Rattle.mk_rings.specs.SixRings.{LieIn, unmarked}
+use Rattle.mk_rings.specs.SixRings.{AllBelow, LieIn, unmarked}
 use Rattle.mk_rings.proofs.aromatic.mark_aromatic.Given as goal
 
 abbrev pub invariant-loop : goal.invariant-loop
 invariant-loop l = record {
   four : (b : ℕ) → HasKind l.bonds b 4 → IsMarked l.marks b;
+  places : AllBelow (length l.bonds) l.queue;
   within : (set : ℕ → Bool) → IsClosed l.bonds set → LieIn set l.marks;
 }
 
