@@ -35,8 +35,8 @@ HoldsNoText (kinds.List list) = ⊥
 HoldsNoText (kinds.Logic logic) = ⊥
 HoldsNoText p = Unit {0}
 
--- No symbol ends with CR, and there is neither an `M  ALS` nor an `M  LOG`. The lines of such a table may be kept without
--- the CR bytes at their ends, and are still lines of that table.
+-- No symbol ends with CR, and there is neither an `M  ALS` nor an `M  LOG`. Who keeps the text of a table with no CR at a
+-- line's end asks for it.
 pub record KeepsItsText (table : RawTable) : Type 0 where
   pub symbols : All (λ atom. ¬ (EndsWithCr atom.symbol)) table.atoms
   pub properties : All HoldsNoText table.props
