@@ -9,3 +9,14 @@ pub mod TableFactLemmas
 pub mod ReaderLemmas
 pub mod StepLemmas
 mod TableOnLiterals
+pub mod ThreeLemmas
+pub mod AppendLemmas
+pub mod StandingLemmas
+pub mod LineSpellingLemmas
+pub mod EndLemmas
+pub mod EntrySpellingLemmas
+pub mod PropertySpellingLemmas
+pub mod PlainTextLemmas
+pub mod PlainLineLemmas
+pub mod TableSpellingLemmas
+pub mod GraphicLemmas

@@ -8,3 +8,4 @@ pub mod TableReading
 pub mod TableFacts
 pub mod TableFaults
 pub mod TableLaws
+pub mod TableSpelling

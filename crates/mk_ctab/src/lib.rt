@@ -1,11 +1,14 @@
-//! Connection tables of the format V2000: `read_table` reads a whole one. `read_plain` reads files of a few kinds of atoms
-//! and bonds alone, and serves the first command until queries are read whole.
+//! Connection tables of the format V2000: `read_table` reads a whole one, and `write_table` writes it. `read_plain` reads
+//! files of a few kinds of atoms and bonds alone, and serves the first command until queries are read whole.
 //!
-//! Callers use one promise. `read_table` gives exactly the table that begins at a line of a text, or names exactly the
+//! Callers use one promise of each. `read_table` gives exactly the table that begins at a line of a text, or names exactly the
 //! first line that no table can have there, and whether that line says V3000 (`IsTable` in `specs/Table.antt` over the
 //! lines of `specs/TableLines.antt`; the bad line as in mk_form; the columns in docs/FORMAT.md). Every table that it gives
 //! keeps what `IsRawTable` in `specs/TableFacts.antt` says. `table_at` in `specs/TableReading.antt` is the same, computed,
 //! and readers of longer texts go on from it.
+//!
+//! `write_table` appends exactly the spelling of a table that can be spelt (`spelling` and `CanBeSpelt` in
+//! `specs/TableSpelling.antt`), and that spelling is the table again (`spelling_is_read`).
 //!
 //! `read_plain` gives exactly the table of a plain file, or `Unbuilt` exactly where the text is none (`IsPlainFile` in
 //! `specs/PlainFile.antt`). Every table that it gives keeps what `IsPlainTable` says.
@@ -25,6 +28,15 @@ mod table_reading;
 mod table_tests;
 #[cfg(test)]
 mod tests;
+mod writing;
+#[cfg(test)]
+mod writing_checks;
+mod writing_columns;
+mod writing_laws;
+mod writing_lines;
+mod writing_properties;
+#[cfg(test)]
+mod writing_tests;
 
 pub use fault::TableFault;
 pub use laws::{plain_file_is_exact, table_is_exact};
@@ -35,3 +47,5 @@ pub use raw::{
     Properties, RawAtom, RawAtoms, RawBond, RawBonds, RawList, RawLists, RawTable, Signed,
 };
 pub use table_reading::read_table;
+pub use writing::write_table;
+pub use writing_laws::spelling_is_read;

@@ -1,0 +1,18 @@
+use Rattle.std.proofs.Common.{ℕ, List, refl, subst}
+use Rattle.mk_ctab.specs.TableSpelling.{EndsWith, IsSymbol}
+use Rattle.mk_ctab.proofs.GraphicLemmas.{all_taken, one_more}
+use Rattle.mk_ctab.proofs.writing_checks.symbols_fit.Goals as goal
+
+pub loop-symbol-preserved : goal.loop-symbol-preserved
+loop-symbol-preserved c = (
+  one_more (IsSymbol 4) c.args.symbols.now c.loop-symbol.symbol-index c.symbol-item.result c.loop-symbol.invariant.0 c.loop-symbol-test.true c.symbol-item.is
+      (subst (IsSymbol 4) c.as_slice.ensures (c.if-not-is_symbol.ensures.fits refl)),
+  one_more (λ (symbol : List ℕ). EndsWith 13 symbol → ⊥) c.args.symbols.now c.loop-symbol.symbol-index c.symbol-item.result c.loop-symbol.invariant.1 c.loop-symbol-test.true c.symbol-item.is
+      (subst (λ (symbol : List ℕ). EndsWith 13 symbol → ⊥) c.as_slice.ensures (c.if-not-is_symbol.ensures.no_cr refl)),
+)
+
+pub returns-clause-fit : goal.returns-clause-fit
+returns-clause-fit c = λ is. all_taken (IsSymbol 4) c.args.symbols.now c.loop-symbol.symbol-index c.loop-symbol-test.false c.loop-symbol.invariant.0
+
+pub returns-clause-no_cr : goal.returns-clause-no_cr
+returns-clause-no_cr c = λ is. all_taken (λ (symbol : List ℕ). EndsWith 13 symbol → ⊥) c.args.symbols.now c.loop-symbol.symbol-index c.loop-symbol-test.false c.loop-symbol.invariant.1

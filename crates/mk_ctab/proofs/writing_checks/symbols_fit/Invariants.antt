@@ -1,0 +1,6 @@
+use Rattle.std.proofs.Common.{All, take}
+use Rattle.mk_ctab.specs.TableSpelling.{IsSymbol, EndsWith}
+use Rattle.mk_ctab.proofs.writing_checks.symbols_fit.Given as goal
+
+abbrev pub invariant-loop-symbol : goal.invariant-loop-symbol
+invariant-loop-symbol l = All (IsSymbol 4) (take l.symbol-index l.symbols) × All (λ symbol. ¬ (EndsWith 13 symbol)) (take l.symbol-index l.symbols)
