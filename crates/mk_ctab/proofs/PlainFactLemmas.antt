@@ -1,7 +1,7 @@
 -- The table of every plain file keeps what its lines were tested for.
-use Rattle.std.proofs.Common.{◌≡◌, ℕ, zero, suc, ◌+◌, ◌<◌, ◌≤◌, Bool, true, false, not, ◌&&◌, ◌||◌, cond, leb, ltb, eqb, List, [], ◌∷◌, ◌++◌, length, Some, None, refl, ap, sym, ◌∙◌, subst, arith, All, append_assoc}
+use Rattle.std.proofs.Common.{◌≡◌, ℕ, zero, suc, ◌+◌, ◌<◌, ◌≤◌, Bool, true, false, not, ◌&&◌, ◌||◌, cond, leb, ltb, eqb, List, [], ◌∷◌, ◌++◌, length, Option, Some, None, inl, inr, ◌⊎◌, refl, ap, sym, ◌∙◌, subst, arith, All, append_assoc}
 use Rattle.std.specs.Option.{option_and_then}
-use Rattle.std.specs.List.{list_any, AllByRecursion, AllZip, sum_by}
+use Rattle.std.specs.List.{list_all, list_any, AllByRecursion, AllZip, sum_by}
 use Rattle.std.proofs.lemmas.List.Sums.{sum_by-append}
 use Rattle.std.proofs.lemmas.Bool.{leb-true, ltb-true}
 use Rattle.std.proofs.lemmas.Bool.Decides.{nat_tests}
@@ -10,10 +10,16 @@ use Rattle.mk_text.proofs.TestLemmas.{both, neither, not_true}
 use Rattle.mk_ctab.specs.declared.plain_table.PlainBond.{PlainBond}
 use Rattle.mk_ctab.specs.declared.plain_table.PlainTable.{PlainTable}
 use Rattle.mk_ctab.specs.declared.plain_lines.PlainCounts.{PlainCounts}
-use Rattle.mk_ctab.specs.PlainLines.{counts_of, is_in_limits, natural_at, is_zero_at, is_version, word_of, bond_of, joins}
+use Rattle.mk_ctab.specs.PlainLines.{counts_of, is_in_limits, natural_at, is_zero_at, is_version, word_of, is_coordinate_byte, element_named, atom_of, bond_of, joins}
+use Rattle.mk_text.specs.Columns.{standing}
 use Rattle.mk_ctab.specs.PlainFile.{IsPlainFile, EachMayFollow, may_follow, is_same_pair, degree}
-use Rattle.mk_ctab.specs.PlainFacts.{IsBetween, HasNoPairTwice, IsPlainTable}
+use Rattle.mk_ctab.specs.PlainFacts.{IsBetween, IsSingleOrTriple, HasNoPairTwice, IsPlainTable}
 use Rattle.mk_ctab.proofs.PlainLemmas.{bind_some, guard_some, chosen_some}
+
+-- one more at the front
+all_front : {X : Type 0} (P : X → Type 0) (x : X) (xs : List X) → P x → All P xs → All P (x ∷ xs)
+all_front P x xs here there zero d lt = here
+all_front P x xs here there (suc k) d lt = there k d (omega arith)
 
 -- ---- the limits
 
@@ -55,6 +61,50 @@ few_by false atoms bonds in_limits =
     let a = both (leb atoms 999) (leb 0 atoms) b.1 in
     record { few_atoms = leb-true _ _ a.0; few_bonds = leb-true _ _ b.0; query_atoms = λ never. absurd cc }
 
+-- ---- the elements
+
+-- the number is an element's
+abbrev IsNumber : ℕ → Type 0
+IsNumber z = (1 ≤ z) × (z ≤ 118)
+
+-- one of two choices
+chosen_number : (b : Bool) (k : ℕ) (rest : Option ℕ) (z : ℕ) → IsNumber k → (rest ≡ Some z → IsNumber z) → cond b (Some k) rest ≡ Some z → IsNumber z
+chosen_number true k rest z here there some = (let same : k ≡ z = cc in subst IsNumber same here)
+chosen_number false k rest z here there some = there some
+
+-- no choice is left
+none_number : (z : ℕ) → None ≡ Some z → IsNumber z
+none_number z some = absurd cc
+
+-- what a symbol names is an element
+named_number : (symbol : List ℕ) (z : ℕ) → element_named symbol ≡ Some z → IsNumber z
+named_number symbol z some =
+    chosen_number _ 6 _ z (omega arith, omega arith)
+    (chosen_number _ 7 _ z (omega arith, omega arith)
+    (chosen_number _ 8 _ z (omega arith, omega arith)
+    (chosen_number _ 9 _ z (omega arith, omega arith)
+    (chosen_number _ 15 _ z (omega arith, omega arith)
+    (chosen_number _ 16 _ z (omega arith, omega arith)
+    (chosen_number _ 17 _ z (omega arith, omega arith)
+    (chosen_number _ 35 _ z (omega arith, omega arith)
+    (chosen_number _ 53 _ z (omega arith, omega arith) (none_number z))))))))) some
+
+-- the number that an atom line gives is an element's
+atom_number : (line : List ℕ) (z : ℕ) → atom_of line ≡ Some z → IsNumber z
+unfolding atom_of
+atom_number line z some =
+    let a = guard_some (not (list_all is_coordinate_byte (standing line 1 30))) _ z some in
+    let b = guard_some (not (is_zero_at line 35 36 && (is_zero_at line 37 39 && is_zero_at line 40 42))) _ z a.1 in
+    let c = guard_some (not (is_zero_at line 43 45 && (is_zero_at line 46 48 && is_zero_at line 49 51))) _ z b.1 in
+    named_number (word_of line 32 34) z c.1
+
+-- and so are those of all atom lines
+all_numbers : (lines : List (List ℕ)) (elements : List ℕ) → AllZip (λ line element. atom_of line ≡ Some element) lines elements → All IsNumber elements
+all_numbers [] [] each = λ k d lt. absurd (omega arith)
+all_numbers [] (z ∷ elements) each = elim each [ ]
+all_numbers (line ∷ lines) [] each = elim each [ ]
+all_numbers (line ∷ lines) (z ∷ elements) each = all_front IsNumber z elements (atom_number line z each.0) (all_numbers lines elements each.1)
+
 -- ---- the ends
 
 -- what was tested of the ends
@@ -81,27 +131,45 @@ bond_chosen atoms first second kind bond some =
     let same : made ≡ bond = (let e = h.1 in cc) in
     ap (λ (b : PlainBond). joins atoms b.first b.second b.kind) (sym same) ∙ h.0
 
--- the bond of a bond line lies between two of the atoms
-bond_between : (atoms : ℕ) (line : List ℕ) (bond : PlainBond) → bond_of atoms line ≡ Some bond → IsBetween atoms bond
+-- the bond of a bond line was tested
+bond_tested : (atoms : ℕ) (line : List ℕ) (bond : PlainBond) → bond_of atoms line ≡ Some bond → joins atoms bond.first bond.second bond.kind ≡ true
 unfolding bond_of
-bond_between atoms line bond some =
+bond_tested atoms line bond some =
     let a = guard_some (not (is_zero_at line 10 12 && is_zero_at line 16 18)) _ bond some in
     let first = bind_some (natural_at line 1 3) (λ (first : ℕ). option_and_then (λ (second : ℕ). option_and_then (λ (kind : ℕ). cond (joins atoms first second kind) (Some (record { first = first; second = second; kind = kind })) None) (natural_at line 7 9)) (natural_at line 4 6)) bond a.1 in
     let second = bind_some (natural_at line 4 6) (λ (second : ℕ). option_and_then (λ (kind : ℕ). cond (joins atoms first.0 second kind) (Some (record { first = first.0; second = second; kind = kind })) None) (natural_at line 7 9)) bond first.2 in
     let kind = bind_some (natural_at line 7 9) (λ (kind : ℕ). cond (joins atoms first.0 second.0 kind) (Some (record { first = first.0; second = second.0; kind = kind })) None) bond second.2 in
-    joins_between atoms bond (bond_chosen atoms first.0 second.0 kind.0 bond kind.2)
+    bond_chosen atoms first.0 second.0 kind.0 bond kind.2
 
--- one more at the front
-all_first : (atoms : ℕ) (bond : PlainBond) (bonds : List PlainBond) → IsBetween atoms bond → All (IsBetween atoms) bonds → All (IsBetween atoms) (bond ∷ bonds)
-all_first atoms bond bonds here there zero d lt = here
-all_first atoms bond bonds here there (suc k) d lt = there k d (omega arith)
+-- it lies between two of the atoms
+bond_between : (atoms : ℕ) (line : List ℕ) (bond : PlainBond) → bond_of atoms line ≡ Some bond → IsBetween atoms bond
+bond_between atoms line bond some = joins_between atoms bond (bond_tested atoms line bond some)
 
--- so do the bonds of all bond lines
+-- and is single or triple
+kind_by : (kind : ℕ) (single : Bool) → eqb kind 1 ≡ single → (single || eqb kind 3) ≡ true → (kind ≡ 1) ⊎ (kind ≡ 3)
+kind_by kind true e known = inl (grind (arith, nat_tests))
+kind_by kind false e known = inr (grind (arith, nat_tests))
+
+bond_known : (atoms : ℕ) (line : List ℕ) (bond : PlainBond) → bond_of atoms line ≡ Some bond → IsSingleOrTriple bond
+bond_known atoms line bond some =
+    let ends = both (leb 1 bond.first && leb bond.first atoms) _ (bond_tested atoms line bond some) in
+    let others = both (leb 1 bond.second && leb bond.second atoms) _ ends.1 in
+    let apart = both (not (eqb bond.first bond.second)) _ others.1 in
+    kind_by bond.kind _ refl apart.1
+
+-- so are the bonds of all bond lines
+all_known : (atoms : ℕ) (lines : List (List ℕ)) (bonds : List PlainBond) → AllZip (λ line bond. bond_of atoms line ≡ Some bond) lines bonds → All IsSingleOrTriple bonds
+all_known atoms [] [] each = λ k d lt. absurd (omega arith)
+all_known atoms [] (bond ∷ bonds) each = elim each [ ]
+all_known atoms (line ∷ lines) [] each = elim each [ ]
+all_known atoms (line ∷ lines) (bond ∷ bonds) each = all_front IsSingleOrTriple bond bonds (bond_known atoms line bond each.0) (all_known atoms lines bonds each.1)
+
+-- the bonds of all bond lines lie between two of the atoms
 all_between : (atoms : ℕ) (lines : List (List ℕ)) (bonds : List PlainBond) → AllZip (λ line bond. bond_of atoms line ≡ Some bond) lines bonds → All (IsBetween atoms) bonds
 all_between atoms [] [] each = λ k d lt. absurd (omega arith)
 all_between atoms [] (bond ∷ bonds) each = elim each [ ]
 all_between atoms (line ∷ lines) [] each = elim each [ ]
-all_between atoms (line ∷ lines) (bond ∷ bonds) each = all_first atoms bond bonds (bond_between atoms line bond each.0) (all_between atoms lines bonds each.1)
+all_between atoms (line ∷ lines) (bond ∷ bonds) each = all_front (IsBetween atoms) bond bonds (bond_between atoms line bond each.0) (all_between atoms lines bonds each.1)
 
 -- ---- pairs
 
@@ -170,6 +238,8 @@ keeps query lines table file =
       few_atoms = few.few_atoms;
       few_bonds = few.few_bonds;
       query_atoms = few.query_atoms;
+      elements = all_numbers file.atom_lines table.elements file.atoms;
+      kinds = all_known (length table.elements) file.bond_lines table.bonds file.bonds;
       ends = all_between (length table.elements) file.bond_lines table.bonds file.bonds;
       pairs = pairs_kept [] table.bonds tt file.in_order;
       degrees = degrees_kept [] table.bonds (λ atom. omega arith) file.in_order;

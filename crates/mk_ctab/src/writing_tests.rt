@@ -1,9 +1,9 @@
 // Tables and their texts, written out by hand.
 use crate::raw::{RawAtom, RawBond, RawList, RawTable};
-use crate::write_table;
 use crate::writing_checks::can_be_spelt;
+use crate::{TableFault, read_table, write_table};
 use mk_props::{AtomList, LinkEntry, Links, LogicLine, Pair, Pairs, Property, SiteOrder, Symbols};
-use mk_text::{Bytes, Listed, Memory};
+use mk_text::{Bytes, Listed, Memory, lines};
 use std::alloc::Global;
 use std::test::Fail;
 
@@ -232,15 +232,89 @@ fn table(alloc: Global, sketch: Sketch) -> Result<RawTable, Memory> {
     })
 }
 
+fn read_again(alloc: Global, text: &[u8]) -> Result<RawTable, TableFault> {
+    let spans = lines(alloc, text)?;
+    let (table, _next) = read_table(alloc, text, &spans, 0)?;
+    Ok(table)
+}
+
+fn has_atoms(table: &RawTable, sketch: &[(&str, i32, i32, i32)]) -> bool {
+    for (atom, (name, charge, hydrogens, valence)) in table.atoms.as_slice().iter().zip(sketch) {
+        if atom.symbol.as_slice() != name.as_bytes() {
+            return false;
+        }
+        if (atom.charge, atom.hydrogens, atom.valence) != (*charge, *hydrogens, *valence) {
+            return false;
+        }
+    }
+    table.atoms.as_slice().len() == sketch.len()
+}
+
+fn has_bonds(table: &RawTable, sketch: &[(i32, i32, i32, i32)]) -> bool {
+    for (bond, wanted) in table.bonds.as_slice().iter().zip(sketch) {
+        if (bond.first, bond.second, bond.kind, bond.topology) != *wanted {
+            return false;
+        }
+    }
+    table.bonds.as_slice().len() == sketch.len()
+}
+
+fn has_lists(table: &RawTable, sketch: &[(i32, bool, &[i32])]) -> bool {
+    for (list, (atom, not, numbers)) in table.lists.as_slice().iter().zip(sketch) {
+        if list.atom != *atom || list.not != *not || list.numbers.as_slice() != *numbers {
+            return false;
+        }
+    }
+    table.lists.as_slice().len() == sketch.len()
+}
+
+// Of a charge its value, of an `M  ALS` its flag and the number of its symbols, and of an `M  LOG` its numbers and its range.
+fn is_sketched(property: &Property, sketch: Sketched) -> bool {
+    match (property, sketch) {
+        (Property::Charge(pairs), Sketched::Charge([(_, value)])) => match pairs.as_slice() {
+            [pair] => pair.value == *value,
+            _ => false,
+        },
+        (Property::List(list), Sketched::List(atom, not, names)) => {
+            list.atom == atom && list.not == not && list.symbols.as_slice().len() == names.len()
+        }
+        (Property::Logic(logic), Sketched::Logic(group, then_group, rest, range)) => {
+            (logic.group, logic.then_group, logic.rest) == (group, then_group, rest)
+                && logic.range.as_slice() == range.as_bytes()
+        }
+        (_, Sketched::Charge(_) | Sketched::List(..) | Sketched::Logic(..)) => false,
+        _ => true,
+    }
+}
+
+fn has_properties(table: &RawTable, sketch: &[Sketched]) -> bool {
+    for (property, sketched) in table.props.as_slice().iter().zip(sketch) {
+        if !is_sketched(property, *sketched) {
+            return false;
+        }
+    }
+    table.props.as_slice().len() == sketch.len()
+}
+
 #[test]
-fn tables_are_written(rt: HostRuntime) -> Result<(), Fail> {
+fn tables_are_written_and_read_again(rt: HostRuntime) -> Result<(), Fail> {
     for (name, sketch, want) in ROWS {
-        let table = table(rt.alloc(), sketch)?;
-        assert!(rt; can_be_spelt(&table), "{name}");
+        let written = table(rt.alloc(), sketch)?;
+        assert!(rt; can_be_spelt(&written), "{name}");
         let mut out = Vec::from_slice(rt.alloc(), b"before\n")?;
-        write_table(rt.alloc(), &mut out, &table)?;
+        write_table(rt.alloc(), &mut out, &written)?;
         assert!(rt; out.starts_with(b"before\n"), "{name}");
         assert!(rt; &out[7..] == want.as_bytes(), "{name}");
+
+        let read = read_again(rt.alloc(), want.as_bytes())?;
+        assert!(rt; has_atoms(&read, sketch.atoms), "{name}");
+        assert!(rt; has_bonds(&read, sketch.bonds), "{name}");
+        assert!(rt; has_lists(&read, sketch.lists), "{name}");
+        assert!(rt; has_properties(&read, sketch.props), "{name}");
+        assert!(rt; can_be_spelt(&read), "{name}");
+        let mut again = Vec::new(rt.alloc());
+        write_table(rt.alloc(), &mut again, &read)?;
+        assert!(rt; again.as_slice() == want.as_bytes(), "{name}");
     }
     Ok(())
 }
