@@ -3,3 +3,4 @@ pub mod DegreeLemmas
 pub mod FillLemmas
 pub mod ForCallers
 pub mod MoleculeLemmas
+pub mod PlaceLemmas

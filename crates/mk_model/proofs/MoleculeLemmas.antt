@@ -1,6 +1,6 @@
 -- The bond between two atoms of a molecule is the one that is found among the bonds of one of them.
 use Rattle.std.proofs.Common.{◌≡◌, ◌≤◌, ◌<◌, ◌-◌, ℕ, zero, suc, true, List, [], ◌∷◌, Option, Some, None, refl, ap, sym, subst, ◌∙◌, length, get_or, arith, ⊎_elim}
-use Rattle.std.specs.Prelude.{All, slice_get, ◌↔◌}
+use Rattle.std.specs.Prelude.{All, map, slice_get, ◌↔◌}
 use Rattle.std.proofs.lemmas.List.{length-map, get_or-map, get_or_default}
 use Rattle.std.proofs.lemmas.List.Elements.{All-from_get_or}
 use Rattle.mk_model.specs.declared.edge.Edge.{Edge}
@@ -62,12 +62,12 @@ bond-exact mol a b (Some found) kept among bond = (
       ap Some (sym among.0.2 ∙ get_or_default mol.bonds k found bond among.0.1 ∙ ap (λ n. get_or mol.bonds n bond) same ∙ is.0.2),
 )
 
--- the numbers of an atom's bonds number bonds
-pub numbers-within : (bonds : List MolBond) (n : ℕ) (numbers : List ℕ) → numbers ≡ numbers_at (edges bonds) n → All (λ k. (1 ≤ k) × (k ≤ length bonds)) numbers
-numbers-within bonds n numbers is =
-    let each : All (λ k. (1 ≤ k) × (k ≤ length bonds)) (numbers_at (edges bonds) n) =
-    All-from_get_or (λ k. (1 ≤ k) × (k ≤ length bonds)) (numbers_at (edges bonds) n) 0
+-- the numbers of an atom's bonds number bonds, among bonds of any kind that are seen as edges
+pub numbers_within : {B : Type 0} (edge : B → Edge) (bonds : List B) (n : ℕ) (numbers : List ℕ) → numbers ≡ numbers_at (map edge bonds) n → All (λ k. (1 ≤ k) × (k ≤ length bonds)) numbers
+numbers_within edge bonds n numbers is =
+    let each : All (λ k. (1 ≤ k) × (k ≤ length bonds)) (numbers_at (map edge bonds) n) =
+    All-from_get_or (λ k. (1 ≤ k) × (k ≤ length bonds)) (numbers_at (map edge bonds) n) 0
     (λ i below.
-    let here = numbers_at-each (edges bonds) n i below in
-    (here.least, omega (arith, here.most, length-map bonds edge_of))) in
+    let here = numbers_at-each (map edge bonds) n i below in
+    (here.least, omega (arith, here.most, length-map bonds edge))) in
     rw is each

@@ -4,3 +4,7 @@ pub mod Filling
 pub mod Rings
 pub mod Aromatic
 pub mod Molecules
+pub mod Tests
+pub mod Graphs
+pub mod Fitting
+pub mod Hits

@@ -1,15 +1,30 @@
 // Edges of bonds, and the bond between two atoms among some.
 ghost use Rattle.std.specs.Prelude.{◌≡◌, ◌≤◌, ◌<◌, ◌-◌, ℕ, All, IfOk, MatchOption, length, slice_index, slice_index_or};
 ghost use Rattle.mk_model.specs.Edges.{HasEnds};
+ghost use Rattle.mk_model.specs.Graphs.{drawn_edges};
 ghost use Rattle.mk_model.specs.Molecules.{BondAmong, edge_of, edges};
 
-use crate::{Edge, MolBond};
+use crate::{Edge, GraphBond, MolBond};
 use mk_text::Memory;
 use std::alloc::Global;
 
 /// The bonds without their marks.
 pub fn edges_of(alloc: Global, bonds: &[MolBond]) -> Result<Vec<Edge>, Memory>
     ensures { IfOk result (λ list. list.items ≡ edges bonds.now) }
+{
+    bonds
+        .iter()
+        .map(|bond| Edge {
+            first: bond.first,
+            second: bond.second,
+            kind: bond.kind,
+        })
+        .collect(alloc)
+}
+
+/// The bonds of a graph without their tests and marks.
+pub fn graph_edges(alloc: Global, bonds: &[GraphBond]) -> Result<Vec<Edge>, Memory>
+    ensures { IfOk result (λ list. list.items ≡ drawn_edges bonds.now) }
 {
     bonds
         .iter()

@@ -8,16 +8,26 @@
 //! How the marks are found is left to mk_rings, and how a table becomes a molecule to the crates above.
 #![tactic(auto)]
 
+mod asking;
 mod edge;
+mod elements;
 mod finding;
+mod graph;
 mod molecule;
 mod neighbours;
 mod steps;
 #[cfg(test)]
 mod tests;
 
+pub use asking::{AtomTest, Kind};
 pub use edge::Edge;
-pub use mk_text::{Bytes, Memory, Place, Text};
+pub use elements::Elements;
+pub use finding::graph_edges;
+pub use graph::{Graph, GraphAtom, GraphBond};
+pub use mk_text::{Bytes, Memory, Numbers, Place, Text};
 pub use molecule::{Atom, Mol, MolBond};
 pub use neighbours::Neighbours;
 pub use steps::Steps;
+
+/// The atoms of a molecule on which those of a graph lie, in order.
+pub type Map = Numbers;

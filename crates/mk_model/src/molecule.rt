@@ -1,5 +1,5 @@
 // Molecules that keep their conditions in their type.
-ghost use Rattle.std.specs.Prelude.{◌≡◌, ◌≤◌, ◌-◌, ◌↔◌, IfOk, Some, length, slice_get};
+ghost use Rattle.std.specs.Prelude.{◌≡◌, ◌≤◌, ◌-◌, ◌↔◌, All, IfOk, Some, length, slice_get};
 
 use crate::finding::{edges_of, find_bond};
 use crate::neighbours::Neighbours;
@@ -109,6 +109,7 @@ impl Mol {
         requires least { 1 ≤ n }
         requires most { n ≤ length self.now.atoms }
         ensures numbers { result.now ≡ numbers_at (edges self.now.bonds) n }
+        ensures within { All (λ number. (1 ≤ number) × (number ≤ length self.now.bonds)) result.now }
         ensures kept { IsMolecule self.now }
     {
         self.neighbours.at(n)

@@ -1,8 +1,9 @@
 use Rattle.std.proofs.Common.{◌≡◌, ◌+◌, ◌-◌, ◌∙◌, Some, ap, sym, length, arith}
 use Rattle.std.specs.Prelude.{slice_get}
 use Rattle.mk_model.specs.Edges.{rows_of, numbers_at}
-use Rattle.mk_model.specs.Molecules.{edges}
+use Rattle.mk_model.specs.Molecules.{edge_of, edges}
 use Rattle.mk_model.proofs.DegreeLemmas.{length-rows_of, slice_get-rows_of}
+use Rattle.mk_model.proofs.MoleculeLemmas.{numbers_within}
 use Rattle.mk_model.proofs.molecule.Mol.bonds_at.Goals as goal
 
 pub at-requires-clause-most : goal.at-requires-clause-most
@@ -11,8 +12,8 @@ at-requires-clause-most c =
     let atoms : length c.self.inside.atoms.items ≡ length c.args.self.now.atoms = ap (λ m. length m.atoms) c.self.view_is in
     omega (arith, ap length rows, length-rows_of (length c.self.inside.atoms.items) (edges c.self.inside.bonds.items), atoms)
 
-pub returns-clause-numbers : goal.returns-clause-numbers
-returns-clause-numbers c =
+numbers : goal.returns-clause-numbers
+numbers c =
     let rows : c.self.inside.neighbours ≡ rows_of (length c.self.inside.atoms.items) (edges c.self.inside.bonds.items) = c.self.invariant.rows in
     let atoms : length c.self.inside.atoms.items ≡ length c.args.self.now.atoms = ap (λ m. length m.atoms) c.self.view_is in
     let bonds : edges c.self.inside.bonds.items ≡ edges c.args.self.now.bonds = ap (λ m. edges m.bonds) c.self.view_is in
@@ -22,3 +23,9 @@ returns-clause-numbers c =
     sym c.at.ensures ∙ ap (λ xs. slice_get xs (c.args.n - 1)) rows ∙ there in
     let list : c.at.result.now ≡ numbers_at (edges c.self.inside.bonds.items) (c.args.n - 1 + 1) = cc in
     list ∙ ap (numbers_at (edges c.self.inside.bonds.items)) number ∙ ap (λ xs. numbers_at xs c.args.n) bonds
+
+pub returns-clause-numbers : goal.returns-clause-numbers
+returns-clause-numbers c = numbers c
+
+pub returns-clause-within : goal.returns-clause-within
+returns-clause-within c = numbers_within edge_of c.args.self.now.bonds c.args.n _ (numbers c)

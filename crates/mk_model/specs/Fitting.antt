@@ -1,0 +1,99 @@
+-- Which atom and which bond of a molecule an atom and a bond of a graph may lie on.
+--     hydrogens_at mol m, others_at mol m, rings_at mol m     what is bonded to atom m, and its ring bonds
+--     drawn_hydrogens graph x, drawn_others graph x, drawn_rings graph x     the same of atom x of a graph
+--     FitsAtom graph mol x m       atom x of the graph accepts atom m of the molecule
+--     LiesOn mol asked a b         a bond of the molecule joins a and b and meets the test of a bond of the graph
+use Rattle.std.specs.Prelude.{◌≡◌, ◌==◌, ◌&&◌, ◌-◌, ℕ, Bool, true, false, not, List, Option, Some, None, slice_get, count_by, IsTrue, if◌then◌else◌}
+use Rattle.std.specs.List.{list_any}
+use Rattle.mk_model.specs.declared.edge.Edge.{Edge}
+use Rattle.mk_model.specs.declared.asking.Kind.{Kind}
+use Rattle.mk_model.specs.declared.asking.Kind.TheVariants.{Element}
+use Rattle.mk_model.specs.declared.graph.GraphAtom.{GraphAtom}
+use Rattle.mk_model.specs.declared.graph.GraphBond.{GraphBond}
+use Rattle.mk_model.specs.declared.molecule.Atom.{Atom}
+use Rattle.mk_model.specs.declared.molecule.MolBond.{MolBond}
+use Rattle.mk_model.specs.Edges.{touches}
+use Rattle.mk_model.specs.Molecules.{Molecule, IsBondOf, edge_of}
+use Rattle.mk_model.specs.Graphs.{Drawing, drawn_edge}
+use Rattle.mk_model.specs.Tests.{accepts, charge_fits, radical_fits, hydrogens_fit, ring_bonds_fit, substitution_fits, unsaturation_fits, is_unsaturated, meets}
+
+-- the end of a bond that isn't atom n
+abbrev pub other_end : ℕ → Edge → ℕ
+other_end n edge = if edge.first == n then edge.second else edge.first
+
+-- ---- around an atom of a molecule
+
+-- the atom of this number is hydrogen
+abbrev pub is_hydrogen : List Atom → ℕ → Bool
+is_hydrogen atoms n = is_at (slice_get atoms (n - 1))
+  where
+    is_at : Option Atom → Bool
+    is_at None = false
+    is_at (Some atom) = atom.element == 1
+
+-- the bonds of atom m that lead to a hydrogen
+abbrev pub hydrogens_at : Molecule → ℕ → ℕ
+hydrogens_at mol m = count_by (λ bond. touches m (edge_of bond) && is_hydrogen mol.atoms (other_end m (edge_of bond))) mol.bonds
+
+-- the bonds of atom m that lead to another atom
+abbrev pub others_at : Molecule → ℕ → ℕ
+others_at mol m = count_by (λ bond. touches m (edge_of bond) && not (is_hydrogen mol.atoms (other_end m (edge_of bond)))) mol.bonds
+
+-- the ring bonds of atom m
+abbrev pub rings_at : Molecule → ℕ → ℕ
+rings_at mol m = count_by (λ bond. touches m (edge_of bond) && bond.ring) mol.bonds
+
+-- some bond of atom m is unsaturated
+abbrev pub is_unsaturated_at : Molecule → ℕ → Bool
+is_unsaturated_at mol m = list_any (λ bond. touches m (edge_of bond) && is_unsaturated bond) mol.bonds
+
+-- ---- around an atom of a graph
+
+-- the kind is hydrogen and nothing else; a list that holds hydrogen isn't
+abbrev pub is_hydrogen_kind : Kind → Bool
+is_hydrogen_kind (Element z) = z == 1
+is_hydrogen_kind _ = false
+
+-- the atom of this number is drawn as a hydrogen
+abbrev pub is_drawn_hydrogen : List GraphAtom → ℕ → Bool
+is_drawn_hydrogen atoms n = is_at (slice_get atoms (n - 1))
+  where
+    is_at : Option GraphAtom → Bool
+    is_at None = false
+    is_at (Some atom) = is_hydrogen_kind atom.test.kind
+
+-- the bonds of atom x that lead to a drawn hydrogen
+abbrev pub drawn_hydrogens : Drawing → ℕ → ℕ
+drawn_hydrogens graph x = count_by (λ bond. touches x (drawn_edge bond) && is_drawn_hydrogen graph.atoms (other_end x (drawn_edge bond))) graph.bonds
+
+-- the bonds of atom x that lead to another atom
+abbrev pub drawn_others : Drawing → ℕ → ℕ
+drawn_others graph x = count_by (λ bond. touches x (drawn_edge bond) && not (is_drawn_hydrogen graph.atoms (other_end x (drawn_edge bond)))) graph.bonds
+
+-- the ring bonds of atom x
+abbrev pub drawn_rings : Drawing → ℕ → ℕ
+drawn_rings graph x = count_by (λ bond. touches x (drawn_edge bond) && bond.ring) graph.bonds
+
+-- ---- an atom on an atom
+
+-- every test of atom x of the graph is met by atom m of the molecule
+pub record FitsAtom (graph : Drawing) (mol : Molecule) (x m : ℕ) : Type 0 where
+  pub asked : GraphAtom
+  pub asked_at : slice_get graph.atoms (x - 1) ≡ Some asked
+  pub atom : Atom
+  pub atom_at : slice_get mol.atoms (m - 1) ≡ Some atom
+  pub kind : IsTrue (accepts asked.test.kind atom.element)
+  pub charge : IsTrue (charge_fits asked.test.charge atom.charge)
+  pub radical : IsTrue (radical_fits asked.test.radical atom.radical)
+  pub hydrogens : IsTrue (hydrogens_fit asked.test.hydrogens (drawn_hydrogens graph x) asked.free (hydrogens_at mol m))
+  pub ring_bonds : IsTrue (ring_bonds_fit asked.test.ring_bonds (drawn_rings graph x) (rings_at mol m))
+  pub substitution : IsTrue (substitution_fits asked.test.substitution (drawn_others graph x) asked.free (others_at mol m))
+  pub unsaturation : IsTrue (unsaturation_fits asked.test.unsaturated (is_unsaturated_at mol m))
+
+-- ---- a bond on a bond
+
+-- a bond of the molecule joins a and b and meets the test
+pub record LiesOn (mol : Molecule) (asked : GraphBond) (a b : ℕ) : Type 0 where
+  pub bond : MolBond
+  pub joins : IsBondOf mol a b bond
+  pub meets : IsTrue (meets asked bond)

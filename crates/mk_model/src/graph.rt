@@ -1,0 +1,101 @@
+// Graphs of queries that keep their conditions in their type.
+ghost use Rattle.std.specs.Prelude.{◌≡◌, ◌≤◌, All, IfOk, length};
+
+use crate::asking::AtomTest;
+use crate::finding::graph_edges;
+use crate::neighbours::Neighbours;
+use mk_text::Memory;
+use std::alloc::Global;
+use std::marker::Model;
+
+/// An atom of a graph: its test, and how many further neighbours it may have at its free ends.
+#[derive(Debug, Drop)]
+pub struct GraphAtom {
+    pub test: AtomTest,
+    pub free: u32,
+}
+
+/// A bond of a graph with its type and topology, and whether it is a ring bond and in the aromatic set of the graph.
+#[derive(Clone, Copy, Debug, PartialEq, Eq)]
+pub struct GraphBond {
+    pub first: u32,
+    pub second: u32,
+    pub kind: u8,
+    pub topology: u8,
+    pub ring: bool,
+    pub aromatic: bool,
+}
+
+/// What is looked for in a molecule: atoms with their tests, and bonds. Atoms and bonds count from 1.
+#[derive(Debug, Drop)]
+pub struct Graph {
+    atoms: Vec<GraphAtom>,
+    bonds: Vec<GraphBond>,
+    neighbours: Neighbours,
+}
+
+impl Model for Graph {
+    ghost use Rattle.mk_model.specs.Graphs.{Drawing, IsKeptDrawing};
+
+    ghost Value = { Drawing };
+
+    ghost view = { λ g. record { atoms = g.atoms.items; bonds = g.bonds.items } };
+
+    ghost invariant = { λ g. IsKeptDrawing (record { atoms = g.atoms.items; bonds = g.bonds.items }) g.neighbours };
+}
+
+impl Graph {
+    ghost use Rattle.mk_model.specs.Edges.{numbers_at};
+    ghost use Rattle.mk_model.specs.Graphs.{Drawing, IsDrawing, drawn_edges};
+
+    /// Takes the lists over and adds the neighbour lists.
+    pub fn of(
+        alloc: Global,
+        atoms: Vec<GraphAtom>,
+        bonds: Vec<GraphBond>,
+    ) -> Result<Graph, Memory>
+        requires { IsDrawing (record { atoms = atoms.items; bonds = bonds.items }) }
+        ensures { IfOk result (λ graph. graph ≡ record { atoms = atoms.items; bonds = bonds.items }) }
+    {
+        let edges = graph_edges(alloc, bonds.as_slice())?;
+        let neighbours = Neighbours::of(alloc, atoms.len() as u32, edges.as_slice())?;
+        Ok(Graph {
+            atoms,
+            bonds,
+            neighbours,
+        })
+    }
+
+    pub fn atom_count(&self) -> u32
+        ensures count { result ≡ length self.now.atoms }
+        ensures few { result ≤ 512 }
+        ensures kept { IsDrawing self.now }
+    {
+        self.atoms.len() as u32
+    }
+
+    pub fn atoms(&self) -> &[GraphAtom]
+        ensures list { result.now ≡ self.now.atoms }
+        ensures kept { IsDrawing self.now }
+    {
+        self.atoms.as_slice()
+    }
+
+    pub fn bonds(&self) -> &[GraphBond]
+        ensures list { result.now ≡ self.now.bonds }
+        ensures kept { IsDrawing self.now }
+    {
+        self.bonds.as_slice()
+    }
+
+    /// Gives the numbers of the bonds of atom x, rising.
+    pub fn bonds_at(&self, x: u32) -> &[u32]
+        requires least { 1 ≤ x }
+        requires most { x ≤ length self.now.atoms }
+        ensures numbers { result.now ≡ numbers_at (drawn_edges self.now.bonds) x }
+        ensures within { All (λ number. (1 ≤ number) × (number ≤ length self.now.bonds)) result.now }
+        ensures kept { IsDrawing self.now }
+    {
+        self.neighbours.at(x)
+    }
+}
