@@ -7,3 +7,4 @@ pub mod TreeLemmas
 pub mod SixLemmas
 pub mod RoundLemmas
 pub mod SearchLemmas
+pub mod GraphLemmas

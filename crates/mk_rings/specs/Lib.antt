@@ -2,3 +2,4 @@ pub mod Forests
 pub mod Growing
 pub mod Marks
 pub mod SixRings
+pub mod Bare

@@ -12,6 +12,7 @@ mod aromatic;
 #[cfg(test)]
 mod checks;
 mod forest;
+mod graphs;
 mod marking;
 mod node;
 mod six_rings;
@@ -20,4 +21,5 @@ mod spreading;
 mod tests;
 
 pub use aromatic::aromatic_bonds;
+pub use graphs::marked_graph;
 pub use marking::ring_bonds;

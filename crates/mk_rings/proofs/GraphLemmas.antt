@@ -1,0 +1,125 @@
+-- A sketch whose bonds are marked is a graph.
+--     put_none, put_more      the marks that are put so far
+--     marked_sketch           a sketch is one whatever its marks are
+--     marked_drawing          and a graph with the marks of its own bonds
+use Rattle.std.proofs.Common.{◌≡◌, ℕ, zero, suc, ◌+◌, ◌<◌, ◌≤◌, inl, inr, Bool, false, List, [], ◌∷◌, Some, length, get_or, set, map, refl, sym, ap, subst, ◌∙◌, arith, All, length-set, get_or-set_other, get_or-set_same}
+use Rattle.std.specs.Prelude.{AllPairs, ◌≢◌, ◌↔◌, IsTrue, slice_get}
+use Rattle.std.proofs.lemmas.Bool.{cases_eq}
+use Rattle.std.proofs.lemmas.List.{length-map, get_or-map, get_or_default}
+use Rattle.std.proofs.lemmas.List.Elements.{All-map}
+use Rattle.std.proofs.Math.Seq.{map-set_same}
+use Rattle.mk_model.specs.declared.edge.Edge.{Edge}
+use Rattle.mk_model.specs.declared.graph.GraphAtom.{GraphAtom}
+use Rattle.mk_model.specs.declared.graph.GraphBond.{GraphBond}
+use Rattle.mk_model.specs.Edges.{IsGraph}
+use Rattle.mk_model.specs.Rings.{IsRingBond}
+use Rattle.mk_model.specs.Aromatic.{IsAromatic}
+use Rattle.mk_model.specs.Tests.{IsBondInRange}
+use Rattle.mk_model.specs.Graphs.{Drawing, HasDrawnMarks, IsBefore, IsDrawing, IsSketch, drawn_edge, drawn_edges}
+use Rattle.mk_model.proofs.PlaceLemmas.{all_mapped, place_is, place_within}
+use Rattle.mk_rings.specs.Bare.{bare_bond, bare_bonds}
+use Rattle.mk_rings.specs.Marks.{Marks}
+
+-- ---- putting the marks
+
+-- the bonds up to this place have their marks, and nothing else has changed
+pub record HasPut (rings aromatics : List Bool) (old new : List GraphBond) (b : ℕ) : Type 0 where
+  pub size : length new ≡ length old
+  pub same : bare_bonds new ≡ bare_bonds old
+  pub ring : (k : ℕ) (d : GraphBond) → k < b → k < length new → (get_or new k d).ring ≡ get_or rings k false
+  pub aromatic : (k : ℕ) (d : GraphBond) → k < b → k < length new → (get_or new k d).aromatic ≡ get_or aromatics k false
+
+pub put_none : (rings aromatics : List Bool) (old : List GraphBond) → HasPut rings aromatics old old 0
+put_none rings aromatics old = record { size = refl; same = refl; ring = λ k d below within. absurd (omega arith); aromatic = λ k d below within. absurd (omega arith) }
+
+pub put_more : (rings aromatics : List Bool) (old new : List GraphBond) (b : ℕ) (bond d : GraphBond) → b < length new → bond ≡ record (get_or new b d) { ring = get_or rings b false; aromatic = get_or aromatics b false } → HasPut rings aromatics old new b → HasPut rings aromatics old (set new b bond) (b + 1)
+put_more rings aromatics old new b bond d within is put = record {
+  size = length-set new b bond ∙ put.size;
+  same = map-set_same bare_bond new b bond d (ap bare_bond is) ∙ put.same;
+  ring = λ k e below inside.
+      elim (cases_eq k b) [
+        | inl here ↦ rw (here, get_or-set_same new b bond e within) (ap (λ (x : GraphBond). x.ring) is)
+        | inr other ↦ rw (get_or-set_other new b k bond e other) (put.ring k e (omega arith) (omega (arith, length-set new b bond)))
+      ];
+  aromatic = λ k e below inside.
+      elim (cases_eq k b) [
+        | inl here ↦ rw (here, get_or-set_same new b bond e within) (ap (λ (x : GraphBond). x.aromatic) is)
+        | inr other ↦ rw (get_or-set_other new b k bond e other) (put.aromatic k e (omega arith) (omega (arith, length-set new b bond)))
+      ];
+}
+
+-- ---- what doesn't depend on the marks
+
+-- what holds of each bond whatever its marks are holds of the others that are the same without theirs
+all_bare : (P : GraphBond → Type 0) (old new : List GraphBond) → ((bond : GraphBond) → P (bare_bond bond) → P bond) → ((bond : GraphBond) → P bond → P (bare_bond bond)) → bare_bonds new ≡ bare_bonds old → All P old → All P new
+all_bare P old new to from same all =
+    let bare : All (λ bond. P (bare_bond bond)) old = λ k d below. from (get_or old k d) (all k d below) in
+    let moved : All P (bare_bonds new) = rw same (All-map P bare_bond old bare) in
+    λ k d below. to (get_or new k d) (all_mapped bare_bond P new moved k d below)
+
+-- how many there are
+pub same_length : (old new : List GraphBond) → bare_bonds new ≡ bare_bonds old → length new ≡ length old
+same_length old new same = sym (length-map new bare_bond) ∙ ap length same ∙ length-map old bare_bond
+
+-- each without its marks
+pub same_at : (old new : List GraphBond) (k : ℕ) (d : GraphBond) → bare_bonds new ≡ bare_bonds old → k < length new → bare_bond (get_or new k d) ≡ bare_bond (get_or old k d)
+same_at old new k d same below =
+    sym (get_or-map bare_bond new k d (bare_bond d) below) ∙ ap (λ (xs : List GraphBond). get_or xs k (bare_bond d)) same
+    ∙ get_or-map bare_bond old k d (bare_bond d) (let long = same_length old new same in omega arith)
+
+-- the edges
+edges_bare : (bonds : List GraphBond) → drawn_edges (bare_bonds bonds) ≡ drawn_edges bonds
+edges_bare [] = refl
+edges_bare (bond ∷ bonds) = ap (λ (edges : List Edge). drawn_edge bond ∷ edges) (edges_bare bonds)
+
+pub same_edges : (old new : List GraphBond) → bare_bonds new ≡ bare_bonds old → drawn_edges new ≡ drawn_edges old
+same_edges old new same = sym (edges_bare new) ∙ ap drawn_edges same ∙ edges_bare old
+
+-- the order
+before_bare : (b c b' c' : GraphBond) → bare_bond b' ≡ bare_bond b → bare_bond c' ≡ bare_bond c → IsBefore b c → IsBefore b' c'
+before_bare b c b' c' first second before =
+    let f : b'.first ≡ b.first = ap (λ (x : GraphBond). x.first) first in
+    let g : c'.first ≡ c.first = ap (λ (x : GraphBond). x.first) second in
+    let h : b'.second ≡ b.second = ap (λ (x : GraphBond). x.second) first in
+    let i : c'.second ≡ c.second = ap (λ (x : GraphBond). x.second) second in
+    elim before [
+      | inl less ↦ inl (omega arith)
+      | inr same ↦ inr (f ∙ same.0 ∙ sym g, omega (arith, same.1))
+    ]
+
+-- a sketch is one whatever its marks are
+pub marked_sketch : (atoms : List GraphAtom) (old new : List GraphBond) → bare_bonds new ≡ bare_bonds old → IsSketch (record { atoms = atoms; bonds = old }) → IsSketch (record { atoms = atoms; bonds = new })
+marked_sketch atoms old new same is = record {
+  few = is.few;
+  tests = is.tests;
+  bond_tests = all_bare IsBondInRange old new (λ bond r. record { kind = r.kind; topology = r.topology }) (λ bond r. record { kind = r.kind; topology = r.topology }) same is.bond_tests;
+  graph = subst (IsGraph (length atoms)) (sym (same_edges old new same)) is.graph;
+  lower_first = all_bare (λ bond. bond.first < bond.second) old new (λ bond h. h) (λ bond h. h) same is.lower_first;
+  order = λ i j d below within.
+      let long = same_length old new same in
+      before_bare (get_or old i d) (get_or old j d) (get_or new i d) (get_or new j d) (same_at old new i d same (omega arith)) (same_at old new j d same within) (is.order i j d below (omega arith));
+}
+
+-- ---- the graph
+
+-- a mark is what the definition says
+mark_is : (b : ℕ) (mark : Bool) (marks : List Bool) (P : ℕ → Type 0) → mark ≡ get_or marks b false → IsTrue (get_or marks b false) ↔ P b → IsTrue mark ↔ P b
+mark_is b mark marks P is exact = (λ true. exact.0 (sym is ∙ true), λ holds. is ∙ exact.1 holds)
+
+-- the marks are those of the bonds
+pub marked_drawing : (atoms : List GraphAtom) (old new : List GraphBond) (rings aromatics : List Bool) → bare_bonds new ≡ bare_bonds old → IsSketch (record { atoms = atoms; bonds = old })
+    → Marks (IsRingBond (drawn_edges old)) (drawn_edges old) rings → Marks (IsAromatic (drawn_edges old)) (drawn_edges old) aromatics
+    → ((b : ℕ) (d : GraphBond) → b < length new → (get_or new b d).ring ≡ get_or rings b false) → ((b : ℕ) (d : GraphBond) → b < length new → (get_or new b d).aromatic ≡ get_or aromatics b false)
+    → IsDrawing (record { atoms = atoms; bonds = new })
+marked_drawing atoms old new rings aromatics same is by_ring by_aromatic ring aromatic = record {
+  sketch = marked_sketch atoms old new same is;
+  marks = λ b bond at.
+      let below : b < length new = place_within new b bond at in
+      let there : get_or new b bond ≡ bond = place_is new b bond bond at in
+      let edges : drawn_edges old ≡ drawn_edges new = sym (same_edges old new same) in
+      let inside : b < length (drawn_edges old) = (let long = same_length old new same in omega (arith, length-map old drawn_edge)) in
+      subst (λ (es : List Edge). HasDrawnMarks es b bond) edges (record {
+        ring = mark_is b bond.ring rings (IsRingBond (drawn_edges old)) (sym (ap (λ (x : GraphBond). x.ring) there) ∙ ring b bond below) (by_ring.each b inside);
+        aromatic = mark_is b bond.aromatic aromatics (IsAromatic (drawn_edges old)) (sym (ap (λ (x : GraphBond). x.aromatic) there) ∙ aromatic b bond below) (by_aromatic.each b inside);
+      });
+}

@@ -1,0 +1,18 @@
+use Rattle.std.proofs.Common.{◌≡◌, ◌∙◌, ℕ, false, List, ap, get_or, subst}
+use Rattle.mk_model.specs.declared.edge.Edge.{Edge}
+use Rattle.mk_model.specs.Aromatic.{IsAromatic}
+use Rattle.mk_model.specs.Graphs.{drawn_edges}
+use Rattle.mk_model.specs.Rings.{IsRingBond}
+use Rattle.mk_rings.specs.Marks.{Marks}
+use Rattle.mk_rings.proofs.GraphLemmas.{marked_drawing}
+use Rattle.mk_rings.proofs.graphs.marked_graph.Goals as goal
+
+pub of-requires : goal.of-requires
+of-requires c =
+    let bonds = c.args.bonds.items in
+    let edges : c.in_ok-edges.edges.items ≡ drawn_edges bonds = c.in_ok-edges.ensures ∙ ap drawn_edges c.deref.ensures.value in
+    marked_drawing c.args.atoms.items bonds c.put_marks.new.bonds.items c.in_ok-rings.rings.items c.in_ok-aromatics.aromatics.items c.put_marks.ensures.same c.requires
+    (subst (λ (es : List Edge). Marks (IsRingBond es) es c.in_ok-rings.rings.items) (c.deref-2.ensures.value ∙ edges) c.in_ok-rings.ensures)
+    (subst (λ (es : List Edge). Marks (IsAromatic es) es c.in_ok-aromatics.aromatics.items) (c.deref-3.ensures.value ∙ edges) c.in_ok-aromatics.ensures)
+    (λ b d below. c.put_marks.ensures.ring b d below ∙ ap (λ marks. get_or marks b false) c.deref-4.ensures.value)
+    (λ b d below. c.put_marks.ensures.aromatic b d below ∙ ap (λ marks. get_or marks b false) c.deref-5.ensures.value)
