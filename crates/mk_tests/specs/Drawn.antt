@@ -1,0 +1,30 @@
+-- What the builders of tests keep of the drawn bonds that they are given.
+--     StandsBefore edge next       the lower end is lower, or the same and the other one lower
+--     AreInOrder atoms edges       the ends are atoms, the lower one first, and the bonds are in order
+--     AreMarked edge ring aromatic edges rings aromatics bonds      the bonds are the edges with their marks
+use Rattle.std.specs.Prelude.{◌≡◌, ◌≤◌, ◌<◌, ◌⊎◌, ℕ, Bool, false, List, All, AllPairs, length, slice_index_or}
+use Rattle.mk_model.specs.declared.edge.Edge.{Edge}
+
+-- the lower end is lower, or the same and the other one lower
+abbrev pub StandsBefore : Edge → Edge → Type 0
+StandsBefore edge next = (edge.first < next.first) ⊎ ((edge.first ≡ next.first) × (edge.second < next.second))
+
+-- the ends are atoms, the lower one first
+abbrev pub IsDrawn : ℕ → Edge → Type 0
+IsDrawn atoms edge = (1 ≤ edge.first) × (edge.first < edge.second) × (edge.second ≤ atoms)
+
+-- the ends are atoms, the lower one first, and the bonds are in order
+pub record AreInOrder (atoms : ℕ) (edges : List Edge) : Type 0 where
+  pub ends : All (IsDrawn atoms) edges
+  pub order : AllPairs StandsBefore edges
+
+-- the bond is the edge at this place with its marks
+pub record IsMarkedEdge {B : Type 0} (edge : B → Edge) (ring aromatic : B → Bool) (edges : List Edge) (rings aromatics : List Bool) (b : ℕ) (bond : B) : Type 0 where
+  pub edge_is : slice_index_or edges b (edge bond) ≡ edge bond
+  pub ring_is : slice_index_or rings b false ≡ ring bond
+  pub aromatic_is : slice_index_or aromatics b false ≡ aromatic bond
+
+-- the bonds are the first edges with their marks
+abbrev pub AreMarked : {B : Type 0} → (B → Edge) → (B → Bool) → (B → Bool) → List Edge → List Bool → List Bool → List B → Type 0
+AreMarked {B} edge ring aromatic edges rings aromatics bonds =
+    (b : ℕ) (d : B) → b < length bonds → IsMarkedEdge edge ring aromatic edges rings aromatics b (slice_index_or bonds b d)

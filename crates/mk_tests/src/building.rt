@@ -1,0 +1,202 @@
+// Molecules and graphs for tests, from their atoms and drawn bonds.
+ghost use Rattle.std.specs.Prelude.{◌≡◌, All, IfOk, IsTrue, length};
+ghost use Rattle.mk_model.specs.Graphs.{drawn_edge};
+ghost use Rattle.mk_model.specs.Molecules.{edge_of, IsElement};
+ghost use Rattle.mk_model.specs.Tests.{IsBondInRange, IsKindInRange, IsListOfElements, IsTestInRange};
+ghost use Rattle.mk_tests.specs.Drawn.{AreInOrder, AreMarked, IsDrawn, StandsBefore};
+
+use mk_model::{Atom, AtomTest, Edge, Graph, GraphAtom, GraphBond, Kind, Memory, Mol, MolBond};
+use mk_rings::{aromatic_bonds, ring_bonds};
+use std::alloc::Global;
+use std::test::Fail;
+
+/// Builds a molecule, all of whose atoms are written. Each bond is written with its lower end first, and the bonds in order.
+pub fn mol_of(alloc: Global, atoms: Vec<Atom>, edges: &[Edge]) -> Result<Mol, Fail> {
+    if atoms.len() > 512 || !have_elements(&atoms) {
+        return Err(Fail::from("a molecule's atoms"));
+    }
+    let count = atoms.len() as u32;
+    if edges.len() > 9999 || !are_in_order(count, edges) {
+        return Err(Fail::from("a molecule's bonds"));
+    }
+    let rings = ring_bonds(alloc, count, edges)?;
+    let aromatics = aromatic_bonds(alloc, count, edges)?;
+    let bonds = mol_bonds(alloc, edges, &rings, &aromatics)?;
+    Ok(Mol::of(alloc, count, atoms, bonds)?)
+}
+
+/// Builds a graph. Each bond is written with its lower end first, and the bonds in order.
+pub fn graph_of(
+    alloc: Global,
+    atoms: Vec<GraphAtom>,
+    edges: &[Edge],
+    topologies: &[u8],
+) -> Result<Graph, Fail> {
+    if atoms.len() > 512 || !have_tests(&atoms) {
+        return Err(Fail::from("a graph's atoms"));
+    }
+    let count = atoms.len() as u32;
+    if topologies.len() != edges.len() || !are_in_order(count, edges) {
+        return Err(Fail::from("a graph's bonds"));
+    }
+    let rings = ring_bonds(alloc, count, edges)?;
+    let aromatics = aromatic_bonds(alloc, count, edges)?;
+    let bonds = graph_bonds(alloc, edges, topologies, &rings, &aromatics)?;
+    if !have_bond_tests(&bonds) {
+        return Err(Fail::from("a graph's bond tests"));
+    }
+    Ok(Graph::of(alloc, atoms, bonds)?)
+}
+
+// The bonds with their marks.
+fn mol_bonds(
+    alloc: Global,
+    edges: &[Edge],
+    rings: &[bool],
+    aromatics: &[bool],
+) -> Result<Vec<MolBond>, Memory>
+    requires rings { length rings.now ≡ length edges.now }
+    requires aromatics { length aromatics.now ≡ length edges.now }
+    ensures size { IfOk result (λ bonds. length bonds.items ≡ length edges.now) }
+    ensures marks { IfOk result (λ bonds. AreMarked edge_of (λ bond. bond.ring) (λ bond. bond.aromatic) edges.now rings.now aromatics.now bonds.items) }
+{
+    let mut bonds = Vec::new(alloc);
+    for b in 0..edges.len() {
+        bonds.push(MolBond {
+            first: edges[b].first,
+            second: edges[b].second,
+            kind: edges[b].kind,
+            ring: rings[b],
+            aromatic: aromatics[b],
+        })?;
+    }
+    Ok(bonds)
+}
+
+// The bonds with their topologies and marks.
+fn graph_bonds(
+    alloc: Global,
+    edges: &[Edge],
+    topologies: &[u8],
+    rings: &[bool],
+    aromatics: &[bool],
+) -> Result<Vec<GraphBond>, Memory>
+    requires topologies { length topologies.now ≡ length edges.now }
+    requires rings { length rings.now ≡ length edges.now }
+    requires aromatics { length aromatics.now ≡ length edges.now }
+    ensures size { IfOk result (λ bonds. length bonds.items ≡ length edges.now) }
+    ensures marks { IfOk result (λ bonds. AreMarked drawn_edge (λ bond. bond.ring) (λ bond. bond.aromatic) edges.now rings.now aromatics.now bonds.items) }
+{
+    let mut bonds = Vec::new(alloc);
+    for b in 0..edges.len() {
+        bonds.push(GraphBond {
+            first: edges[b].first,
+            second: edges[b].second,
+            kind: edges[b].kind,
+            topology: topologies[b],
+            ring: rings[b],
+            aromatic: aromatics[b],
+        })?;
+    }
+    Ok(bonds)
+}
+
+// The ends of each bond are atoms, the lower one first, and each bond stands before those behind it.
+fn are_in_order(atoms: u32, edges: &[Edge]) -> bool
+    ensures { IsTrue result → AreInOrder atoms edges.now }
+{
+    for b in 0..edges.len() {
+        if !is_drawn(atoms, edges[b]) {
+            return false;
+        }
+        for c in 0..b {
+            if !stands_before(edges[c], edges[b]) {
+                return false;
+            }
+        }
+    }
+    true
+}
+
+fn is_drawn(atoms: u32, edge: Edge) -> bool
+    ensures { IsTrue result → IsDrawn atoms edge }
+{
+    1 <= edge.first && edge.first < edge.second && edge.second <= atoms
+}
+
+fn stands_before(edge: Edge, next: Edge) -> bool
+    ensures { IsTrue result → StandsBefore edge next }
+{
+    edge.first < next.first || edge.first == next.first && edge.second < next.second
+}
+
+fn have_elements(atoms: &[Atom]) -> bool
+    ensures { IsTrue result → All (λ atom. IsElement atom.element) atoms.now }
+{
+    atoms
+        .iter()
+        .all(|atom| 1 <= atom.element && atom.element <= 118)
+}
+
+fn have_bond_tests(bonds: &[GraphBond]) -> bool
+    ensures { IsTrue result → All IsBondInRange bonds.now }
+{
+    for bond in bonds {
+        if bond.kind < 1 || bond.kind > 8 {
+            return false;
+        }
+        if bond.topology > 2 {
+            return false;
+        }
+    }
+    true
+}
+
+fn have_tests(atoms: &[GraphAtom]) -> bool
+    ensures { IsTrue result → All (λ atom. IsTestInRange atom.test) atoms.now }
+{
+    for atom in atoms {
+        if !is_test(&atom.test) {
+            return false;
+        }
+    }
+    true
+}
+
+fn is_test(test: &AtomTest) -> bool
+    ensures { IsTrue result → IsTestInRange test.now }
+{
+    if !is_kind(&test.kind) {
+        return false;
+    }
+    if test.charge < -15 || test.charge > 15 {
+        return false;
+    }
+    if test.radical > 3 || test.hydrogens > 5 {
+        return false;
+    }
+    if test.ring_bonds < -2 || test.ring_bonds > 4 || test.ring_bonds == 1 {
+        return false;
+    }
+    -2 <= test.substitution && test.substitution <= 6
+}
+
+fn is_kind(kind: &Kind) -> bool
+    ensures { IsTrue result → IsKindInRange kind.now }
+{
+    match kind {
+        Kind::Element(z) => 1 <= *z && *z <= 118,
+        Kind::OneOf(list) => is_list(list.as_slice()),
+        Kind::NoneOf(list) => is_list(list.as_slice()),
+        _ => true,
+    }
+}
+
+fn is_list(list: &[u8]) -> bool
+    ensures { IsTrue result → IsListOfElements list.now }
+{
+    if list.len() < 1 || list.len() > 16 {
+        return false;
+    }
+    list.iter().all(|z| 1 <= *z && *z <= 118)
+}

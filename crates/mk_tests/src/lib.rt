@@ -1,0 +1,25 @@
+//! What the atoms and the bonds of a query ask of a molecule, tested.
+//!
+//! Callers use two promises. `atom_fits` tells whether an atom of a graph accepts an atom of a molecule, and `bond_fits`
+//! whether a bond of the molecule joins two atoms and meets the test of a bond of the graph, by the definitions of mk_model
+//! (`specs/Fitting.antt` and `specs/Tests.antt` there).
+//!
+//! Neither takes memory, and neither looks at more than the bonds of one atom on each side. Counts are made only where their
+//! column asks for them. Which atoms are tried is left to the matcher.
+#![tactic(auto)]
+
+mod atom_counts;
+mod atoms;
+mod bonds;
+#[cfg(test)]
+mod building;
+mod columns;
+mod drawn_counts;
+mod ends;
+mod kinds;
+mod numbered;
+#[cfg(test)]
+mod tests;
+
+pub use atoms::atom_fits;
+pub use bonds::bond_fits;
