@@ -1,0 +1,127 @@
+-- The first atoms of a hit, one after another.
+--     begun_more        what may stand behind the first atoms goes on with them
+--     hit_begins        each atom of a hit may stand behind those before it
+--     begun_whole       as many atoms as the graph has are a hit
+use Rattle.std.proofs.Common.{◌≡◌, ◌≢◌, ℕ, zero, suc, ◌+◌, ◌<◌, ◌≤◌, ◌-◌, inl, inr, List, [], ◌∷◌, ◌++◌, length, get_or, refl, sym, ap, subst, ◌∙◌, arith, All, length-append}
+use Rattle.std.specs.Prelude.{AllPairs, slice_index}
+use Rattle.std.proofs.lemmas.Bool.{cases_lt}
+use Rattle.std.proofs.Math.ListN.{get_or-append}
+use Rattle.std.proofs.Math.Seq.{get_or-append_seam}
+use Rattle.std.proofs.lemmas.List.Elements.{All-push}
+use Rattle.std.proofs.lemmas.List.Quantifiers.{all_pairs_push}
+use Rattle.mk_model.specs.declared.graph.GraphBond.{GraphBond}
+use Rattle.mk_model.specs.Molecules.{Molecule}
+use Rattle.mk_model.specs.Graphs.{Drawing}
+use Rattle.mk_model.specs.Fitting.{FitsAtom, LiesOn}
+use Rattle.mk_model.specs.Hits.{image, IsHit}
+use Rattle.mk_match.specs.Search.{IsBegun, MayStand, Completes}
+
+-- the images of the first atoms stay
+image_first : (first others : List ℕ) (x : ℕ) → 1 ≤ x → x ≤ length first → image (first ++ others) x ≡ image first x
+image_first first others x least most = get_or-append first others 0 (x - 1) (omega arith)
+
+-- the next one is the one behind them
+image_next : (first others : List ℕ) (a x : ℕ) → x ≡ length first + 1 → image (first ++ (a ∷ others)) x ≡ a
+image_next first others a x is =
+    let place : x - 1 ≡ length first = omega arith in
+    rw place (get_or-append_seam first a others 0)
+
+-- a bond lies on a bond, whatever its ends are called
+lies_by : (mol : Molecule) (bond : GraphBond) (a b c d : ℕ) → a ≡ c → b ≡ d → LiesOn mol bond a b → LiesOn mol bond c d
+lies_by mol bond a b c d first second lies =
+    let P : ℕ → Type 0 = λ n. LiesOn mol bond n d in
+    let Q : ℕ → Type 0 = λ n. LiesOn mol bond a n in
+    subst P first (subst Q second lies)
+
+-- how long the first atoms and one more are
+one_longer : (first : List ℕ) (a : ℕ) → length (first ++ (a ∷ [])) ≡ length first + 1
+one_longer first a = length-append first (a ∷ [])
+
+-- ---- one atom more
+
+module _ (graph : Drawing) (mol : Molecule) (first : List ℕ) (a : ℕ) where
+  -- the test of each atom is met
+  atoms_more : IsBegun graph mol first → MayStand graph mol first a → (x : ℕ) → 1 ≤ x → x ≤ length (first ++ (a ∷ [])) → FitsAtom graph mol x (image (first ++ (a ∷ [])) x)
+  atoms_more begun stands x least most =
+      let P : ℕ → Type 0 = λ n. FitsAtom graph mol x n in
+      elim (cases_lt (length first) x) [
+        | inl last ↦
+            let is : x ≡ length first + 1 = omega (arith, one_longer first a) in
+            let Q : ℕ → Type 0 = λ n. FitsAtom graph mol n a in
+            subst P (sym (image_next first [] a x is)) (subst Q (sym is) stands.fits)
+        | inr early ↦ subst P (sym (image_first first (a ∷ []) x least early)) (begun.atoms x least early)
+      ]
+
+  -- and so is that of each bond
+  bonds_more : All (λ bond. bond.first < bond.second) graph.bonds → All (λ bond. 1 ≤ bond.first) graph.bonds → IsBegun graph mol first → MayStand graph mol first a
+      → All (λ bond. bond.second ≤ length (first ++ (a ∷ [])) → LiesOn mol bond (image (first ++ (a ∷ [])) bond.first) (image (first ++ (a ∷ [])) bond.second)) graph.bonds
+  bonds_more lower least begun stands = λ k d within up_to.
+      let bond : GraphBond = get_or graph.bonds k d in
+      let less : bond.first < bond.second = lower k d within in
+      let from : 1 ≤ bond.first = least k d within in
+      let long = one_longer first a in
+      let early : bond.first ≤ length first = omega arith in
+      let same : image first bond.first ≡ image (first ++ (a ∷ [])) bond.first = sym (image_first first (a ∷ []) bond.first from early) in
+      elim (cases_lt (length first) bond.second) [
+        | inl last ↦
+            let is : bond.second ≡ length first + 1 = omega arith in
+            lies_by mol bond _ _ _ _ same (sym (image_next first [] a bond.second is)) (stands.bonds k d within is)
+        | inr up ↦
+            let from' : 1 ≤ bond.second = omega arith in
+            lies_by mol bond _ _ _ _ same (sym (image_first first (a ∷ []) bond.second from' up)) (begun.bonds k d within up)
+      ]
+
+  -- what may stand behind the first atoms goes on with them
+  pub begun_more : All (λ bond. bond.first < bond.second) graph.bonds → All (λ bond. 1 ≤ bond.first) graph.bonds → IsBegun graph mol first → MayStand graph mol first a
+      → length first < length graph.atoms → 1 ≤ a → a ≤ length mol.atoms → IsBegun graph mol (first ++ (a ∷ []))
+  begun_more lower least begun stands room from to = record {
+    short = (let long = one_longer first a in omega arith);
+    within = All-push (λ n. (1 ≤ n) × (n ≤ length mol.atoms)) first a begun.within (from, to);
+    distinct = all_pairs_push (λ m n. m ≢ n) first a begun.distinct (λ k d within. stands.new k d within);
+    atoms = atoms_more begun stands;
+    bonds = bonds_more lower least begun stands;
+  }
+
+  -- ---- the atoms of a hit
+
+  -- a hit goes on behind the first atoms with one of the molecule that may stand there
+  pub hit_begins : All (λ bond. bond.first < bond.second) graph.bonds → All (λ bond. 1 ≤ bond.first) graph.bonds → (others : List ℕ) → IsHit graph mol (first ++ (a ∷ others))
+      → MayStand graph mol first a × (1 ≤ a) × (a ≤ length mol.atoms)
+  hit_begins lower least others hit =
+      let long : length (first ++ (a ∷ others)) ≡ length first + suc (length others) = length-append first (a ∷ others) in
+      let here : get_or (first ++ (a ∷ others)) (length first) 0 ≡ a = get_or-append_seam first a others 0 in
+      let below : length first < length (first ++ (a ∷ others)) = omega arith in
+      let P : ℕ → Type 0 = λ n. (1 ≤ n) × (n ≤ length mol.atoms) in
+      let in_range : (1 ≤ a) × (a ≤ length mol.atoms) = subst P here (hit.within (length first) 0 below) in
+      let Q : ℕ → Type 0 = λ n. FitsAtom graph mol (length first + 1) n in
+      let up_to : length first + 1 ≤ length graph.atoms = omega (arith, hit.one_each) in
+      let from : 1 ≤ length first + 1 = omega arith in
+      (record {
+        fits = subst Q (image_next first others a (length first + 1) refl) (hit.atoms (length first + 1) from up_to);
+        new = λ k d within same.
+            hit.distinct k (length first) d within below
+            (get_or-append first (a ∷ others) d k within ∙ same ∙ sym (get_or-append_seam first a others d));
+        bonds = λ k d within is.
+            let bond : GraphBond = get_or graph.bonds k d in
+            let less : bond.first < bond.second = lower k d within in
+            let from' : 1 ≤ bond.first = least k d within in
+            let early : bond.first ≤ length first = omega arith in
+            lies_by mol bond _ _ _ _ (image_first first (a ∷ others) bond.first from' early) (image_next first others a bond.second is) (hit.bonds k d within);
+      }, in_range.0, in_range.1)
+
+-- ---- the whole
+
+-- as many atoms as the graph has are a hit
+pub begun_whole : (graph : Drawing) (mol : Molecule) (first : List ℕ) → All (λ bond. bond.second ≤ length graph.atoms) graph.bonds → IsBegun graph mol first → length first ≡ length graph.atoms → IsHit graph mol first
+begun_whole graph mol first within begun whole = record {
+  one_each = whole;
+  within = begun.within;
+  distinct = begun.distinct;
+  atoms = λ x least most. (let up_to : x ≤ length first = omega arith in begun.atoms x least up_to);
+  bonds = λ k d below. (let up_to = within k d below in begun.bonds k d below (omega arith));
+}
+
+-- a hit has no more atoms than the graph
+pub no_more : (graph : Drawing) (mol : Molecule) (first others : List ℕ) → length first ≡ length graph.atoms → IsHit graph mol (first ++ others) → others ≡ []
+no_more graph mol first [] whole hit = refl
+no_more graph mol first (a ∷ others) whole hit = absurd (omega (arith, hit.one_each, length-append first (a ∷ others)))

@@ -1,0 +1,125 @@
+-- The ends of an atom's bonds, and the least of them above a number.
+--     least_end_more      one more end
+--     no_end_between      no atom that is bonded lies between the number and the least end above it
+--     no_end_above        and none lies above it where there is no such end
+use Rattle.std.proofs.Common.{◌≡◌, ℕ, zero, suc, ◌+◌, ◌<◌, ◌≤◌, ◌-◌, inl, inr, Bool, true, false, cond, eqb, leb, min, List, [], ◌∷◌, ◌++◌, length, get_or, map, Option, Some, None, refl, sym, ap, subst, ◌∙◌, arith, All}
+use Rattle.std.specs.Prelude.{IfNone, IfSome, slice_get, nat_le}
+use Rattle.std.proofs.lemmas.Bool.Decides.{nat_tests}
+use Rattle.std.proofs.lemmas.List.{length-map, get_or-map}
+use Rattle.std.proofs.lemmas.List.Elements.{All-push}
+use Rattle.mk_model.specs.declared.edge.Edge.{Edge}
+use Rattle.mk_model.specs.declared.molecule.MolBond.{MolBond}
+use Rattle.mk_model.specs.Edges.{HasEnds, numbers_at, touches}
+use Rattle.mk_model.specs.Molecules.{Molecule, IsMolecule, edge_of, edges}
+use Rattle.mk_model.specs.Fitting.{other_end}
+use Rattle.mk_model.proofs.ForCallers.{numbers_at-all}
+use Rattle.mk_model.proofs.MoleculeLemmas.{touches-ends}
+use Rattle.mk_model.proofs.PlaceLemmas.{at_place}
+use Rattle.mk_match.specs.Search.{AreBonded, IsCandidate, IsLeastEnd, end_numbered, lesser_end}
+
+-- ---- one more end
+
+-- the bound goes down
+lower_bound : (bonds : List MolBond) (n above least lower : ℕ) (numbers : List ℕ) → lower ≤ least → All (λ number. above < end_numbered bonds number n → least ≤ end_numbered bonds number n) numbers → All (λ number. above < end_numbered bonds number n → lower ≤ end_numbered bonds number n) numbers
+lower_bound bonds n above least lower numbers down all = λ k d below over. (let so_far = all k d below over in omega arith)
+
+-- where no end is above the number so far, any bound holds
+any_bound : (bonds : List MolBond) (n above lower : ℕ) (numbers : List ℕ) → All (λ number. end_numbered bonds number n ≤ above) numbers → All (λ number. above < end_numbered bonds number n → lower ≤ end_numbered bonds number n) numbers
+any_bound bonds n above lower numbers all = λ k d below over. (let so_far = all k d below in absurd (omega arith))
+
+module _ (bonds : List MolBond) (n : ℕ) (numbers : List ℕ) (above number : ℕ) where
+  none_by : (b : Bool) → nat_le (end_numbered bonds number n) above ≡ b → IsLeastEnd bonds n numbers above None → IsLeastEnd bonds n (numbers ++ number ∷ []) above (cond b None (Some (end_numbered bonds number n)))
+  none_by true e all = All-push (λ m. end_numbered bonds m n ≤ above) numbers number all (grind (arith, nat_tests))
+  none_by false e all = (
+    grind (arith, nat_tests),
+    All-push (λ m. above < end_numbered bonds m n → end_numbered bonds number n ≤ end_numbered bonds m n) numbers number
+    (any_bound bonds n above (end_numbered bonds number n) numbers all) (λ over. omega arith),
+  )
+
+  some_by : (least : ℕ) (b : Bool) → nat_le (end_numbered bonds number n) above ≡ b → IsLeastEnd bonds n numbers above (Some least) → IsLeastEnd bonds n (numbers ++ number ∷ []) above (cond b (Some least) (Some (min least (end_numbered bonds number n))))
+  some_by least true e is = (is.0, All-push (λ m. above < end_numbered bonds m n → least ≤ end_numbered bonds m n) numbers number is.1 (λ over. absurd (grind (arith, nat_tests))))
+  some_by least false e is = (
+    (let over : above < end_numbered bonds number n = grind (arith, nat_tests) in omega (arith, is.0)),
+    All-push (λ m. above < end_numbered bonds m n → min least (end_numbered bonds number n) ≤ end_numbered bonds m n) numbers number
+    (lower_bound bonds n above least (min least (end_numbered bonds number n)) numbers (omega arith) is.1) (λ over. omega arith),
+  )
+
+  -- one more end
+  pub least_end_more : (least : Option ℕ) → IsLeastEnd bonds n numbers above least → IsLeastEnd bonds n (numbers ++ number ∷ []) above (lesser_end least above (end_numbered bonds number n))
+  least_end_more None is = none_by _ refl is
+  least_end_more (Some least) is = some_by least _ refl is
+
+-- ---- the ends are the atoms that are bonded
+
+-- by which end comes first
+other_by : (edge : Edge) (n b : ℕ) (t : Bool) → eqb edge.first n ≡ t → HasEnds edge n b → cond t edge.second edge.first ≡ b
+other_by edge n b true e (inl h) = h.1
+other_by edge n b true e (inr h) = (let same : edge.first ≡ n = grind (arith, nat_tests) in h.1 ∙ sym same ∙ h.0)
+other_by edge n b false e (inl h) = absurd (grind (arith, nat_tests, h.0))
+other_by edge n b false e (inr h) = h.0
+
+-- the place of a bonded atom's bond in the list of an atom's bonds
+pub record IsEndAt (mol : Molecule) (n b : ℕ) : Type 0 where
+  pub place : ℕ
+  pub within : place < length (numbers_at (edges mol.bonds) n)
+  pub is : end_numbered mol.bonds (get_or (numbers_at (edges mol.bonds) n) place 0) n ≡ b
+
+-- the end of a bond that stands at a place
+end_is : (bonds : List MolBond) (bond : MolBond) (number k n b : ℕ) → k < length bonds → get_or bonds k bond ≡ bond → number ≡ k + 1 → HasEnds (edge_of bond) n b → end_numbered bonds number n ≡ b
+end_is bonds bond number k n b below here is ends =
+    let place : number - 1 ≡ k = omega arith in
+    let at : slice_get bonds k ≡ Some bond = at_place bonds k bond below ∙ ap Some here in
+    rw (place, at) (other_by (edge_of bond) n b _ refl ends)
+
+-- each bonded atom is an end
+pub bonded_end : (mol : Molecule) (n b : ℕ) → AreBonded mol n b → IsEndAt mol n b
+bonded_end mol n b bonded =
+    let bond = bonded.0 in
+    let k = bonded.1.0.0 in
+    let below : k < length mol.bonds = bonded.1.0.1 in
+    let here : get_or mol.bonds k bond ≡ bond = bonded.1.0.2 in
+    let ends : HasEnds (edge_of bond) n b = bonded.1.1 in
+    let edge_is : get_or (edges mol.bonds) k (edge_of bond) ≡ edge_of bond = get_or-map edge_of mol.bonds k bond (edge_of bond) below ∙ ap edge_of here in
+    let touched : touches n (get_or (edges mol.bonds) k (edge_of bond)) ≡ true = rw edge_is (touches-ends (edge_of bond) n b ends) in
+    let at = numbers_at-all (edges mol.bonds) n k (edge_of bond) (omega (arith, length-map mol.bonds edge_of)) touched in
+    record { place = at.0; within = at.1; is = end_is mol.bonds bond _ k n b below here at.2 ends }
+
+-- none lies between the number and the least end above it
+pub no_end_between : (mol : Molecule) (n above least b : ℕ) → IsLeastEnd mol.bonds n (numbers_at (edges mol.bonds) n) above (Some least) → above < b → b < least → AreBonded mol n b → ⊥
+no_end_between mol n above least b is over under bonded =
+    let end = bonded_end mol n b bonded in
+    let over' : above < end_numbered mol.bonds (get_or (numbers_at (edges mol.bonds) n) end.place 0) n = omega (arith, end.is) in
+    let bound = is.1 end.place 0 end.within over' in
+    omega (arith, end.is)
+
+-- and none above it where there is no such end
+pub no_end_above : (mol : Molecule) (n above b : ℕ) → IsLeastEnd mol.bonds n (numbers_at (edges mol.bonds) n) above None → above < b → AreBonded mol n b → ⊥
+no_end_above mol n above b is over bonded =
+    let end = bonded_end mol n b bonded in
+    let bound = is end.place 0 end.within in
+    omega (arith, end.is)
+
+-- ---- for the answers of the code
+
+-- the lesser of two atoms is one
+pub lesser_within : (least : Option ℕ) (above end most : ℕ) → IfSome least (λ a. a ≤ most) → end ≤ most → IfSome (lesser_end least above end) (λ a. a ≤ most)
+lesser_within None above end most so_far within = none_within (nat_le end above)
+  where
+    none_within : (b : Bool) → IfSome (cond b None (Some end)) (λ a. a ≤ most)
+    none_within true = tt
+    none_within false = within
+lesser_within (Some least) above end most so_far within = some_within (nat_le end above)
+  where
+    some_within : (b : Bool) → IfSome (cond b (Some least) (Some (min least end))) (λ a. a ≤ most)
+    some_within true = so_far
+    some_within false = omega arith
+
+-- what the least end says of the atoms between
+pub ends_between : (mol : Molecule) (n above : ℕ) (found : Option ℕ) → IsLeastEnd mol.bonds n (numbers_at (edges mol.bonds) n) above found → IfSome found (λ a. (b : ℕ) → above < b → b < a → IsCandidate mol (Some n) b → b ≤ length mol.atoms → ⊥)
+ends_between mol n above None is = tt
+ends_between mol n above (Some least) is = λ b over under bonded within. no_end_between mol n above least b is over under bonded
+
+-- and of those above
+pub ends_above : (mol : Molecule) (n above : ℕ) (found : Option ℕ) → IsLeastEnd mol.bonds n (numbers_at (edges mol.bonds) n) above found → IfNone found ((b : ℕ) → above < b → IsCandidate mol (Some n) b → b ≤ length mol.atoms → ⊥)
+ends_above mol n above None is = λ b over bonded within. no_end_above mol n above b is over bonded
+ends_above mol n above (Some least) is = tt

@@ -1,0 +1,47 @@
+-- The bonds of the next atom to earlier ones, by their numbers.
+--     met_all      where each of the next atom's bonds is met, all bonds are that end at it
+--     met_each     and the other way round
+use Rattle.std.proofs.Common.{◌≡◌, ℕ, ◌+◌, ◌<◌, ◌≤◌, ◌-◌, true, List, Some, length, get_or, refl, sym, ap, subst, ◌∙◌, arith, All}
+use Rattle.std.specs.Prelude.{slice_get}
+use Rattle.std.proofs.lemmas.List.{length-map, get_or-map}
+use Rattle.mk_model.specs.declared.edge.Edge.{Edge}
+use Rattle.mk_model.specs.declared.graph.GraphBond.{GraphBond}
+use Rattle.mk_model.specs.Edges.{numbers_at, touches}
+use Rattle.mk_model.specs.Molecules.{Molecule}
+use Rattle.mk_model.specs.Graphs.{Drawing, drawn_edge, drawn_edges}
+use Rattle.mk_model.specs.Fitting.{LiesOn}
+use Rattle.mk_model.specs.Hits.{image}
+use Rattle.mk_model.proofs.DegreeLemmas.{touches-second}
+use Rattle.mk_model.proofs.ForCallers.{numbers_at-all}
+use Rattle.mk_model.proofs.PlaceLemmas.{all_at, at_place, place_is}
+use Rattle.mk_match.specs.Search.{IsMetAt}
+
+module _ (graph : Drawing) (mol : Molecule) (first : List ℕ) (a : ℕ) where
+  -- where each of the next atom's bonds is met, all bonds are that end at it
+  pub met_all : All (IsMetAt graph mol first a) (numbers_at (drawn_edges graph.bonds) (length first + 1)) → All (λ bond. bond.second ≡ length first + 1 → LiesOn mol bond (image first bond.first) a) graph.bonds
+  met_all all = λ k d below is.
+      let bond : GraphBond = get_or graph.bonds k d in
+      let edge_is : get_or (drawn_edges graph.bonds) k (drawn_edge d) ≡ drawn_edge bond = get_or-map drawn_edge graph.bonds k d (drawn_edge d) below in
+      let ends : touches (length first + 1) (drawn_edge bond) ≡ true = subst (λ (n : ℕ). touches n (drawn_edge bond) ≡ true) is (touches-second (drawn_edge bond)) in
+      let touched : touches (length first + 1) (get_or (drawn_edges graph.bonds) k (drawn_edge d)) ≡ true = rw edge_is ends in
+      let at = numbers_at-all (drawn_edges graph.bonds) (length first + 1) k (drawn_edge d) (omega (arith, length-map graph.bonds drawn_edge)) touched in
+      let place : get_or (numbers_at (drawn_edges graph.bonds) (length first + 1)) at.0 0 - 1 ≡ k = omega (arith, at.2) in
+      all at.0 0 at.1 bond (rw place (at_place graph.bonds k d below)) is
+
+  -- and the other way round
+  pub met_each : All (λ bond. bond.second ≡ length first + 1 → LiesOn mol bond (image first bond.first) a) graph.bonds → (number : ℕ) → IsMetAt graph mol first a number
+  met_each all number bond at is = all_at (λ (b : GraphBond). b.second ≡ length first + 1 → LiesOn mol b (image first b.first) a) graph.bonds (number - 1) bond all at is
+
+  -- a bond that doesn't end at the next atom asks for nothing
+  pub met_elsewhere : (number : ℕ) (bond : GraphBond) → slice_get graph.bonds (number - 1) ≡ Some bond → (bond.second ≡ length first + 1 → ⊥) → IsMetAt graph mol first a number
+  met_elsewhere number bond at other asked asked_at is = (let same : bond ≡ asked = cc in absurd (other (ap (λ (b : GraphBond). b.second) same ∙ is)))
+
+  -- one that does, by the test of that bond
+  pub met_by : (number n : ℕ) (bond : GraphBond) → slice_get graph.bonds (number - 1) ≡ Some bond → n ≡ image first bond.first → LiesOn mol bond n a → IsMetAt graph mol first a number
+  met_by number n bond at is_image lies asked asked_at is =
+      let same : bond ≡ asked = cc in
+      let here : LiesOn mol bond (image first bond.first) a = subst (λ (m : ℕ). LiesOn mol bond m a) is_image lies in
+      subst (λ (b : GraphBond). LiesOn mol b (image first b.first) a) same here
+
+  pub lies_where_met : (number n : ℕ) (bond : GraphBond) → slice_get graph.bonds (number - 1) ≡ Some bond → n ≡ image first bond.first → bond.second ≡ length first + 1 → IsMetAt graph mol first a number → LiesOn mol bond n a
+  lies_where_met number n bond at is_image is met = subst (λ (m : ℕ). LiesOn mol bond m a) (sym is_image) (met bond at is)

@@ -1,0 +1,69 @@
+-- The plain program: it tries all lists of atoms.
+--     is_hit graph mol hit       the tests of a hit, for one atom for each atom of the graph
+--     hits_of graph mol          the lists that pass, in rising order
+--     HitsAreListed              they are the rising list of all hits
+use Rattle.std.specs.Prelude.{◌-◌, ◌+◌, ◌==◌, ◌&&◌, ◌||◌, ℕ, Bool, true, false, not, List, [], ◌∷◌, Option, Some, None, length, filter, slice_get}
+use Rattle.std.specs.List.{list_all, list_any}
+use Rattle.mk_text.specs.Choices.{choices}
+use Rattle.mk_model.specs.declared.edge.Edge.{Edge}
+use Rattle.mk_model.specs.declared.graph.GraphAtom.{GraphAtom}
+use Rattle.mk_model.specs.declared.graph.GraphBond.{GraphBond}
+use Rattle.mk_model.specs.declared.molecule.Atom.{Atom}
+use Rattle.mk_model.specs.Molecules.{Molecule, edge_of}
+use Rattle.mk_model.specs.Graphs.{Drawing}
+use Rattle.mk_model.specs.Tests.{accepts, charge_fits, hydrogens_fit, meets, radical_fits, ring_bonds_fit, substitution_fits, unsaturation_fits}
+use Rattle.mk_model.specs.Fitting.{drawn_hydrogens, drawn_others, drawn_rings, hydrogens_at, is_unsaturated_at, others_at, rings_at}
+use Rattle.mk_model.specs.Hits.{AreHits, image}
+
+-- every test of atom x, which asks this, is met by atom m, which is this
+abbrev pub meets_all : Drawing → Molecule → ℕ → ℕ → GraphAtom → Atom → Bool
+meets_all graph mol x m asked atom =
+    (accepts asked.test.kind atom.element && (charge_fits asked.test.charge atom.charge && radical_fits asked.test.radical atom.radical))
+    && (hydrogens_fit asked.test.hydrogens (drawn_hydrogens graph x) asked.free (hydrogens_at mol m)
+    && (ring_bonds_fit asked.test.ring_bonds (drawn_rings graph x) (rings_at mol m)
+    && (substitution_fits asked.test.substitution (drawn_others graph x) asked.free (others_at mol m)
+    && unsaturation_fits asked.test.unsaturated (is_unsaturated_at mol m))))
+
+-- the same, where there are such atoms
+abbrev pub meets_some : Drawing → Molecule → ℕ → ℕ → Option GraphAtom → Option Atom → Bool
+meets_some graph mol x m None atom = false
+meets_some graph mol x m (Some asked) None = false
+meets_some graph mol x m (Some asked) (Some atom) = meets_all graph mol x m asked atom
+
+-- atom x of the graph accepts atom m of the molecule
+abbrev pub fits_atom : Drawing → Molecule → ℕ → ℕ → Bool
+fits_atom graph mol x m = meets_some graph mol x m (slice_get graph.atoms (x - 1)) (slice_get mol.atoms (m - 1))
+
+-- the ends of a bond are a and b, in either order
+abbrev pub has_ends : Edge → ℕ → ℕ → Bool
+has_ends edge a b = ((edge.first == a) && (edge.second == b)) || ((edge.first == b) && (edge.second == a))
+
+-- a bond of the molecule joins a and b and meets the test
+abbrev pub lies_on : Molecule → GraphBond → ℕ → ℕ → Bool
+lies_on mol asked a b = list_any (λ bond. has_ends (edge_of bond) a b && meets asked bond) mol.bonds
+
+-- no atom stands twice
+abbrev pub are_distinct : List ℕ → Bool
+are_distinct [] = true
+are_distinct (a ∷ others) = not (list_any (λ b. b == a) others) && are_distinct others
+
+-- the atoms from number x on are accepted, one by one
+abbrev pub atoms_fit : Drawing → Molecule → ℕ → List ℕ → Bool
+atoms_fit graph mol x [] = true
+atoms_fit graph mol x (a ∷ others) = fits_atom graph mol x a && atoms_fit graph mol (x + 1) others
+
+-- each bond of the graph lies on a bond that meets its test
+abbrev pub bonds_fit : Drawing → Molecule → List ℕ → Bool
+bonds_fit graph mol hit = list_all (λ asked. lies_on mol asked (image hit asked.first) (image hit asked.second)) graph.bonds
+
+-- the tests of a hit
+unfoldable pub is_hit : Drawing → Molecule → List ℕ → Bool
+is_hit graph mol hit = are_distinct hit && (atoms_fit graph mol 1 hit && bonds_fit graph mol hit)
+
+-- the lists of one atom for each atom of the graph that pass, in rising order
+unfoldable pub hits_of : Drawing → Molecule → List (List ℕ)
+hits_of graph mol = filter (is_hit graph mol) (choices (length mol.atoms) (length graph.atoms))
+
+-- they are the rising list of all hits: so there is such a list for every graph and molecule
+abbrev pub HitsAreListed : Type 0
+HitsAreListed = (graph : Drawing) (mol : Molecule) → AreHits graph mol (hits_of graph mol)
