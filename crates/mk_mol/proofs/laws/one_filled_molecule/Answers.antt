@@ -1,0 +1,5 @@
+use Rattle.mk_mol.proofs.LawLemmas.{one_filled}
+use Rattle.mk_mol.proofs.laws.one_filled_molecule.Goals as goal
+
+pub returns : goal.returns
+returns c = one_filled

@@ -1,0 +1,21 @@
+use Rattle.std.proofs.Common.{sym, ◌∙◌, refl}
+use Rattle.std.specs.Prelude.{pos, negsuc}
+use Rattle.std.proofs.lemmas.Bool.{true≢false, false≢true}
+use Rattle.std.proofs.lemmas.List.{take_all}
+use Rattle.std.proofs.lemmas.List.Elements.{All-more}
+use Rattle.mk_props.specs.declared.property.Pair.{Pair}
+use Rattle.mk_mol.specs.Numbers.{IsWithin}
+use Rattle.mk_mol.proofs.property_checks.are_charges.Goals as goal
+
+pub loop-pair-preserved : goal.loop-pair-preserved
+loop-pair-preserved c =
+    All-more (λ (pair : Pair). IsWithin (negsuc 14) (pos 15) pair.value) c.args.pairs.now c.loop-pair.pair-index _ c.loop-pair-test.true c.loop-pair.invariant (c.is_charge.ensures.0 c.if-not-is_charge.false)
+
+pub returns-then-not-is_charge : goal.returns-then-not-is_charge
+returns-then-not-is_charge c = (
+  λ t. absurd (false≢true t),
+  λ all. absurd (true≢false (sym (c.is_charge.ensures.1 (all c.loop-pair.pair-index _ c.loop-pair-test.true)) ∙ c.if-not-is_charge.true)),
+)
+
+pub returns : goal.returns
+returns c = (λ t. rw (take_all c.loop-pair.pair-index c.args.pairs.now c.loop-pair-test.false) at c.loop-pair.invariant, λ all. refl)

@@ -1,0 +1,63 @@
+-- The checks of a molecule's table in their order, and the first that fails.
+--     Check                            the seven checks; `number` gives their numbers
+--     Demands table check item         what a check demands of the item of a number
+--     PassesAll table                  every check passes at every item
+--     IsFirstFault table check item    the first check that fails, and its least item
+use Rattle.std.specs.Prelude.{◌≡◌, ◌<◌, ◌≤◌, ◌-◌, ℕ, [], length, take}
+use Rattle.mk_model.specs.Filling.{degree}
+use Rattle.mk_ctab.specs.declared.raw.RawTable.{RawTable}
+use Rattle.mk_mol.specs.Checks.{OfItem, IsKnownAtom, IsNewBond, HasKnownType, edges_of, NamesAtoms, HasKnownValues, IsOfMolecules}
+
+pub data Check : Type 0 where
+  known_atoms : Check
+  new_bonds : Check
+  known_types : Check
+  few_bonds : Check
+  named_atoms : Check
+  known_values : Check
+  known_properties : Check
+
+-- the checks count from 1
+abbrev pub number : Check → ℕ
+number known_atoms = 1
+number new_bonds = 2
+number known_types = 3
+number few_bonds = 4
+number named_atoms = 5
+number known_values = 6
+number known_properties = 7
+
+-- What a check demands of the item of a number, which is an atom, a bond or a property. The atom lists together are item 0
+-- of the last check. An item that isn't there is right.
+abbrev pub Demands : RawTable → Check → ℕ → Type 0
+Demands table known_atoms item = OfItem IsKnownAtom table.atoms item
+Demands table new_bonds item = OfItem (IsNewBond (length table.atoms) (take (item - 1) table.bonds)) table.bonds item
+Demands table known_types item = OfItem HasKnownType table.bonds item
+Demands table few_bonds item = OfItem (λ _. degree (edges_of table.bonds) item ≤ 20) table.atoms item
+Demands table named_atoms item = OfItem (NamesAtoms (length table.atoms)) table.props item
+Demands table known_values item = OfItem HasKnownValues table.props item
+Demands table known_properties item = (item ≡ 0 → table.lists ≡ []) × OfItem IsOfMolecules table.props item
+
+-- the check passes at every item
+abbrev pub Passes : RawTable → Check → Type 0
+Passes table check = (item : ℕ) → Demands table check item
+
+-- every check passes
+abbrev pub PassesAll : RawTable → Type 0
+PassesAll table = (check : Check) → Passes table check
+
+-- the demand fails at this item, and holds at every lower one
+pub record IsLeastFailing (Demand : ℕ → Type 0) (item : ℕ) : Type 0 where
+  pub lower : (j : ℕ) → j < item → Demand j
+  pub fails : ¬ (Demand item)
+
+-- the checks of lower numbers pass
+abbrev pub PassesBelow : RawTable → ℕ → Type 0
+PassesBelow table n = (check : Check) → number check < n → Passes table check
+
+-- the checks before this one pass, and this one fails at this item and at no lower one
+pub record IsFirstFault (table : RawTable) (n item : ℕ) : Type 0 where
+  pub check : Check
+  pub numbered : number check ≡ n
+  pub before : PassesBelow table n
+  pub least : IsLeastFailing (Demands table check) item
