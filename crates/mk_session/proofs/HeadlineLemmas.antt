@@ -7,9 +7,9 @@ use Rattle.mk_outside.specs.Told.{Puts, AppendsPrefix}
 use Rattle.mk_session.specs.declared.status.Status.{Status}
 use Rattle.mk_session.specs.declared.status.Status.TheVariants.{Done, Refused, Words, Read, Write, Store, Memory, BadStore, ScriptLong}
 use Rattle.mk_session.specs.declared.outcome.Outcome.{Outcome}
-use Rattle.mk_session.specs.Running.{run_of, IsOfAnswer}
+use Rattle.mk_session.specs.Run.{IsRun}
+use Rattle.mk_session.specs.Running.{IsOfAnswer}
 use Rattle.mk_session.specs.Headline.{IsWhole, IsCut, Leaves}
-use Rattle.mk_session.proofs.RunLemmas.{found}
 
 -- a put that was done appended the whole piece
 put_done : {A : Type 0} (done : A) (old new : Option (List ℕ)) (piece bytes so_far : List ℕ) → Puts old new piece (Ok done) → old ≡ Some so_far → piece ≡ bytes → new ≡ Some (so_far ++ bytes)
@@ -28,14 +28,14 @@ put_failed fail (Some old) new piece bytes so_far result is failed puts told sam
     subst (λ (xs : List ℕ). AppendsPrefix xs new bytes) was (subst (λ (xs : List ℕ). AppendsPrefix old new xs) same appends)
 
 -- the whole of a run was written
-pub whole : {A : Type 0} (words : List (List ℕ)) (look : List ℕ → Option (List ℕ)) (so_far piece : List ℕ) (old new : Option (List ℕ)) (o : Outcome) (done : A) → run_of words look ≡ Some o → Puts old new piece (Ok done) → old ≡ Some so_far → piece ≡ o.bytes → IsWhole words look so_far new o.status
+pub whole : {A : Type 0} (words : List (List ℕ)) (look : List ℕ → Option (List ℕ)) (so_far piece : List ℕ) (old new : Option (List ℕ)) (o : Outcome) (done : A) → IsRun words look o → Puts old new piece (Ok done) → old ≡ Some so_far → piece ≡ o.bytes → IsWhole words look so_far new o.status
 whole words look so_far piece old new o done run puts told same =
-    record { outcome = o; run = found words look o run; bytes = put_done done old new piece o.bytes so_far puts told same; ends = refl }
+    record { outcome = o; run = run; bytes = put_done done old new piece o.bytes so_far puts told same; ends = refl }
 
 -- a prefix of it was
-pub cut : {A : Type 0} (words : List (List ℕ)) (look : List ℕ → Option (List ℕ)) (so_far piece : List ℕ) (old new : Option (List ℕ)) (o : Outcome) (fail : PutFail) (result : Result A PutFail) → run_of words look ≡ Some o → result ≡ Err fail → fail ≡ put.Failed → Puts old new piece result → old ≡ Some so_far → piece ≡ o.bytes → IsCut words look so_far new
+pub cut : {A : Type 0} (words : List (List ℕ)) (look : List ℕ → Option (List ℕ)) (so_far piece : List ℕ) (old new : Option (List ℕ)) (o : Outcome) (fail : PutFail) (result : Result A PutFail) → IsRun words look o → result ≡ Err fail → fail ≡ put.Failed → Puts old new piece result → old ≡ Some so_far → piece ≡ o.bytes → IsCut words look so_far new
 cut words look so_far piece old new o fail result run is failed puts told same =
-    record { outcome = o; run = found words look o run; bytes = put_failed fail old new piece o.bytes so_far result is failed puts told same }
+    record { outcome = o; run = run; bytes = put_failed fail old new piece o.bytes so_far result is failed puts told same }
 
 -- a status that an answer ends with says that the whole was written
 pub leaves_whole : (understood : Bool) (words : List (List ℕ)) (look : List ℕ → Option (List ℕ)) (so_far : List ℕ) (new : Option (List ℕ)) (status : Status) → IsOfAnswer understood status → IsWhole words look so_far new status → Leaves words look so_far new status

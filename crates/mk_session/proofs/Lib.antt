@@ -1,7 +1,7 @@
-pub mod BondListLemmas
-pub mod SearchLemmas
-pub mod NextLemmas
-pub mod StepLemmas
-pub mod HitLemmas
+pub mod ListingLemmas
+pub mod QueryGraphLemmas
+pub mod RecordLemmas
+pub mod RecordReadingLemmas
+mod RecordOnLiterals
 pub mod RunLemmas
 pub mod HeadlineLemmas

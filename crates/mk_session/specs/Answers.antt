@@ -1,7 +1,23 @@
 -- The bytes of an answer.
---     hits_text hits most      a line for each listed hit, and whether there may be more
+--     hits_text hits most         a line for each listed hit, and whether there may be more
+--     bad_line_text k             the refusal of a molecules' file at its first bad line
+--     v3000_text k                the same where that line says V3000
+--     check_text check item       the refusal of a record at the first check that fails
 use Rattle.std.specs.Prelude.{ℕ, List, ◌∷◌, ◌++◌, length, nat_lt, codes, decimal, if◌then◌else◌}
 use Rattle.std.specs.List.{flat_map}
+
+-- ---- refusals
+
+abbrev pub bad_line_text : ℕ → List ℕ
+bad_line_text k = codes "refused 2 molecules line " ++ (decimal k ++ codes "\n")
+
+abbrev pub v3000_text : ℕ → List ℕ
+v3000_text k = codes "refused 2 molecules v3000 line " ++ (decimal k ++ codes "\n")
+
+abbrev pub check_text : ℕ → ℕ → List ℕ
+check_text check item = codes "refused 3 molecules record 1 check V" ++ (decimal check ++ (codes " item " ++ (decimal item ++ codes "\n")))
+
+-- ---- hits
 
 -- each number after a blank
 abbrev pub numbers_text : List ℕ → List ℕ

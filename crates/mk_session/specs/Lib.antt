@@ -1,8 +1,8 @@
 pub mod Status
-pub mod Hits
-pub mod BondLists
-pub mod Search
 pub mod Answers
+pub mod QueryGraph
+pub mod RecordFile
+pub mod RecordReading
 pub mod Run
 pub mod Running
 pub mod Headline

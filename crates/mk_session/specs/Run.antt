@@ -1,14 +1,23 @@
 -- A run: what is written for some words and files, and the status.
---     IsRun words look outcome      the run of these words over these files has this outcome
---     OneRun                        a run has at most one outcome, and one wherever the files that the words name are there
-use Rattle.std.specs.Prelude.{◌≡◌, ℕ, ◌<◌, ◌≤◌, Bool, true, false, List, [], ◌∷◌, length, take, Option, Some, codes}
+--     IsRefused look name line              the molecules' file is refused with this line
+--     IsHeld look name mol                  it holds one record with this molecule
+--     IsRun words look outcome              the run of these words over these files has this outcome
+--     HasItsFiles words look                the files that the run reads are there
+use Rattle.std.specs.Prelude.{◌≡◌, ℕ, ◌<◌, ◌≤◌, ◌⊎◌, Bool, true, false, List, [], ◌∷◌, length, take, Option, Some, IsSome, codes}
 use Rattle.mk_text.specs.Lines.{lines_of}
 use Rattle.mk_ctab.specs.declared.plain_table.PlainTable.{PlainTable}
+use Rattle.mk_ctab.specs.declared.raw.RawTable.{RawTable}
 use Rattle.mk_ctab.specs.PlainFile.{IsPlainFile}
+use Rattle.mk_model.specs.Molecules.{IsMolecule, Molecule}
+use Rattle.mk_model.specs.Graphs.{Drawing}
+use Rattle.mk_model.specs.Hits.{AreHits}
+use Rattle.mk_mol.specs.Filled.{IsFilled}
+use Rattle.mk_mol.specs.FirstFault.{IsFirstFault, PassesAll}
 use Rattle.mk_session.specs.declared.outcome.Outcome.{Outcome}
 use Rattle.mk_session.specs.declared.status.Status.TheVariants as status
-use Rattle.mk_session.specs.Hits.{AreHits}
-use Rattle.mk_session.specs.Answers.{hits_text}
+use Rattle.mk_session.specs.Answers.{bad_line_text, check_text, hits_text, v3000_text}
+use Rattle.mk_session.specs.QueryGraph.{IsGraphOf}
+use Rattle.mk_session.specs.RecordFile.{AreBlankLines, IsBadRecordLine, IsRecord, IsV3000Line}
 
 -- ---- words and files
 
@@ -30,24 +39,64 @@ pub record IsTooLong (most : ℕ) (look : List ℕ → Option (List ℕ)) (name 
   pub found : look name ≡ Some bytes
   pub long : most < length bytes
 
--- a file of the name is there and no plain file
-pub record IsUnbuilt (query : Bool) (most : ℕ) (look : List ℕ → Option (List ℕ)) (name : List ℕ) : Type 0 where
+-- a file of the name is there and within its limit, and these are its lines
+pub record IsRead (most : ℕ) (look : List ℕ → Option (List ℕ)) (name : List ℕ) (lines : List (List ℕ)) : Type 0 where
   pub bytes : List ℕ
   pub found : look name ≡ Some bytes
   pub short : length bytes ≤ most
-  pub unbuilt : (table : PlainTable) → IsPlainFile query (lines_of bytes) table → ⊥
+  pub are : lines ≡ lines_of bytes
 
--- a file of the name is there and a plain file with this table
-pub record IsPlain (query : Bool) (most : ℕ) (look : List ℕ → Option (List ℕ)) (name : List ℕ) (table : PlainTable) : Type 0 where
-  pub bytes : List ℕ
-  pub found : look name ≡ Some bytes
-  pub short : length bytes ≤ most
-  pub plain : IsPlainFile query (lines_of bytes) table
+-- ---- the query's file
+
+-- it is no plain file
+pub record IsUnbuilt (look : List ℕ → Option (List ℕ)) (name : List ℕ) : Type 0 where
+  pub lines : List (List ℕ)
+  pub read : IsRead query_bytes look name lines
+  pub unbuilt : (table : PlainTable) → IsPlainFile true lines table → ⊥
+
+-- it is a plain file with this table
+pub record IsPlain (look : List ℕ → Option (List ℕ)) (name : List ℕ) (table : PlainTable) : Type 0 where
+  pub lines : List (List ℕ)
+  pub read : IsRead query_bytes look name lines
+  pub plain : IsPlainFile true lines table
+
+-- ---- the molecules' file
+
+-- The file is refused with this line. A line that is bad is named where the file is no file of one record. Lines that aren't
+-- blank behind the record aren't built yet. A table that is read is checked.
+pub data IsRefused (look : List ℕ → Option (List ℕ)) (name line : List ℕ) : Type 0 where
+  TooLong : IsTooLong molecule_bytes look name → line ≡ codes "refused 4 molecules\n" → IsRefused look name line
+  BadLine : (lines : List (List ℕ)) → IsRead molecule_bytes look name lines → (k : ℕ) → IsBadRecordLine lines k → (IsV3000Line lines k → ⊥)
+      → line ≡ bad_line_text k → IsRefused look name line
+  V3000 : (lines : List (List ℕ)) → IsRead molecule_bytes look name lines → (k : ℕ) → IsBadRecordLine lines k → IsV3000Line lines k
+      → line ≡ v3000_text k → IsRefused look name line
+  FurtherLines : (lines : List (List ℕ)) → IsRead molecule_bytes look name lines → (table : RawTable) → IsRecord lines table true
+      → line ≡ codes "refused 12 unbuilt\n" → IsRefused look name line
+  NoRecord : (lines : List (List ℕ)) → IsRead molecule_bytes look name lines → AreBlankLines lines
+      → line ≡ codes "refused 11 records 0\n" → IsRefused look name line
+  FailsCheck : (lines : List (List ℕ)) → IsRead molecule_bytes look name lines → (table : RawTable) → IsRecord lines table false
+      → (check item : ℕ) → IsFirstFault table check item → line ≡ check_text check item → IsRefused look name line
+
+-- the file holds one record, which passes the checks, and this is its molecule
+pub record IsHeld (look : List ℕ → Option (List ℕ)) (name : List ℕ) (mol : Molecule) : Type 0 where
+  pub lines : List (List ℕ)
+  pub read : IsRead molecule_bytes look name lines
+  pub table : RawTable
+  pub record_of_it : IsRecord lines table false
+  pub passes : PassesAll table
+  pub filled : IsFilled table mol
+  pub molecule : IsMolecule mol
 
 -- ---- the run
 
 abbrev pub refused : List ℕ → Outcome
 refused line = record { bytes = line; status = status.Refused }
+
+-- the run once the query is read: the molecules' file is refused, or the hits are listed
+pub data IsSearch (wanted : PlainTable) (look : List ℕ → Option (List ℕ)) (name : List ℕ) (outcome : Outcome) : Type 0 where
+  Refuses : (line : List ℕ) → IsRefused look name line → outcome ≡ refused line → IsSearch wanted look name outcome
+  Lists : (graph : Drawing) → IsGraphOf wanted graph → (mol : Molecule) → IsHeld look name mol → (hits : List (List ℕ)) → AreHits graph mol hits
+      → outcome ≡ record { bytes = hits_text (take 10000 hits) 10000; status = status.Done } → IsSearch wanted look name outcome
 
 -- One case for each way in which a run goes. The molecules' file plays no part where the query is refused.
 pub data IsRun (words : List (List ℕ)) (look : List ℕ → Option (List ℕ)) (outcome : Outcome) : Type 0 where
@@ -55,12 +104,18 @@ pub data IsRun (words : List (List ℕ)) (look : List ℕ → Option (List ℕ))
       → outcome ≡ record { bytes = codes "words not understood\n"; status = status.Words } → IsRun words look outcome
   QueryTooLong : (query molecules : List ℕ) → words ≡ match_words query molecules → IsTooLong query_bytes look query
       → outcome ≡ refused (codes "refused 4 query\n") → IsRun words look outcome
-  QueryUnbuilt : (query molecules : List ℕ) → words ≡ match_words query molecules → IsUnbuilt true query_bytes look query
+  QueryUnbuilt : (query molecules : List ℕ) → words ≡ match_words query molecules → IsUnbuilt look query
       → outcome ≡ refused (codes "refused 12 unbuilt\n") → IsRun words look outcome
-  MoleculesTooLong : (query molecules : List ℕ) → words ≡ match_words query molecules → (wanted : PlainTable) → IsPlain true query_bytes look query wanted
-      → IsTooLong molecule_bytes look molecules → outcome ≡ refused (codes "refused 4 molecules\n") → IsRun words look outcome
-  MoleculesUnbuilt : (query molecules : List ℕ) → words ≡ match_words query molecules → (wanted : PlainTable) → IsPlain true query_bytes look query wanted
-      → IsUnbuilt false molecule_bytes look molecules → outcome ≡ refused (codes "refused 12 unbuilt\n") → IsRun words look outcome
-  Listed : (query molecules : List ℕ) → words ≡ match_words query molecules → (wanted : PlainTable) → IsPlain true query_bytes look query wanted
-      → (molecule : PlainTable) → IsPlain false molecule_bytes look molecules molecule → (hits : List (List ℕ)) → AreHits wanted molecule hits
-      → outcome ≡ record { bytes = hits_text (take 10000 hits) 10000; status = status.Done } → IsRun words look outcome
+  Searches : (query molecules : List ℕ) → words ≡ match_words query molecules → (wanted : PlainTable) → IsPlain look query wanted
+      → IsSearch wanted look molecules outcome → IsRun words look outcome
+
+-- ---- the files that are read
+
+-- the query's file is there, and where the query isn't refused the molecules' file is
+pub record AreThere (look : List ℕ → Option (List ℕ)) (query molecules : List ℕ) : Type 0 where
+  pub query_there : IsSome (look query)
+  pub molecules_there : (table : PlainTable) → IsPlain look query table → IsSome (look molecules)
+
+-- where the words are understood, the files that are read are there
+abbrev pub HasItsFiles : List (List ℕ) → (List ℕ → Option (List ℕ)) → Type 0
+HasItsFiles words look = (query molecules : List ℕ) → words ≡ match_words query molecules → AreThere look query molecules

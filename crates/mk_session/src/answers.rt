@@ -1,9 +1,41 @@
 // The bytes of an answer.
 ghost use Rattle.std.specs.Prelude.{◌≡◌, ◌++◌, IfOk, OnOk};
-ghost use Rattle.mk_session.specs.Answers.{hits_text, hit_line, numbers_text};
+ghost use Rattle.mk_session.specs.Answers.{bad_line_text, check_text, hits_text, hit_line, numbers_text, v3000_text};
 
 use mk_text::{Memory, Numbers, put_number};
 use std::alloc::Global;
+
+/// The refusal of a molecules' file whose first bad line this is.
+pub fn bad_line(alloc: Global, line: usize) -> Result<Vec<u8>, Memory>
+    ensures { IfOk result (λ text. text.items ≡ bad_line_text line) }
+{
+    let mut text = Vec::from_slice(alloc, b"refused 2 molecules line ")?;
+    put_number(alloc, &mut text, line as u64)?;
+    text.extend_from_slice(b"\n")?;
+    Ok(text)
+}
+
+/// The same where that line says V3000.
+pub fn v3000_line(alloc: Global, line: usize) -> Result<Vec<u8>, Memory>
+    ensures { IfOk result (λ text. text.items ≡ v3000_text line) }
+{
+    let mut text = Vec::from_slice(alloc, b"refused 2 molecules v3000 line ")?;
+    put_number(alloc, &mut text, line as u64)?;
+    text.extend_from_slice(b"\n")?;
+    Ok(text)
+}
+
+/// The refusal of a record that fails this check first, at this item.
+pub fn failed_check(alloc: Global, check: u8, item: u32) -> Result<Vec<u8>, Memory>
+    ensures { IfOk result (λ text. text.items ≡ check_text check item) }
+{
+    let mut text = Vec::from_slice(alloc, b"refused 3 molecules record 1 check V")?;
+    put_number(alloc, &mut text, u64::from(check))?;
+    text.extend_from_slice(b" item ")?;
+    put_number(alloc, &mut text, u64::from(item))?;
+    text.extend_from_slice(b"\n")?;
+    Ok(text)
+}
 
 /// The answer that lists these hits, of which at most so many are listed.
 #[tactic(auto, unfolding(crate::specs::Answers::hits_text))]

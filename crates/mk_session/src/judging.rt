@@ -1,148 +1,82 @@
-// Finds what a run writes and how it ends.
-ghost use Rattle.std.specs.Prelude.{◌≡◌, ◌≤◌, ℕ, List, Option, Some, map, true, false, IfOk, IsSome};
-ghost use Rattle.std.specs.Option.{option_map};
-ghost use Rattle.std.specs.String.{string_bytes};
-ghost use Rattle.mk_outside.specs.Counts.{Counts};
-ghost use Rattle.mk_outside.specs.Told.{is_failed_read};
-ghost use Rattle.mk_ctab.specs.PlainFacts.{IsPlainTable};
-ghost use Rattle.mk_session.specs.Running.{run_of, match_run, is_match, judgment_of, query_outcome as query_outcome_of, molecule_outcome as molecule_outcome_of, IsJudgedPlain, IsOfAnswer, SeekingCounts};
+// What is made of the two files, once they are read.
+ghost use Rattle.std.specs.Prelude.{◌≡◌, ◌≤◌, ◌<◌, ◌^◌, ℕ, List, Option, IfOk, length};
+ghost use Rattle.mk_text.specs.Lines.{lines_of};
+ghost use Rattle.mk_mol.specs.Filled.{IsFilled};
+ghost use Rattle.mk_session.specs.Run.{IsRead, molecule_bytes, query_bytes};
+ghost use Rattle.mk_session.specs.Running.{IsHeldBy, IsHeldTable, IsJudged, IsKeptJudgment, IsReadAs, IsWithin};
 
-use crate::Status;
-use crate::answers::hits_answer;
-use crate::matching::first_hits;
-use crate::outcome::{Judgment, Outcome};
-use crate::searching::MOST_HITS;
-use mk_ctab::{PlainFault, PlainTable, read_plain};
-use mk_outside::{Bytes, FileFail, Files, Memory, ReadEnd};
+use crate::answers::{bad_line, failed_check, v3000_line};
+use crate::outcome::{Held, Judgment};
+use crate::record_file::RecordFile;
+use crate::record_reading::read_record;
+use mk_ctab::{PlainFault, RawTable, TableFault, read_plain};
+use mk_mol::{PrepareFault, prepare};
+use mk_outside::{Bytes, Memory};
 use std::alloc::Global;
 
-// How many bytes a query's file may have.
-const QUERY_BYTES: usize = 4_194_304;
-
-// How many bytes a molecules' file may have.
-const MOLECULE_BYTES: usize = 67_108_864;
-
-/// Does the command of the words, and gives what is to be written.
-#[tactic(auto, unfolding(crate::specs::Running::run_of))]
-pub fn outcome_of<F: Files>(
-    alloc: Global,
-    words: &[String],
-    files: &mut F,
-) -> Result<Outcome, Status>
-    ensures told { (look : List ℕ → Option (List ℕ)) → F.look_up files.old ≡ Some look
-        → IfOk result (λ outcome. run_of (map string_bytes words.now) look ≡ Some outcome) }
-    ensures counted { SeekingCounts (is_match (map string_bytes words.now)) (F.faults files.old) (F.faults files.new) result }
-    ensures never_falls { F.absences files.old ≤ F.absences files.new }
-    ensures absent { (look : List ℕ → Option (List ℕ)) → F.look_up files.old ≡ Some look
-        → IsSome (run_of (map string_bytes words.now) look) → F.absences files.new ≡ F.absences files.old }
+/// Judges the query's file. None is a file over its limit.
+pub fn judge_query(alloc: Global, bytes: Option<Bytes>) -> Result<Judgment, Memory>
+    ensures judged { (look : List ℕ → Option (List ℕ)) (name : List ℕ) → IsReadAs query_bytes look name bytes → IfOk result (IsJudged look name) }
+    ensures kept { IfOk result IsKeptJudgment }
 {
-    let [command, query, molecules] = words else {
-        return Ok(line(alloc, b"words not understood\n", Status::Words)?);
+    let Some(text) = bytes else {
+        return Ok(Judgment::TooLong);
     };
-    if command.as_str() != "match" {
-        return Ok(line(alloc, b"words not understood\n", Status::Words)?);
+    match read_plain(alloc, text.as_slice(), true) {
+        Ok(table) => Ok(Judgment::Plain(table)),
+        Err(PlainFault::Unbuilt) => Ok(Judgment::Unbuilt),
+        Err(PlainFault::Memory) => Err(Memory),
     }
-    match_outcome(alloc, query.as_str(), molecules.as_str(), files)
 }
 
-fn match_outcome<F: Files>(
-    alloc: Global,
-    query: &str,
-    molecules: &str,
-    files: &mut F,
-) -> Result<Outcome, Status>
-    ensures told { (look : List ℕ → Option (List ℕ)) → F.look_up files.old ≡ Some look
-        → IfOk result (λ outcome. match_run look query.now molecules.now ≡ Some outcome) }
-    ensures counted { SeekingCounts true (F.faults files.old) (F.faults files.new) result }
-    ensures never_falls { F.absences files.old ≤ F.absences files.new }
-    ensures absent { (look : List ℕ → Option (List ℕ)) → F.look_up files.old ≡ Some look
-        → IsSome (match_run look query.now molecules.now) → F.absences files.new ≡ F.absences files.old }
+/// Judges the molecules' file. None is a file over its limit.
+pub fn judge_molecules(alloc: Global, bytes: Option<Bytes>) -> Result<Held, Memory>
+    requires { IsWithin molecule_bytes bytes }
+    ensures { (look : List ℕ → Option (List ℕ)) (name : List ℕ) → IsReadAs molecule_bytes look name bytes → IfOk result (IsHeldBy look name) }
 {
-    let wanted = judge(alloc, files, query, QUERY_BYTES, true)?;
-    query_outcome(alloc, wanted, molecules, files)
+    let Some(text) = bytes else {
+        return refused(alloc, b"refused 4 molecules\n");
+    };
+    judge_text(alloc, text.as_slice())
 }
 
-// What follows from the judgment of the query's file. Where it is refused, the molecules' file isn't read.
-fn query_outcome<F: Files>(
-    alloc: Global,
-    judgment: Judgment,
-    molecules: &str,
-    files: &mut F,
-) -> Result<Outcome, Status>
-    requires { IsJudgedPlain true judgment }
-    ensures told { (look : List ℕ → Option (List ℕ)) → F.look_up files.old ≡ Some look
-        → IfOk result (λ outcome. query_outcome_of (look molecules.now) judgment ≡ Some outcome) }
-    ensures counted { SeekingCounts true (F.faults files.old) (F.faults files.new) result }
-    ensures never_falls { F.absences files.old ≤ F.absences files.new }
-    ensures absent { (look : List ℕ → Option (List ℕ)) → F.look_up files.old ≡ Some look
-        → IsSome (query_outcome_of (look molecules.now) judgment) → F.absences files.new ≡ F.absences files.old }
+// What a file within its limit holds.
+fn judge_text(alloc: Global, text: &[u8]) -> Result<Held, Memory>
+    requires { length text.now ≤ 67108864 }
+    ensures { (look : List ℕ → Option (List ℕ)) (name : List ℕ) → IsRead molecule_bytes look name (lines_of text.now) → IfOk result (IsHeldBy look name) }
 {
-    match judgment {
-        Judgment::TooLong => Ok(line(alloc, b"refused 4 query\n", Status::Refused)?),
-        Judgment::Unbuilt => Ok(line(alloc, b"refused 12 unbuilt\n", Status::Refused)?),
-        Judgment::Plain(wanted) => {
-            let molecule = judge(alloc, files, molecules, MOLECULE_BYTES, false)?;
-            Ok(molecule_outcome(alloc, &wanted, molecule)?)
+    match read_record(alloc, text) {
+        Ok(RecordFile::Blank) => refused(alloc, b"refused 11 records 0\n"),
+        Ok(RecordFile::Record { table, others }) => {
+            if others {
+                return refused(alloc, b"refused 12 unbuilt\n");
+            }
+            judge_table(alloc, &table)
         }
+        Err(TableFault::Bad { line }) => Ok(Held::Refused(Bytes::of(bad_line(alloc, line)?))),
+        Err(TableFault::V3000 { line }) => Ok(Held::Refused(Bytes::of(v3000_line(alloc, line)?))),
+        Err(TableFault::Memory) => Err(Memory),
     }
 }
 
-fn molecule_outcome(
-    alloc: Global,
-    wanted: &PlainTable,
-    judgment: Judgment,
-) -> Result<Outcome, Memory>
-    requires wanted { IsPlainTable true wanted.now }
-    requires judgment { IsJudgedPlain false judgment }
-    ensures value { IfOk result (λ outcome. outcome ≡ molecule_outcome_of wanted.now judgment) }
-    ensures status { IfOk result (λ outcome. IsOfAnswer true outcome.status) }
+// The molecule of a record, or the check that it fails.
+fn judge_table(alloc: Global, table: &RawTable) -> Result<Held, Memory>
+    requires few_atoms { length table.now.atoms ≤ 999 }
+    requires few_bonds { length table.now.bonds ≤ 999 }
+    requires few_properties { length table.now.props < 2 ^ 32 }
+    ensures { IfOk result (IsHeldTable table.now) }
 {
-    match judgment {
-        Judgment::TooLong => line(alloc, b"refused 4 molecules\n", Status::Refused),
-        Judgment::Unbuilt => line(alloc, b"refused 12 unbuilt\n", Status::Refused),
-        Judgment::Plain(molecule) => {
-            let hits = first_hits(alloc, wanted, &molecule)?;
-            let answer = hits_answer(alloc, &hits, MOST_HITS)?;
-            Ok(Outcome {
-                bytes: Bytes::of(answer),
-                status: Status::Done,
-            })
+    match prepare(alloc, table) {
+        Ok(mol) => Ok(Held::Molecule(mol)),
+        Err(PrepareFault::Check { check, item }) => {
+            Ok(Held::Refused(Bytes::of(failed_check(alloc, check, item)?)))
         }
+        Err(PrepareFault::Memory) => Err(Memory),
     }
 }
 
-// Reads a file that may have so many bytes, and judges it.
-#[tactic(auto, unfolding(crate::specs::Running::judgment_of))]
-fn judge<F: Files>(
-    alloc: Global,
-    files: &mut F,
-    name: &str,
-    most: usize,
-    query: bool,
-) -> Result<Judgment, FileFail>
-    ensures kept { F.look_up files.new ≡ F.look_up files.old }
-    ensures told { (look : List ℕ → Option (List ℕ)) → F.look_up files.old ≡ Some look
-        → IfOk result (λ judgment. option_map (judgment_of query most) (look name.now) ≡ Some judgment) }
-    ensures keeps { IfOk result (IsJudgedPlain query) }
-    ensures counted { Counts (is_failed_read result) (F.faults files.old) (F.faults files.new) }
-    ensures never_falls { F.absences files.old ≤ F.absences files.new }
-    ensures absent { (look : List ℕ → Option (List ℕ)) → F.look_up files.old ≡ Some look
-        → IsSome (look name.now) → F.absences files.new ≡ F.absences files.old }
+fn refused(alloc: Global, line: &[u8]) -> Result<Held, Memory>
+    ensures { IfOk result (λ held. held ≡ Held.Refused line.now) }
 {
-    let mut text = Vec::new(alloc);
-    match files.read(alloc, name, most, &mut text)? {
-        ReadEnd::TooLong => Ok(Judgment::TooLong),
-        ReadEnd::Whole => match read_plain(alloc, &text, query) {
-            Ok(table) => Ok(Judgment::Plain(table)),
-            Err(PlainFault::Unbuilt) => Ok(Judgment::Unbuilt),
-            Err(PlainFault::Memory) => Err(FileFail::Memory),
-        },
-    }
-}
-
-fn line(alloc: Global, text: &[u8], status: Status) -> Result<Outcome, Memory>
-    ensures { IfOk result (λ outcome. outcome ≡ record { bytes = text.now; status = status }) }
-{
-    let bytes = Bytes::of(Vec::from_slice(alloc, text)?);
-    Ok(Outcome { bytes, status })
+    Ok(Held::Refused(Bytes::of(Vec::from_slice(alloc, line)?)))
 }

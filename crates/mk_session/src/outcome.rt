@@ -1,6 +1,7 @@
 // What a run writes and how it ends, found before anything is written.
 use crate::Status;
 use mk_ctab::PlainTable;
+use mk_model::Mol;
 use mk_outside::{Bytes, FileFail, Memory};
 
 /// The bytes that are written, and the status.
@@ -10,7 +11,7 @@ pub struct Outcome {
     pub status: Status,
 }
 
-/// What is made of a file.
+/// What is made of the query's file.
 #[derive(Drop)]
 pub enum Judgment {
     /// It is a plain file with this table.
@@ -19,6 +20,15 @@ pub enum Judgment {
     TooLong,
     /// It is no plain file.
     Unbuilt,
+}
+
+/// What is made of the molecules' file.
+#[derive(Drop)]
+pub enum Held {
+    /// It holds one record with this molecule.
+    Molecule(Mol),
+    /// It is refused with this line.
+    Refused(Bytes),
 }
 
 impl From<FileFail> for Status {

@@ -1,13 +1,12 @@
 // A whole run.
 ghost use Rattle.std.specs.Prelude.{◌≡◌, ◌≢◌, ◌≤◌, ◌<◌, ℕ, List, Option, Some, map};
 ghost use Rattle.std.specs.String.{string_bytes};
-ghost use Rattle.mk_session.specs.declared.outcome.Outcome.{Outcome as Ends};
-ghost use Rattle.mk_session.specs.Run.{IsRun};
+ghost use Rattle.mk_session.specs.Run.{HasItsFiles};
 ghost use Rattle.mk_session.specs.Running.{is_match};
 ghost use Rattle.mk_session.specs.Headline.{IsWhole, Leaves, IsCaused};
 
 use crate::Status;
-use crate::judging::outcome_of;
+use crate::seeking::outcome_of;
 use mk_outside::{Files, PutFail, Sink};
 use std::alloc::Global;
 
@@ -39,8 +38,8 @@ pub fn top<F: Files, W: Sink>(
 
     // No file is missed where each file that the run reads is there. Where the query is refused, the molecules' file isn't read.
     ensures never_falls { F.absences files.old ≤ F.absences files.new }
-    ensures absent { (look : List ℕ → Option (List ℕ)) (outcome : Ends) → F.look_up files.old ≡ Some look
-        → IsRun (map string_bytes words.now) look outcome → F.absences files.new ≡ F.absences files.old }
+    ensures absent { (look : List ℕ → Option (List ℕ)) → F.look_up files.old ≡ Some look
+        → HasItsFiles (map string_bytes words.now) look → F.absences files.new ≡ F.absences files.old }
 {
     match outcome_of(alloc, words, files) {
         Ok(outcome) => match output.put(outcome.bytes.as_slice()) {

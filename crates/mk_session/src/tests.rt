@@ -1,28 +1,51 @@
-// The command `match` on objects in memory, and the matcher beside the plain program.
-use crate::matching::first_hits;
+// The command `match` on objects in memory.
 use crate::{Status, top};
-use mk_ctab::{PlainTable, read_plain};
 use mk_outside::{
     Bytes, CallNumbers, FileRow, FileRows, MemFiles, MemSink, Memory, SureFiles, SureSink, Text,
 };
-use mk_text::Numbers;
 use std::alloc::Global;
 use std::process::Abort;
 use std::test::Fail;
 
+// A carbon.
+const C: &str =
+    "\n\n\n  1  0\n                               C\nM  END\n";
+
+// A carbon and an oxygen with a bond.
 const CO: &str =
     "\n\n\n  2  1\n                               C\n                               O\n  1  2  1\nM  END\n";
 
+// Methoxymethane.
 const COC: &str =
     "\n\n\n  3  2\n                               C\n                               O\n                               C\n  1  2  1\n  2  3  1\nM  END\n";
 
-// Carbon and nitrogen with a double bond.
-const CN: &str =
+// The same bond from the oxygen on.
+const OC: &str =
+    "\n\n\n  2  1\n                               O\n                               C\n  1  2  1\nM  END\n";
+
+// Two carbons with a bond.
+const CC: &str =
+    "\n\n\n  2  1\n                               C\n                               C\n  1  2  1\nM  END\n";
+
+// A carbon and a nitrogen with a triple bond.
+const TRIPLE: &str =
+    "\n\n\n  2  1\n                               C\n                               N\n  1  2  3\nM  END\n";
+
+// A carbon and a nitrogen with a double bond.
+const DOUBLE: &str =
     "\n\n\n  2  1\n                               C\n                               N\n  1  2  2\nM  END\n";
 
 // A ring of three carbons.
 const RING: &str =
     "\n\n\n  3  3\n                               C\n                               C\n                               C\n  1  2  1\n  2  3  1\n  1  3  1\nM  END\n";
+
+// Benzene.
+const BENZENE: &str =
+    "\n\n\n  6  6\n                               C\n                               C\n                               C\n                               C\n                               C\n                               C\n  1  2  1\n  2  3  2\n  3  4  1\n  4  5  2\n  5  6  1\n  6  1  2\nM  END\n";
+
+// Acetic acid.
+const ACID: &str =
+    "\n\n\n  4  3\n                               C\n                               C\n                               O\n                               O\n  1  2  1\n  2  3  2\n  2  4  1\nM  END\n";
 
 // Two carbons that aren't bonded.
 const APART: &str =
@@ -50,62 +73,283 @@ fn words(alloc: Global, words: &[&str]) -> Result<Vec<String>, Memory> {
     Ok(all)
 }
 
-const ANSWERS: [(&str, &str, &str, &str, Status); 7] = [
+// Whether `match q m` ends so over these files, and writes this.
+fn is_answered(alloc: Global, rows: FileRows, wanted: &str, status: Status) -> Result<bool, Memory> {
+    let mut files = SureFiles::new(rows);
+    let mut output = SureSink::new(Bytes::new(alloc));
+    let words = words(alloc, ["match", "q", "m"].as_slice())?;
+    let ended = top(alloc, &words, &mut files, &mut output);
+    Ok(ended == status && output.bytes() == wanted.as_bytes())
+}
+
+const HITS: [(&str, &str, &str, &str); 20] = [
     (
         "two maps of C-O",
         CO,
         COC,
         "hit 1 choice map 1 2\nhit 1 choice map 3 2\nend\n",
-        Status::Done,
+    ),
+    (
+        "the acid's hydroxyl",
+        OC,
+        ACID,
+        "hit 1 choice map 4 2\nend\n",
+    ),
+    (
+        "a single bond among aromatic ones",
+        CC,
+        BENZENE,
+        "end\n",
+    ),
+    (
+        "every carbon of benzene",
+        C,
+        BENZENE,
+        "hit 1 choice map 1\nhit 1 choice map 2\nhit 1 choice map 3\nhit 1 choice map 4\nhit 1 choice map 5\nhit 1 choice map 6\nend\n",
     ),
     (
         "the atoms of a ring in every order",
         RING,
         RING,
         "hit 1 choice map 1 2 3\nhit 1 choice map 1 3 2\nhit 1 choice map 2 1 3\nhit 1 choice map 2 3 1\nhit 1 choice map 3 1 2\nhit 1 choice map 3 2 1\nend\n",
-        Status::Done,
     ),
     (
         "a query in two parts",
         APART,
         COC,
         "hit 1 choice map 1 3\nhit 1 choice map 3 1\nend\n",
-        Status::Done,
     ),
     (
         "more atoms than the molecule has",
         COC,
         CO,
         "end\n",
-        Status::Done,
     ),
     (
-        "a double bond",
-        CN,
-        COC,
-        "refused 12 unbuilt\n",
-        Status::Refused,
+        "a triple bond",
+        TRIPLE,
+        TRIPLE,
+        "hit 1 choice map 1 2\nend\n",
     ),
-    ("no byte", "", COC, "refused 12 unbuilt\n", Status::Refused),
     (
-        "a molecule of no byte",
+        "a triple bond where a double one is",
+        TRIPLE,
+        DOUBLE,
+        "end\n",
+    ),
+    (
+        "a molecule of no atom",
+        C,
+        "\n\n\n  0  0\nM  END\n",
+        "end\n",
+    ),
+    (
+        "lines that end with CR and LF",
         CO,
-        "",
-        "refused 12 unbuilt\n",
-        Status::Refused,
+        "\r\n\r\n\r\n  3  2\r\n                               C\r\n                               O\r\n                               C\r\n  1  2  1\r\n  2  3  1\r\nM  END\r\n",
+        "hit 1 choice map 1 2\nhit 1 choice map 3 2\nend\n",
+    ),
+    (
+        "header lines of any length",
+        CO,
+        "M  END\n  9  9  9 xxxxxxxxxxxxxxxxxxxxxxxxxxxxxxxxxxxxxxxxxxxxxxxxxxxxxxxxxxxxxxxxxxxxxxxxxxxxxxxxxxxxxxxxxxxxxxxxxxxx\nV3000\n  3  2\n                               C\n                               O\n                               C\n  1  2  1\n  2  3  1\nM  END\n",
+        "hit 1 choice map 1 2\nhit 1 choice map 3 2\nend\n",
+    ),
+    (
+        "coordinates and a version",
+        CO,
+        "\n  markush\n\n  2  1  0  0  0  0            999 V2000\n    0.0000    0.0000    0.0000 C   0  0  0  0  0  0  0  0  0  0  0  0\n    1.4000   -0.5000    0.0000 O   0  0  0  0  0  0  0  0  0  0  0  0\n  1  2  1  0  0  0  0\nM  END\n",
+        "hit 1 choice map 1 2\nend\n",
+    ),
+    (
+        "blank lines behind the table",
+        C,
+        "\n\n\n  1  0\n                               C\nM  END\n\n   \n",
+        "hit 1 choice map 1\nend\n",
+    ),
+    (
+        "no LF behind the last line",
+        C,
+        "\n\n\n  1  0\n                               C\nM  END",
+        "hit 1 choice map 1\nend\n",
+    ),
+    (
+        "Sgroup lines",
+        CO,
+        "\n\n\n  2  1\n                               C\n                               O\n  1  2  1\nM  STY  1   1 SUP\nM  SLB  1   1   1\nM  SAL   1  1   2\nM  SBL   1  1   1\nM  SMT   1 OH\nM  END\n",
+        "hit 1 choice map 1 2\nend\n",
+    ),
+    (
+        "charges",
+        C,
+        "\n\n\n  2  1\n                               C   0  3\n                               N\n  1  2  1\nM  CHG  2   1  -1   2   1\nM  END\n",
+        "hit 1 choice map 1\nend\n",
+    ),
+    (
+        "a radical and an isotope",
+        C,
+        "\n\n\n  2  1\n                               C\n                               C\n  1  2  1\nM  RAD  1   1   2\nM  ISO  1   2  13\nM  END\n",
+        "hit 1 choice map 1\nhit 1 choice map 2\nend\n",
+    ),
+    (
+        "a stereo bond",
+        CO,
+        "\n\n\n  2  1\n                               C\n                               O\n  1  2  1  1\nM  END\n",
+        "hit 1 choice map 1 2\nend\n",
+    ),
+    (
+        "hydrogens that are drawn",
+        CO,
+        "\n\n\n  4  3\n                               H\n                               C\n                               D\n                               O\n  1  2  1\n  2  3  1\n  4  2  1\nM  END\n",
+        "hit 1 choice map 2 4\nend\n",
     ),
 ];
 
 #[test]
-fn plain_files_have_their_answers(rt: HostRuntime) -> Result<(), Fail> {
+fn queries_have_their_hits(rt: HostRuntime) -> Result<(), Fail> {
     let alloc = rt.alloc();
-    for (name, query, molecule, wanted, status) in ANSWERS.iter() {
-        let mut files = SureFiles::new(files(alloc, query, molecule)?);
-        let mut output = SureSink::new(Bytes::new(alloc));
-        let words = words(alloc, ["match", "q", "m"].as_slice())?;
-        let ended = top(alloc, &words, &mut files, &mut output);
-        assert!(rt; output.bytes() == wanted.as_bytes(), "{name}");
-        assert!(rt; ended == *status, "{name}");
+    for (name, query, molecule, wanted) in HITS.iter() {
+        let rows = files(alloc, query, molecule)?;
+        assert!(rt; is_answered(alloc, rows, wanted, Status::Done)?, "{name}");
+    }
+    Ok(())
+}
+
+const REFUSALS: [(&str, &str, &str, &str); 21] = [
+    (
+        "an unknown symbol",
+        C,
+        "\n\n\n  2  1\n                               C\n                               Xx\n  1  2  1\nM  END\n",
+        "refused 3 molecules record 1 check V1 item 2\n",
+    ),
+    (
+        "an atom bonded with itself",
+        C,
+        "\n\n\n  2  2\n                               C\n                               C\n  1  2  1\n  2  2  1\nM  END\n",
+        "refused 3 molecules record 1 check V2 item 2\n",
+    ),
+    (
+        "a bond of type 5",
+        C,
+        "\n\n\n  2  1\n                               C\n                               C\n  1  2  5\nM  END\n",
+        "refused 3 molecules record 1 check V3 item 1\n",
+    ),
+    (
+        "21 bonds of one atom",
+        C,
+        "\n\n\n 22 21\n                               C\n                               C\n                               C\n                               C\n                               C\n                               C\n                               C\n                               C\n                               C\n                               C\n                               C\n                               C\n                               C\n                               C\n                               C\n                               C\n                               C\n                               C\n                               C\n                               C\n                               C\n                               C\n  1  2  1\n  1  3  1\n  1  4  1\n  1  5  1\n  1  6  1\n  1  7  1\n  1  8  1\n  1  9  1\n  1 10  1\n  1 11  1\n  1 12  1\n  1 13  1\n  1 14  1\n  1 15  1\n  1 16  1\n  1 17  1\n  1 18  1\n  1 19  1\n  1 20  1\n  1 21  1\n  1 22  1\nM  END\n",
+        "refused 3 molecules record 1 check V4 item 1\n",
+    ),
+    (
+        "a charge of no atom",
+        C,
+        "\n\n\n  1  0\n                               C\nM  ISO  1   1  13\nM  CHG  1   2   1\nM  END\n",
+        "refused 3 molecules record 1 check V5 item 2\n",
+    ),
+    (
+        "a radical of 4",
+        C,
+        "\n\n\n  1  0\n                               C\nM  RAD  1   1   4\nM  END\n",
+        "refused 3 molecules record 1 check V6 item 1\n",
+    ),
+    (
+        "a label",
+        C,
+        "\n\n\n  1  0\n                               C\nM  RGP  1   1   1\nM  END\n",
+        "refused 3 molecules record 1 check V7 item 1\n",
+    ),
+    (
+        "V3000",
+        C,
+        "\n\n\n  0  0  0     0  0            999 V3000\nM  V30 BEGIN CTAB\n",
+        "refused 2 molecules v3000 line 4\n",
+    ),
+    (
+        "a counts line that is none",
+        C,
+        "a\nb\nc\n  x  0\nM  END\n",
+        "refused 2 molecules line 4\n",
+    ),
+    (
+        "an atom line that is none",
+        C,
+        "\n\n\n  1  0\n                               C  9 -\nM  END\n",
+        "refused 2 molecules line 5\n",
+    ),
+    (
+        "a file that ends too early",
+        C,
+        "\n\n\n  2  0\n                               C\n",
+        "refused 2 molecules line 6\n",
+    ),
+    (
+        "no byte",
+        C,
+        "",
+        "refused 11 records 0\n",
+    ),
+    (
+        "blank lines alone",
+        C,
+        "\n   \n\n\n\n",
+        "refused 11 records 0\n",
+    ),
+    (
+        "a line that ends a record",
+        C,
+        "\n\n\n  1  0\n                               C\nM  END\n$$$$\n",
+        "refused 12 unbuilt\n",
+    ),
+    (
+        "two records",
+        C,
+        "\n\n\n  1  0\n                               C\nM  END\n$$$$\n\n\n\n  1  0\n                               O\nM  END\n",
+        "refused 12 unbuilt\n",
+    ),
+    (
+        "data lines",
+        C,
+        "\n\n\n  1  0\n                               C\nM  END\n>  <name>\nx\n\n",
+        "refused 12 unbuilt\n",
+    ),
+    (
+        "a second record that is bad",
+        C,
+        "\n\n\n  1  0\n                               Xx\nM  END\n$$$$\n\nx\n",
+        "refused 12 unbuilt\n",
+    ),
+    (
+        "a query of no byte",
+        "",
+        COC,
+        "refused 12 unbuilt\n",
+    ),
+    (
+        "a query with a double bond",
+        DOUBLE,
+        COC,
+        "refused 12 unbuilt\n",
+    ),
+    (
+        "a query with a charge",
+        "\n\n\n  1  0\n                               C\nM  CHG  1   1   1\nM  END\n",
+        COC,
+        "refused 12 unbuilt\n",
+    ),
+    (
+        "a bad query and a bad molecule",
+        DOUBLE,
+        "x",
+        "refused 12 unbuilt\n",
+    ),
+];
+
+#[test]
+fn files_have_their_refusals(rt: HostRuntime) -> Result<(), Fail> {
+    let alloc = rt.alloc();
+    for (name, query, molecule, wanted) in REFUSALS.iter() {
+        let rows = files(alloc, query, molecule)?;
+        assert!(rt; is_answered(alloc, rows, wanted, Status::Refused)?, "{name}");
     }
     Ok(())
 }
@@ -118,24 +362,30 @@ fn long_file(alloc: Global, name: &str, bytes: usize) -> Result<FileRow, Memory>
     })
 }
 
-const LONG: [(&str, usize, &str); 2] = [
+const LONG_QUERIES: [(&str, usize, &str); 2] = [
     ("a query over its limit", 4_194_305, "refused 4 query\n"),
     ("a query at its limit", 4_194_304, "refused 12 unbuilt\n"),
+];
+
+const LONG_MOLECULES: [(&str, usize, &str); 2] = [
+    ("molecules over their limit", 67_108_865, "refused 4 molecules\n"),
+    ("molecules at their limit", 67_108_864, "refused 11 records 0\n"),
 ];
 
 #[test]
 fn files_over_their_limit_are_refused(rt: HostRuntime) -> Result<(), Fail> {
     let alloc = rt.alloc();
-    for (name, bytes, wanted) in LONG.iter() {
+    for (name, bytes, wanted) in LONG_QUERIES.iter() {
         let mut rows = FileRows::new(alloc);
         rows.push(long_file(alloc, "q", *bytes)?)?;
         rows.push(file(alloc, "m", CO)?)?;
-        let mut files = SureFiles::new(rows);
-        let mut output = SureSink::new(Bytes::new(alloc));
-        let words = words(alloc, ["match", "q", "m"].as_slice())?;
-        let ended = top(alloc, &words, &mut files, &mut output);
-        assert!(rt; output.bytes() == wanted.as_bytes(), "{name}");
-        assert!(rt; ended == Status::Refused, "{name}");
+        assert!(rt; is_answered(alloc, rows, wanted, Status::Refused)?, "{name}");
+    }
+    for (name, bytes, wanted) in LONG_MOLECULES.iter() {
+        let mut rows = FileRows::new(alloc);
+        rows.push(file(alloc, "q", CO)?)?;
+        rows.push(long_file(alloc, "m", *bytes)?)?;
+        assert!(rt; is_answered(alloc, rows, wanted, Status::Refused)?, "{name}");
     }
     Ok(())
 }
@@ -196,132 +446,15 @@ fn a_failed_read_or_write_ends_the_run(rt: HostRuntime) -> Result<(), Fail> {
     Ok(())
 }
 
-// The hits by trying every list of atoms in order.
-fn plain_hits(
-    alloc: Global,
-    query: &PlainTable,
-    molecule: &PlainTable,
-) -> Result<Vec<Numbers>, Memory> {
-    let atoms = u32::try_from(molecule.elements.as_slice().len()).unwrap_or(0);
-    let mut lists = Vec::new(alloc);
-    lists.push(Numbers::new(alloc))?;
-    for _ in query.elements.as_slice() {
-        let mut longer = Vec::new(alloc);
-        for list in &lists {
-            for atom in 0..atoms {
-                let mut next = Vec::from_slice(alloc, list.as_slice())?;
-                next.push(atom.saturating_add(1))?;
-                longer.push(Numbers::of(next))?;
-            }
-        }
-        lists = longer;
-    }
-    let mut hits = Vec::new(alloc);
-    for list in &lists {
-        if is_plain_hit(query, molecule, list.as_slice()) {
-            hits.push(Numbers::of(Vec::from_slice(alloc, list.as_slice())?))?;
-        }
-    }
-    Ok(hits)
-}
-
-fn image(list: &[u32], atom: u32) -> u32 {
-    list.get((atom as usize).saturating_sub(1))
-        .copied()
-        .unwrap_or(0)
-}
-
-fn element(table: &PlainTable, atom: u32) -> u8 {
-    table
-        .elements
-        .as_slice()
-        .get((atom as usize).saturating_sub(1))
-        .copied()
-        .unwrap_or(0)
-}
-
-fn is_plain_hit(query: &PlainTable, molecule: &PlainTable, list: &[u32]) -> bool {
-    for (x, a) in list.iter().enumerate() {
-        let before = list.get(..x).unwrap_or(&[]);
-        let wanted = query.elements.as_slice().get(x).copied().unwrap_or(0);
-        if before.contains(a) || element(molecule, *a) != wanted {
-            return false;
-        }
-    }
-    for bond in query.bonds.as_slice() {
-        let a = image(list, bond.first);
-        let b = image(list, bond.second);
-        let met = molecule.bonds.as_slice().iter().any(|o| {
-            o.kind == bond.kind && (o.first == a && o.second == b || o.first == b && o.second == a)
-        });
-        if !met {
-            return false;
-        }
-    }
-    true
-}
-
-const ATOM: [&str; 2] = [
-    "                               C\n",
-    "                               O\n",
-];
-
-const PAIRS: [&str; 6] = [
-    "  1  2  ", "  3  2  ", "  4  1  ", "  2  4  ", "  3  4  ", "  1  3  ",
-];
-
-// A plain file of four atoms, whose elements and bonds the digits of a number choose.
-fn sketch(alloc: Global, number: usize, atoms: usize) -> Result<String, Memory> {
-    let mut text = String::new(alloc);
-    let bonds = if atoms == 4 { 6 } else { 2 };
-    let mut rest = number;
-    let mut bond_lines = String::new(alloc);
-    let mut count = 0u32;
-    for pair in PAIRS.iter().take(bonds) {
-        let kind = rest % 3;
-        rest /= 3;
-        if kind > 0 {
-            bond_lines.push_str(pair)?;
-            bond_lines.push_str(if kind == 1 { "1\n" } else { "3\n" })?;
-            count = count.saturating_add(1);
-        }
-    }
-    let head = format!(in alloc; "\n\n\n  {atoms}  {count}\n")?;
-    text.push_str(head.as_str())?;
-    for _ in 0..atoms {
-        text.push_str(ATOM[rest % 2])?;
-        rest /= 2;
-    }
-    text.push_str(bond_lines.as_str())?;
-    text.push_str("M  END\n")?;
-    Ok(text)
-}
-
-fn compare(rt: &impl Abort, alloc: Global, query: &str, molecule: &str) -> Result<usize, Fail> {
-    let wanted = read_plain(alloc, query.as_bytes(), true)?;
-    let held = read_plain(alloc, molecule.as_bytes(), false)?;
-    let hits = first_hits(alloc, &wanted, &held)?;
-    let plain = plain_hits(alloc, &wanted, &held)?;
-    assert!(rt; hits.len() == plain.len(), "{query}{molecule}");
-    for (hit, other) in hits.iter().zip(&plain) {
-        assert!(rt; hit.as_slice() == other.as_slice(), "{query}{molecule}");
-    }
-    Ok(hits.len())
-}
-
+// A query that is refused leaves the molecules unread.
 #[test]
-fn the_matcher_agrees_with_the_plain_program(rt: HostRuntime) -> Result<(), Fail> {
+fn a_refused_query_is_the_only_file_read(rt: HostRuntime) -> Result<(), Fail> {
     let alloc = rt.alloc();
-    let mut found = 0usize;
-    for number in 0..60usize {
-        let molecule = sketch(alloc, number.saturating_mul(191) % 11_664, 4)?;
-        for other in 0..6usize {
-            let query = sketch(alloc, other.saturating_mul(13) % 72, 3)?;
-            found = found.saturating_add(compare(&rt, alloc, query.as_str(), molecule.as_str())?);
-        }
-        let query = sketch(alloc, number.saturating_mul(37) % 11_664, 4)?;
-        found = found.saturating_add(compare(&rt, alloc, query.as_str(), molecule.as_str())?);
-    }
-    assert!(rt; found > 100);
+    let mut files = MemFiles::new(files(alloc, DOUBLE, COC)?, failing(alloc, 2)?);
+    let mut output = SureSink::new(Bytes::new(alloc));
+    let words = words(alloc, ["match", "q", "none"].as_slice())?;
+    let ended = top(alloc, &words, &mut files, &mut output);
+    assert!(rt; ended == Status::Refused);
+    assert!(rt; output.bytes() == b"refused 12 unbuilt\n".as_slice());
     Ok(())
 }

@@ -1,7 +1,6 @@
 use Rattle.std.proofs.Common.{map}
 use Rattle.std.specs.String.{string_bytes}
 use Rattle.mk_session.specs.Running.{is_match}
-use Rattle.mk_session.proofs.RunLemmas.{run_there}
 use Rattle.mk_session.proofs.HeadlineLemmas.{whole, cut, leaves_whole}
 use Rattle.mk_session.proofs.running.top.Goals as goal
 
@@ -14,18 +13,7 @@ returns-in-Ok-put-clause-leaves g c =
     λ look so_far told told_so_far. leaves_whole (is_match (map string_bytes c.args.words.now)) (map string_bytes c.args.words.now) look so_far _ c.in-Ok.outcome.status c.in-Ok.ensures.counted.1
     (whole (map string_bytes c.args.words.now) look so_far c.as_slice.result.now _ _ c.in-Ok.outcome c.in-Ok-put.field-0 (c.in-Ok.ensures.told look told) c.in-Ok-put.ensures.told told_so_far c.as_slice.ensures)
 
-pub returns-in-Ok-put-clause-absent : goal.returns-in-Ok-put-clause-absent
-returns-in-Ok-put-clause-absent g c = λ look outcome told run. c.outcome_of.ensures.absent look told (run_there _ look outcome run)
-
 pub returns-in-Err-Failed-clause-leaves : goal.returns-in-Err-Failed-clause-leaves
 returns-in-Err-Failed-clause-leaves g c =
     λ look so_far told told_so_far. cut (map string_bytes c.args.words.now) look so_far c.as_slice.result.now _ _ c.in-Ok.outcome c.in-Err-Failed.field-0 c.put.result (c.in-Ok.ensures.told look told) c.in-Err-Failed.is c.in-Err-Failed.field-0-is c.put.ensures.told told_so_far c.as_slice.ensures
 
-pub returns-in-Err-Failed-clause-absent : goal.returns-in-Err-Failed-clause-absent
-returns-in-Err-Failed-clause-absent g c = λ look outcome told run. c.outcome_of.ensures.absent look told (run_there _ look outcome run)
-
-pub returns-in-Ok-clause-absent : goal.returns-in-Ok-clause-absent
-returns-in-Ok-clause-absent g c = λ look outcome told run. c.outcome_of.ensures.absent look told (run_there _ look outcome run)
-
-pub returns-clause-absent : goal.returns-clause-absent
-returns-clause-absent g c = λ look outcome told run. c.outcome_of.ensures.absent look told (run_there _ look outcome run)
