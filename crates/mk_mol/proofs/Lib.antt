@@ -11,3 +11,4 @@ pub mod GainLemmas
 pub mod MarkLemmas
 pub mod FilledLemmas
 pub mod LawLemmas
+pub mod MolOnLiterals

@@ -1,6 +1,7 @@
 -- What the checks demand of a molecule's table, item by item. Atoms, bonds and properties count from 1.
 --     OfItem P xs item                 P holds of the item of this number, where there is one
 --     IsKnownAtom atom                 an element's symbol, and columns that mean something
+--     HasTwoEnds atoms bond            between two of the atoms
 --     IsNewBond atoms earlier bond     between two of the atoms that no earlier bond joins
 --     HasKnownType bond                type 1 to 4
 --     edges_of bonds                   the bonds as the definitions of rings see them
@@ -40,7 +41,7 @@ pub record IsKnownAtom (atom : RawAtom) : Type 0 where
 abbrev pub IsAtom : ℕ → ℤ → Type 0
 IsAtom atoms z = IsWithin (pos 1) (pos atoms) z
 
--- the ends are two atoms
+-- the ends are two of so many atoms
 pub record HasTwoEnds (atoms : ℕ) (bond : RawBond) : Type 0 where
   pub first : IsAtom atoms bond.first
   pub second : IsAtom atoms bond.second
@@ -59,7 +60,8 @@ pub record IsNewBond (atoms : ℕ) (earlier : List RawBond) (bond : RawBond) : T
 abbrev pub HasKnownType : RawBond → Type 0
 HasKnownType bond = IsWithin (pos 1) (pos 4) bond.kind
 
--- the bond as the definitions of rings see it: a number that is no atom's or no type's is 0 there
+-- The bond as the definitions of rings see it. A number below 0 is 0 there, and so is a type above 255: no atom and no type
+-- that passes has it.
 abbrev pub edge_of : RawBond → Edge
 edge_of bond = record { first = natural bond.first; second = natural bond.second; kind = byte bond.kind }
 
@@ -84,7 +86,7 @@ NamesAtoms atoms (kinds.Radical pairs) = AreForAtoms atoms pairs
 NamesAtoms atoms (kinds.Isotope pairs) = AreForAtoms atoms pairs
 NamesAtoms atoms other = Unit {0}
 
--- charges are -15 to 15, and radicals 0 to 3
+-- charges are -15 to 15 (`negsuc 14` is -15), and radicals 0 to 3
 abbrev pub HasKnownValues : Property → Type 0
 HasKnownValues (kinds.Charge pairs) = AreWithin (negsuc 14) (pos 15) pairs
 HasKnownValues (kinds.Radical pairs) = AreWithin (pos 0) (pos 3) pairs

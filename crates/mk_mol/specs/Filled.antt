@@ -67,7 +67,7 @@ last_or none (value ∷ values) = last_or value values
 
 -- ---- charges and radicals
 
--- what the charge column of an atom line says: 1 to 3 are +3 to +1, and 5 to 7 are -1 to -3
+-- what the charge column of an atom line says: 1 to 3 are +3 to +1, and 5 to 7 are -1 to -3 (`negsuc 0` is -1)
 abbrev pub charge_of_column : ℕ → ℤ
 charge_of_column column =
     if column == 1 then pos 3 else (
@@ -77,7 +77,7 @@ charge_of_column column =
     if column == 6 then negsuc 1 else (
     if column == 7 then negsuc 2 else pos 0)))))
 
--- 4 is a doublet, radical 2
+-- 4 is a doublet, radical 2; any other is no radical
 abbrev pub radical_of_column : ℕ → ℤ
 radical_of_column column = if column == 4 then pos 2 else pos 0
 
@@ -134,8 +134,9 @@ abbrev pub hydrogen_bonds : ℕ → List ℕ → List Edge
 hydrogen_bonds n [] = []
 hydrogen_bonds n (owner ∷ others) = record { first = owner; second = n; kind = 1 } ∷ hydrogen_bonds (n + 1) others
 
--- The written atoms in order and the added hydrogens by rising atom; the written bonds in order and a bond for each added
--- hydrogen. Which bonds are ring bonds or aromatic is said by `IsMolecule` of mk_model, which every molecule keeps.
+-- The written atoms in order, and the added hydrogens by rising atom. The written bonds in order with their ends as written,
+-- and a bond of type 1 for each added hydrogen, from its atom to it. Which bonds are ring bonds or aromatic is said by
+-- `IsMolecule` of mk_model, which every molecule keeps.
 pub record IsFilled (table : RawTable) (mol : Molecule) : Type 0 where
   pub atoms : List Atom
   pub gains : List ℕ

@@ -2,12 +2,14 @@
 --     Check                            the seven checks; `number` gives their numbers
 --     Demands table check item         what a check demands of the item of a number
 --     PassesAll table                  every check passes at every item
---     IsFirstFault table check item    the first check that fails, and its least item
+--     IsFirstFault table n item        the first check that fails is the n-th, and this is its least item
 use Rattle.std.specs.Prelude.{◌≡◌, ◌<◌, ◌≤◌, ◌-◌, ℕ, [], length, take}
 use Rattle.mk_model.specs.Filling.{degree}
 use Rattle.mk_ctab.specs.declared.raw.RawTable.{RawTable}
 use Rattle.mk_mol.specs.Checks.{OfItem, IsKnownAtom, IsNewBond, HasKnownType, edges_of, NamesAtoms, HasKnownValues, IsOfMolecules}
 
+-- Symbols and columns of atoms; ends of bonds; types of bonds; how many bonds an atom has; the atoms, the values and the kinds
+-- of properties.
 pub data Check : Type 0 where
   known_atoms : Check
   new_bonds : Check
@@ -17,7 +19,7 @@ pub data Check : Type 0 where
   known_values : Check
   known_properties : Check
 
--- the checks count from 1
+-- the checks count from 1, in their order
 abbrev pub number : Check → ℕ
 number known_atoms = 1
 number new_bonds = 2
@@ -55,7 +57,7 @@ pub record IsLeastFailing (Demand : ℕ → Type 0) (item : ℕ) : Type 0 where
 abbrev pub PassesBelow : RawTable → ℕ → Type 0
 PassesBelow table n = (check : Check) → number check < n → Passes table check
 
--- the checks before this one pass, and this one fails at this item and at no lower one
+-- the checks before the n-th pass, and the n-th fails at this item and at no lower one
 pub record IsFirstFault (table : RawTable) (n item : ℕ) : Type 0 where
   pub check : Check
   pub numbered : number check ≡ n
