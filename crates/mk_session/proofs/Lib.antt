@@ -5,3 +5,4 @@ pub mod RecordReadingLemmas
 mod RecordOnLiterals
 pub mod RunLemmas
 pub mod HeadlineLemmas
+pub mod OneRunLemmas

@@ -1,10 +1,10 @@
 -- The rising list of all that have P, listed one by one from places on.
 --     listed_none, listed_more      what is listed so far, and what is left behind the place
 --     listed_all, listed_first      the whole list, or its first so many
-use Rattle.std.proofs.Common.{◌≡◌, ℕ, zero, suc, ◌+◌, ◌<◌, ◌≤◌, inl, inr, ◌⊎◌, List, [], ◌∷◌, ◌++◌, Option, Some, None, length, take, refl, sym, ap, subst, ◌∙◌, arith, append_assoc}
+use Rattle.std.proofs.Common.{◌≡◌, ℕ, ◌≤◌, inl, inr, ◌⊎◌, List, [], ◌∷◌, ◌++◌, None, length, take, refl, sym, ap, subst, ◌∙◌, arith, append_assoc}
 use Rattle.std.proofs.lemmas.List.{append-nil, take_all, take_at}
 use Rattle.mk_text.specs.Rising.{Holds, IsBelow, IsRisingListOfAll, Rises}
-use Rattle.mk_text.proofs.RisingLemmas.{below_through, each_holds, not_below_itself}
+use Rattle.mk_text.proofs.RisingLemmas.{below_through, each_holds}
 use Rattle.mk_model.specs.Hits.{IsLeast, IsLeastFrom}
 
 -- ---- the place behind a list

@@ -1,12 +1,12 @@
 -- Files of one record are read exactly, and so the laws of forms hold of them.
-use Rattle.std.proofs.Common.{◌≡◌, ℕ, ◌-◌, ◌≤◌, true, false, Bool, Some, None, Result, Ok, Err, List, [], ◌∷◌, ◌++◌, length, take, drop, refl, sym, ap, subst, ◌∙◌, inl, inr, arith}
+use Rattle.std.proofs.Common.{◌≡◌, ℕ, ◌-◌, ◌≤◌, true, false, None, Result, Ok, Err, List, [], ◌∷◌, ◌++◌, length, take, drop, refl, sym, ap, subst, ◌∙◌, inl, inr, arith}
 use Rattle.std.specs.Prelude.{IfOk}
-use Rattle.std.specs.List.{list_all, list_any}
+use Rattle.std.specs.List.{list_any}
 use Rattle.std.proofs.lemmas.List.{append-nil, length-append, take-append-drop}
 use Rattle.std.proofs.lemmas.List.Folds.{list_all-append}
 use Rattle.mk_form.specs.Exact.{Part, Exact, Completes, NeverDue, NoLines}
 use Rattle.mk_form.specs.InWords.{form}
-use Rattle.mk_form.specs.ToEnd.{EachIs, lines_to_end}
+use Rattle.mk_form.specs.ToEnd.{EachIs}
 use Rattle.mk_form.proofs.Either.{exact-either}
 use Rattle.mk_form.proofs.Fronts.{exact-form, completes-form, completes-any_lines, completes-either, completes-lines_to_end, completes-seen_as, completes-sequence, completes-with_lines}
 use Rattle.mk_form.proofs.NeverDue.{never-lines_to_end, never-seen_as}

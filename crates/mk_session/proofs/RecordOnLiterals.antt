@@ -1,5 +1,5 @@
 -- Files of a few lines, computed.
-use Rattle.std.proofs.Common.{◌≡◌, true, false, List, [], ◌∷◌, refl}
+use Rattle.std.proofs.Common.{◌≡◌, true, false, [], ◌∷◌, refl}
 use Rattle.std.specs.Prelude.{codes}
 use Rattle.mk_form.specs.Reading.{Took, Stop}
 use Rattle.mk_text.specs.Columns.{columns}

@@ -4,7 +4,7 @@
 --     farther_fault first fault              the bad line of lines that are neither blank lines alone nor a record
 --     AnswersFile lines answer reading       a reader answered what the reading gives
 --     IfRecord answer P                a fact of the table that was read
-use Rattle.std.specs.Prelude.{◌≡◌, ℕ, max, Bool, true, List, [], Result, Ok, Err, ⊤}
+use Rattle.std.specs.Prelude.{◌≡◌, ℕ, max, true, List, [], Result, Ok, Err, ⊤}
 use Rattle.std.specs.List.{list_any}
 use Rattle.mk_form.specs.Either.{either}
 use Rattle.mk_form.specs.Exact.{Part, AtOnce}

@@ -3,7 +3,8 @@
 --     IsHeld look name mol                  it holds one record with this molecule
 --     IsRun words look outcome              the run of these words over these files has this outcome
 --     HasItsFiles words look                the files that the run reads are there
-use Rattle.std.specs.Prelude.{◌≡◌, ℕ, ◌<◌, ◌≤◌, ◌⊎◌, Bool, true, false, List, [], ◌∷◌, length, take, Option, Some, IsSome, codes}
+--     OneRun                                a run has at most one outcome
+use Rattle.std.specs.Prelude.{◌≡◌, ℕ, ◌<◌, ◌≤◌, true, false, List, [], ◌∷◌, length, take, Option, Some, IsSome, codes}
 use Rattle.mk_text.specs.Lines.{lines_of}
 use Rattle.mk_ctab.specs.declared.plain_table.PlainTable.{PlainTable}
 use Rattle.mk_ctab.specs.declared.raw.RawTable.{RawTable}
@@ -119,3 +120,9 @@ pub record AreThere (look : List ℕ → Option (List ℕ)) (query molecules : L
 -- where the words are understood, the files that are read are there
 abbrev pub HasItsFiles : List (List ℕ) → (List ℕ → Option (List ℕ)) → Type 0
 HasItsFiles words look = (query molecules : List ℕ) → words ≡ match_words query molecules → AreThere look query molecules
+
+-- ---- the law
+
+-- two outcomes of a run over the same files are one
+abbrev pub OneRun : Type 0
+OneRun = (words : List (List ℕ)) (look : List ℕ → Option (List ℕ)) (a b : Outcome) → IsRun words look a → IsRun words look b → a ≡ b

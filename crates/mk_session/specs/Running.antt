@@ -7,7 +7,6 @@
 use Rattle.std.specs.Prelude.{◌≡◌, ◌≤◌, ℕ, ◌==◌, ◌&&◌, Bool, true, false, List, [], length, slice_index_or, Option, Some, None, Result, Ok, Err, ⊤, codes, bytes_eq}
 use Rattle.mk_text.specs.Lines.{lines_of}
 use Rattle.mk_outside.specs.Counts.{Rose}
-use Rattle.mk_ctab.specs.declared.plain_table.PlainTable.{PlainTable}
 use Rattle.mk_ctab.specs.declared.raw.RawTable.{RawTable}
 use Rattle.mk_ctab.specs.PlainFacts.{IsPlainTable}
 use Rattle.mk_model.specs.Molecules.{IsMolecule}

@@ -13,6 +13,7 @@
 mod answers;
 mod drawn_query;
 mod judging;
+mod laws;
 mod listing;
 mod outcome;
 mod record_file;
@@ -26,6 +27,7 @@ mod status;
 #[cfg(test)]
 mod tests;
 
+pub use laws::one_run;
 pub use mk_text::Memory;
 pub use record_laws::record_file_is_exact;
 pub use running::top;

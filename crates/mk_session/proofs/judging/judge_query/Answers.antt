@@ -1,4 +1,4 @@
-use Rattle.std.proofs.Common.{◌≡◌, List, refl}
+use Rattle.std.proofs.Common.{refl}
 use Rattle.mk_text.specs.Lines.{lines_of}
 use Rattle.mk_session.proofs.judging.judge_query.Goals as goal
 

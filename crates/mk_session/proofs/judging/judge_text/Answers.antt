@@ -1,7 +1,7 @@
-use Rattle.std.proofs.Common.{◌≡◌, ◌∙◌, refl}
+use Rattle.std.proofs.Common.{◌∙◌, refl}
 use Rattle.std.specs.Prelude.{codes}
 use Rattle.mk_text.specs.Lines.{lines_of}
-use Rattle.mk_session.specs.RecordFile.{AreBlankLines, IsBadRecordLine, IsRecord, IsV3000Line}
+use Rattle.mk_session.specs.RecordFile.{AreBlankLines, IsRecord}
 use Rattle.mk_session.specs.Run.{BadLine, FurtherLines, NoRecord, V3000}
 use Rattle.mk_session.proofs.RunLemmas.{held_if, refused_if}
 use Rattle.mk_session.proofs.judging.judge_text.Goals as goal

@@ -1,4 +1,4 @@
-use Rattle.std.proofs.Common.{◌≡◌, ◌≤◌, ◌∙◌, ◌++◌, ◌∷◌, [], List, ℕ, None, ◌+◌, length, length-append, arith}
+use Rattle.std.proofs.Common.{◌≡◌, ◌++◌, ◌∷◌, [], None, ◌+◌, length, length-append, arith}
 use Rattle.mk_model.specs.Hits.{IsHit, IsLeast, IsLeastFrom}
 use Rattle.mk_match.specs.Plain.{hits_of}
 use Rattle.mk_match.proofs.PlainLemmas.{law}

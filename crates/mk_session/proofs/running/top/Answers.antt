@@ -16,4 +16,3 @@ returns-in-Ok-put-clause-leaves g c =
 pub returns-in-Err-Failed-clause-leaves : goal.returns-in-Err-Failed-clause-leaves
 returns-in-Err-Failed-clause-leaves g c =
     λ look so_far told told_so_far. cut (map string_bytes c.args.words.now) look so_far c.as_slice.result.now _ _ c.in-Ok.outcome c.in-Err-Failed.field-0 c.put.result (c.in-Ok.ensures.told look told) c.in-Err-Failed.is c.in-Err-Failed.field-0-is c.put.ensures.told told_so_far c.as_slice.ensures
-

@@ -1,4 +1,3 @@
-use Rattle.std.proofs.Common.{List, ℕ}
 use Rattle.std.specs.String.{string_bytes}
 use Rattle.mk_session.proofs.RunLemmas.{three_words}
 use Rattle.mk_session.proofs.seeking.names_of.Goals as goal
