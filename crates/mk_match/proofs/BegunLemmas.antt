@@ -2,8 +2,7 @@
 --     begun_more        what may stand behind the first atoms goes on with them
 --     hit_begins        each atom of a hit may stand behind those before it
 --     begun_whole       as many atoms as the graph has are a hit
-use Rattle.std.proofs.Common.{◌≡◌, ◌≢◌, ℕ, zero, suc, ◌+◌, ◌<◌, ◌≤◌, ◌-◌, inl, inr, List, [], ◌∷◌, ◌++◌, length, get_or, refl, sym, ap, subst, ◌∙◌, arith, All, length-append}
-use Rattle.std.specs.Prelude.{AllPairs, slice_index}
+use Rattle.std.proofs.Common.{◌≡◌, ◌≢◌, ℕ, suc, ◌+◌, ◌<◌, ◌≤◌, ◌-◌, inl, inr, List, [], ◌∷◌, ◌++◌, length, get_or, refl, sym, subst, ◌∙◌, arith, All, length-append}
 use Rattle.std.proofs.lemmas.Bool.{cases_lt}
 use Rattle.std.proofs.Math.ListN.{get_or-append}
 use Rattle.std.proofs.Math.Seq.{get_or-append_seam}
@@ -14,7 +13,7 @@ use Rattle.mk_model.specs.Molecules.{Molecule}
 use Rattle.mk_model.specs.Graphs.{Drawing}
 use Rattle.mk_model.specs.Fitting.{FitsAtom, LiesOn}
 use Rattle.mk_model.specs.Hits.{image, IsHit}
-use Rattle.mk_match.specs.Search.{IsBegun, MayStand, Completes}
+use Rattle.mk_match.specs.Search.{IsBegun, MayStand}
 
 -- the images of the first atoms stay
 image_first : (first others : List ℕ) (x : ℕ) → 1 ≤ x → x ≤ length first → image (first ++ others) x ≡ image first x
@@ -95,19 +94,22 @@ module _ (graph : Drawing) (mol : Molecule) (first : List ℕ) (a : ℕ) where
       let in_range : (1 ≤ a) × (a ≤ length mol.atoms) = subst P here (hit.within (length first) 0 below) in
       let Q : ℕ → Type 0 = λ n. FitsAtom graph mol (length first + 1) n in
       let up_to : length first + 1 ≤ length graph.atoms = omega (arith, hit.one_each) in
-      let from : 1 ≤ length first + 1 = omega arith in
-      (record {
-        fits = subst Q (image_next first others a (length first + 1) refl) (hit.atoms (length first + 1) from up_to);
-        new = λ k d within same.
-            hit.distinct k (length first) d within below
-            (get_or-append first (a ∷ others) d k within ∙ same ∙ sym (get_or-append_seam first a others d));
-        bonds = λ k d within is.
-            let bond : GraphBond = get_or graph.bonds k d in
-            let less : bond.first < bond.second = lower k d within in
-            let from' : 1 ≤ bond.first = least k d within in
-            let early : bond.first ≤ length first = omega arith in
-            lies_by mol bond _ _ _ _ (image_first first (a ∷ others) bond.first from' early) (image_next first others a bond.second is) (hit.bonds k d within);
-      }, in_range.0, in_range.1)
+      let from : 1 ≤ length first + 1 = omega arith in (
+        record {
+          fits = subst Q (image_next first others a (length first + 1) refl) (hit.atoms (length first + 1) from up_to);
+          new = λ k d within same.
+              hit.distinct k (length first) d within below
+              (get_or-append first (a ∷ others) d k within ∙ same ∙ sym (get_or-append_seam first a others d));
+          bonds = λ k d within is.
+              let bond : GraphBond = get_or graph.bonds k d in
+              let less : bond.first < bond.second = lower k d within in
+              let from' : 1 ≤ bond.first = least k d within in
+              let early : bond.first ≤ length first = omega arith in
+              lies_by mol bond _ _ _ _ (image_first first (a ∷ others) bond.first from' early) (image_next first others a bond.second is) (hit.bonds k d within);
+        },
+        in_range.0,
+        in_range.1,
+      )
 
 -- ---- the whole
 

@@ -2,7 +2,7 @@
 --     least_end_more      one more end
 --     no_end_between      no atom that is bonded lies between the number and the least end above it
 --     no_end_above        and none lies above it where there is no such end
-use Rattle.std.proofs.Common.{◌≡◌, ℕ, zero, suc, ◌+◌, ◌<◌, ◌≤◌, ◌-◌, inl, inr, Bool, true, false, cond, eqb, leb, min, List, [], ◌∷◌, ◌++◌, length, get_or, map, Option, Some, None, refl, sym, ap, subst, ◌∙◌, arith, All}
+use Rattle.std.proofs.Common.{◌≡◌, ℕ, ◌+◌, ◌<◌, ◌≤◌, ◌-◌, inl, inr, Bool, true, false, cond, eqb, min, List, [], ◌∷◌, ◌++◌, length, get_or, Option, Some, None, refl, sym, ap, ◌∙◌, arith, All}
 use Rattle.std.specs.Prelude.{IfNone, IfSome, slice_get, nat_le}
 use Rattle.std.proofs.lemmas.Bool.Decides.{nat_tests}
 use Rattle.std.proofs.lemmas.List.{length-map, get_or-map}
@@ -10,8 +10,7 @@ use Rattle.std.proofs.lemmas.List.Elements.{All-push}
 use Rattle.mk_model.specs.declared.edge.Edge.{Edge}
 use Rattle.mk_model.specs.declared.molecule.MolBond.{MolBond}
 use Rattle.mk_model.specs.Edges.{HasEnds, numbers_at, touches}
-use Rattle.mk_model.specs.Molecules.{Molecule, IsMolecule, edge_of, edges}
-use Rattle.mk_model.specs.Fitting.{other_end}
+use Rattle.mk_model.specs.Molecules.{Molecule, edge_of, edges}
 use Rattle.mk_model.proofs.ForCallers.{numbers_at-all}
 use Rattle.mk_model.proofs.MoleculeLemmas.{touches-ends}
 use Rattle.mk_model.proofs.PlaceLemmas.{at_place}
@@ -33,7 +32,7 @@ module _ (bonds : List MolBond) (n : ℕ) (numbers : List ℕ) (above number : �
   none_by false e all = (
     grind (arith, nat_tests),
     All-push (λ m. above < end_numbered bonds m n → end_numbered bonds number n ≤ end_numbered bonds m n) numbers number
-    (any_bound bonds n above (end_numbered bonds number n) numbers all) (λ over. omega arith),
+        (any_bound bonds n above (end_numbered bonds number n) numbers all) (λ over. omega arith),
   )
 
   some_by : (least : ℕ) (b : Bool) → nat_le (end_numbered bonds number n) above ≡ b → IsLeastEnd bonds n numbers above (Some least) → IsLeastEnd bonds n (numbers ++ number ∷ []) above (cond b (Some least) (Some (min least (end_numbered bonds number n))))
@@ -41,7 +40,7 @@ module _ (bonds : List MolBond) (n : ℕ) (numbers : List ℕ) (above number : �
   some_by least false e is = (
     (let over : above < end_numbered bonds number n = grind (arith, nat_tests) in omega (arith, is.0)),
     All-push (λ m. above < end_numbered bonds m n → min least (end_numbered bonds number n) ≤ end_numbered bonds m n) numbers number
-    (lower_bound bonds n above least (min least (end_numbered bonds number n)) numbers (omega arith) is.1) (λ over. omega arith),
+        (lower_bound bonds n above least (min least (end_numbered bonds number n)) numbers (omega arith) is.1) (λ over. omega arith),
   )
 
   -- one more end

@@ -2,7 +2,7 @@
 --     any_found, any_given      some element passes
 --     all_found, all_given      each element passes
 --     distinct_found, distinct_given      no number stands twice
-use Rattle.std.proofs.Common.{◌≡◌, ◌≢◌, ℕ, zero, suc, ◌+◌, ◌<◌, ◌≤◌, Bool, true, false, not, ◌&&◌, ◌||◌, eqb, List, [], ◌∷◌, length, get_or, refl, ap, sym, ◌∙◌, arith, All}
+use Rattle.std.proofs.Common.{◌≡◌, ◌≢◌, ℕ, zero, suc, ◌<◌, Bool, true, false, not, ◌||◌, eqb, List, [], ◌∷◌, length, get_or, refl, ap, sym, ◌∙◌, arith, All}
 use Rattle.std.specs.List.{list_all, list_any, AllByRecursion, AllPairs, Contains}
 use Rattle.std.proofs.lemmas.Bool.{ne_eqb}
 use Rattle.std.proofs.lemmas.Bool.Decides.{nat_tests}

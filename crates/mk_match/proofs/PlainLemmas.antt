@@ -1,8 +1,7 @@
 -- The plain program gives the rising list of all hits: its tests are those of a hit.
 --     law        HitsAreListed
-use Rattle.std.proofs.Common.{◌≡◌, ◌≢◌, ℕ, zero, suc, ◌+◌, ◌-◌, ◌<◌, ◌≤◌, inl, inr, Bool, true, false, ◌&&◌, ◌||◌, eqb, IsTrue, List, [], ◌∷◌, Option, Some, None, length, get_or, refl, sym, ap, subst, ◌∙◌, arith, All}
+use Rattle.std.proofs.Common.{◌≡◌, ℕ, zero, suc, ◌+◌, ◌-◌, ◌<◌, ◌≤◌, inl, inr, Bool, true, false, ◌&&◌, ◌||◌, eqb, List, [], ◌∷◌, Option, Some, None, length, get_or, refl, subst, arith}
 use Rattle.std.specs.Prelude.{slice_get}
-use Rattle.std.specs.List.{list_all, list_any, Contains}
 use Rattle.std.proofs.lemmas.Bool.Decides.{nat_tests}
 use Rattle.mk_text.specs.Choices.{IsPassed}
 use Rattle.mk_text.proofs.ChoiceLemmas.{law as choices_rise}
@@ -121,8 +120,8 @@ unfolding is_hit
 hit_given graph mol hit h =
     let one_by_one : (k : ℕ) → k < length hit → FitsAtom graph mol (1 + k) (get_or hit k 0) =
     λ k within.
-        (let place : 1 + k - 1 ≡ k = omega arith in
-        subst (λ (i : ℕ). FitsAtom graph mol (1 + k) (get_or hit i 0)) place (h.atoms (1 + k) (omega arith) (omega (arith, h.one_each)))) in
+    (let place : 1 + k - 1 ≡ k = omega arith in
+    subst (λ (i : ℕ). FitsAtom graph mol (1 + k) (get_or hit i 0)) place (h.atoms (1 + k) (omega arith) (omega (arith, h.one_each)))) in
     record {
       choice = record { count = h.one_each; within = all_recursion (λ (a : ℕ). (1 ≤ a) × (a ≤ length mol.atoms)) hit h.within };
       passes =

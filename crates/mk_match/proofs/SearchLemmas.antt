@@ -1,8 +1,8 @@
 -- The search, one atom after another.
 --     search_starts, search_goes_on, search_finds, search_ends      the loop over the next atom
 --     whole_found, whole_missed                                     where each atom of the graph has its image
-use Rattle.std.proofs.Common.{◌≡◌, ◌≢◌, ℕ, zero, suc, ◌+◌, ◌<◌, ◌≤◌, ◌-◌, inl, inr, Bool, true, false, eqb, IsTrue, List, [], ◌∷◌, ◌++◌, length, get_or, take, drop, set, Option, Some, None, refl, sym, ap, subst, ◌∙◌, arith, All, append_assoc, length-append, append-nil}
-use Rattle.std.specs.Prelude.{Contains, IfNone, IfSome}
+use Rattle.std.proofs.Common.{◌≡◌, ℕ, ◌+◌, ◌<◌, ◌≤◌, ◌-◌, inl, inr, Bool, false, eqb, IsTrue, List, [], ◌∷◌, ◌++◌, length, get_or, take, drop, set, Option, Some, None, refl, sym, ap, subst, ◌∙◌, arith, All, append_assoc, length-append, append-nil}
+use Rattle.std.specs.Prelude.{IfSome}
 use Rattle.std.specs.Option.{ForSome}
 use Rattle.std.proofs.lemmas.Bool.{cases_lt}
 use Rattle.std.proofs.lemmas.Bool.Decides.{nat_tests}
@@ -11,7 +11,6 @@ use Rattle.mk_text.specs.Rising.{IsBelow}
 use Rattle.mk_model.specs.declared.graph.GraphBond.{GraphBond}
 use Rattle.mk_model.specs.Molecules.{Molecule}
 use Rattle.mk_model.specs.Graphs.{Drawing, IsDrawing}
-use Rattle.mk_model.specs.Fitting.{LiesOn}
 use Rattle.mk_model.specs.Hits.{image, IsHit, IsLeast, IsLeastFrom}
 use Rattle.mk_model.proofs.PlaceLemmas.{drawn_first, drawn_second}
 use Rattle.mk_match.specs.Search.{AreBonded, Completes, IsAnchor, IsBegun, IsCandidate, IsPassed, MayStand, least_first, rest_after}

@@ -1,10 +1,9 @@
 -- The bonds of the next atom to earlier ones, by their numbers.
 --     met_all      where each of the next atom's bonds is met, all bonds are that end at it
 --     met_each     and the other way round
-use Rattle.std.proofs.Common.{◌≡◌, ℕ, ◌+◌, ◌<◌, ◌≤◌, ◌-◌, true, List, Some, length, get_or, refl, sym, ap, subst, ◌∙◌, arith, All}
+use Rattle.std.proofs.Common.{◌≡◌, ℕ, ◌+◌, ◌-◌, true, List, Some, length, get_or, sym, ap, subst, ◌∙◌, arith, All}
 use Rattle.std.specs.Prelude.{slice_get}
 use Rattle.std.proofs.lemmas.List.{length-map, get_or-map}
-use Rattle.mk_model.specs.declared.edge.Edge.{Edge}
 use Rattle.mk_model.specs.declared.graph.GraphBond.{GraphBond}
 use Rattle.mk_model.specs.Edges.{numbers_at, touches}
 use Rattle.mk_model.specs.Molecules.{Molecule}
@@ -13,7 +12,7 @@ use Rattle.mk_model.specs.Fitting.{LiesOn}
 use Rattle.mk_model.specs.Hits.{image}
 use Rattle.mk_model.proofs.DegreeLemmas.{touches-second}
 use Rattle.mk_model.proofs.ForCallers.{numbers_at-all}
-use Rattle.mk_model.proofs.PlaceLemmas.{all_at, at_place, place_is}
+use Rattle.mk_model.proofs.PlaceLemmas.{all_at, at_place}
 use Rattle.mk_match.specs.Search.{IsMetAt}
 
 module _ (graph : Drawing) (mol : Molecule) (first : List ℕ) (a : ℕ) where

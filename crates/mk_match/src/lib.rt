@@ -13,6 +13,8 @@ mod fronts;
 mod laws;
 mod searching;
 mod standing;
+#[cfg(test)]
+mod tests;
 
 pub use laws::hits_are_listed;
 pub use searching::least_map;

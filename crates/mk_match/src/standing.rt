@@ -7,7 +7,6 @@ ghost use Rattle.mk_match.specs.Search.{IsAnchor, IsMetAt, MayStand};
 use mk_model::{Graph, GraphBond, Mol};
 use mk_tests::{atom_fits, bond_fits};
 
-
 /// Tells whether the atom meets its test, is new, and is bonded to the first ones as the graph asks.
 pub fn may_stand(graph: &Graph, mol: &Mol, first: &[u32], a: u32) -> bool
     requires short { length first.now < length graph.now.atoms }

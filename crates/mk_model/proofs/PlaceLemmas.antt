@@ -3,7 +3,7 @@
 --     all_at            what holds of each holds of it
 --     drawn_between     the ends of each bond of a graph are two of its atoms
 --     bonds_between     and those of each bond of a molecule two of its
-use Rattle.std.proofs.Common.{◌≡◌, ℕ, zero, suc, ◌+◌, ◌<◌, ◌≤◌, ◌-◌, List, [], ◌∷◌, Option, Some, None, length, get_or, map, refl, sym, ap, subst, ◌∙◌, arith, All}
+use Rattle.std.proofs.Common.{◌≡◌, ℕ, zero, suc, ◌<◌, ◌≤◌, List, [], ◌∷◌, Some, length, get_or, map, refl, subst, arith, All}
 use Rattle.std.specs.Prelude.{slice_get}
 use Rattle.std.proofs.lemmas.List.{length-map, get_or-map}
 use Rattle.mk_model.specs.Edges.{IsBetween}

@@ -3,7 +3,7 @@
 --     drawn_hydrogens graph x, drawn_others graph x, drawn_rings graph x     the same of atom x of a graph
 --     FitsAtom graph mol x m       atom x of the graph accepts atom m of the molecule
 --     LiesOn mol asked a b         a bond of the molecule joins a and b and meets the test of a bond of the graph
-use Rattle.std.specs.Prelude.{◌≡◌, ◌==◌, ◌&&◌, ◌-◌, ℕ, Bool, true, false, not, List, Option, Some, None, slice_get, count_by, IsTrue, if◌then◌else◌}
+use Rattle.std.specs.Prelude.{◌≡◌, ◌==◌, ◌&&◌, ◌-◌, ℕ, Bool, false, not, List, Option, Some, None, slice_get, count_by, IsTrue, if◌then◌else◌}
 use Rattle.std.specs.List.{list_any}
 use Rattle.mk_model.specs.declared.edge.Edge.{Edge}
 use Rattle.mk_model.specs.declared.asking.Kind.{Kind}

@@ -3,7 +3,7 @@
 --     accepts kind element          the kind takes the element
 --     charge_fits .. unsaturation_fits      the other tests of an atom
 --     meets asked bond              a bond of a molecule meets the test of a bond of a graph
-use Rattle.std.specs.Prelude.{◌≡◌, ◌≤◌, ◌+◌, ◌-◌, ◌==◌, ◌&&◌, ◌||◌, ◌≤ℤ◌, ◌⊎◌, ℕ, ℤ, pos, negsuc, Bool, true, not, nat_le, List, length, All, if◌then◌else◌}
+use Rattle.std.specs.Prelude.{◌≡◌, ◌≤◌, ◌+◌, ◌-◌, ◌==◌, ◌&&◌, ◌||◌, ◌≤ℤ◌, ℕ, ℤ, pos, negsuc, Bool, true, not, nat_le, List, length, All, if◌then◌else◌}
 use Rattle.std.specs.List.{list_any}
 use Rattle.std.specs.Ordering.{int_eq}
 use Rattle.mk_model.specs.declared.asking.Kind.{Kind}

@@ -49,11 +49,7 @@ impl Graph {
     ghost use Rattle.mk_model.specs.Graphs.{Drawing, IsDrawing, drawn_edges};
 
     /// Takes the lists over and adds the neighbour lists.
-    pub fn of(
-        alloc: Global,
-        atoms: Vec<GraphAtom>,
-        bonds: Vec<GraphBond>,
-    ) -> Result<Graph, Memory>
+    pub fn of(alloc: Global, atoms: Vec<GraphAtom>, bonds: Vec<GraphBond>) -> Result<Graph, Memory>
         requires { IsDrawing (record { atoms = atoms.items; bonds = bonds.items }) }
         ensures { IfOk result (λ graph. graph ≡ record { atoms = atoms.items; bonds = bonds.items }) }
     {

@@ -1,8 +1,9 @@
 // The calls that take memory, each once.
 ghost use Rattle.std.specs.Prelude.{IsTrue};
 ghost use Rattle.mk_model.specs.Edges.{AreBetween};
+ghost use Rattle.mk_model.specs.Tests.{IsTestInRange};
 
-use crate::{Atom, Edge, Mol, Neighbours};
+use crate::{Atom, AtomTest, Edge, Elements, Graph, GraphAtom, Kind, Mol, Neighbours};
 use std::test::Fail;
 
 const CARBON: Atom = Atom {
@@ -36,6 +37,44 @@ fn keeps_a_molecule(rt: HostRuntime) -> Result<(), Fail> {
     assert_eq!(rt; mol.bonds_at(2), [].as_slice());
     assert!(rt; mol.bond_between(1, 2).is_none());
     Ok(())
+}
+
+#[test]
+fn keeps_a_graph(rt: HostRuntime) -> Result<(), Fail> {
+    let atoms = vec![in rt.alloc(); any_atom(), any_atom()]?;
+    let graph = Graph::of(rt.alloc(), atoms, Vec::new(rt.alloc()))?;
+    assert_eq!(rt; graph.atom_count(), 2);
+    assert_eq!(rt; graph.atoms().len(), 2);
+    assert!(rt; graph.bonds().is_empty());
+    assert_eq!(rt; graph.bonds_at(2), [].as_slice());
+    Ok(())
+}
+
+#[test]
+fn lists_elements(rt: HostRuntime) -> Result<(), Fail> {
+    let mut list = Elements::new(rt.alloc());
+    list.push(6)?;
+    list.push(8)?;
+    assert_eq!(rt; list.as_slice(), [6, 8].as_slice());
+    Ok(())
+}
+
+// An atom of a graph that takes any.
+fn any_atom() -> GraphAtom
+    ensures { IsTestInRange result.test }
+{
+    GraphAtom {
+        test: AtomTest {
+            kind: Kind::Anything,
+            charge: 0,
+            radical: 0,
+            hydrogens: 0,
+            ring_bonds: 0,
+            substitution: 0,
+            unsaturated: false,
+        },
+        free: 0,
+    }
 }
 
 fn edge(first: u32, second: u32) -> Edge {

@@ -8,8 +8,7 @@ use std::process::Abort;
 use std::test::Fail;
 
 // A carbon.
-const C: &str =
-    "\n\n\n  1  0\n                               C\nM  END\n";
+const C: &str = "\n\n\n  1  0\n                               C\nM  END\n";
 
 // A carbon and an oxygen with a bond.
 const CO: &str =
@@ -74,7 +73,12 @@ fn words(alloc: Global, words: &[&str]) -> Result<Vec<String>, Memory> {
 }
 
 // Whether `match q m` ends so over these files, and writes this.
-fn is_answered(alloc: Global, rows: FileRows, wanted: &str, status: Status) -> Result<bool, Memory> {
+fn is_answered(
+    alloc: Global,
+    rows: FileRows,
+    wanted: &str,
+    status: Status,
+) -> Result<bool, Memory> {
     let mut files = SureFiles::new(rows);
     let mut output = SureSink::new(Bytes::new(alloc));
     let words = words(alloc, ["match", "q", "m"].as_slice())?;
@@ -95,12 +99,7 @@ const HITS: [(&str, &str, &str, &str); 20] = [
         ACID,
         "hit 1 choice map 4 2\nend\n",
     ),
-    (
-        "a single bond among aromatic ones",
-        CC,
-        BENZENE,
-        "end\n",
-    ),
+    ("a single bond among aromatic ones", CC, BENZENE, "end\n"),
     (
         "every carbon of benzene",
         C,
@@ -119,12 +118,7 @@ const HITS: [(&str, &str, &str, &str); 20] = [
         COC,
         "hit 1 choice map 1 3\nhit 1 choice map 3 1\nend\n",
     ),
-    (
-        "more atoms than the molecule has",
-        COC,
-        CO,
-        "end\n",
-    ),
+    ("more atoms than the molecule has", COC, CO, "end\n"),
     (
         "a triple bond",
         TRIPLE,
@@ -282,12 +276,7 @@ const REFUSALS: [(&str, &str, &str, &str); 21] = [
         "\n\n\n  2  0\n                               C\n",
         "refused 2 molecules line 6\n",
     ),
-    (
-        "no byte",
-        C,
-        "",
-        "refused 11 records 0\n",
-    ),
+    ("no byte", C, "", "refused 11 records 0\n"),
     (
         "blank lines alone",
         C,
@@ -318,12 +307,7 @@ const REFUSALS: [(&str, &str, &str, &str); 21] = [
         "\n\n\n  1  0\n                               Xx\nM  END\n$$$$\n\nx\n",
         "refused 12 unbuilt\n",
     ),
-    (
-        "a query of no byte",
-        "",
-        COC,
-        "refused 12 unbuilt\n",
-    ),
+    ("a query of no byte", "", COC, "refused 12 unbuilt\n"),
     (
         "a query with a double bond",
         DOUBLE,
@@ -349,7 +333,10 @@ fn files_have_their_refusals(rt: HostRuntime) -> Result<(), Fail> {
     let alloc = rt.alloc();
     for (name, query, molecule, wanted) in REFUSALS.iter() {
         let rows = files(alloc, query, molecule)?;
-        assert!(rt; is_answered(alloc, rows, wanted, Status::Refused)?, "{name}");
+        assert!(rt;
+            is_answered(alloc, rows, wanted, Status::Refused)?,
+            "{name}"
+        );
     }
     Ok(())
 }
@@ -368,8 +355,16 @@ const LONG_QUERIES: [(&str, usize, &str); 2] = [
 ];
 
 const LONG_MOLECULES: [(&str, usize, &str); 2] = [
-    ("molecules over their limit", 67_108_865, "refused 4 molecules\n"),
-    ("molecules at their limit", 67_108_864, "refused 11 records 0\n"),
+    (
+        "molecules over their limit",
+        67_108_865,
+        "refused 4 molecules\n",
+    ),
+    (
+        "molecules at their limit",
+        67_108_864,
+        "refused 11 records 0\n",
+    ),
 ];
 
 #[test]
@@ -379,13 +374,19 @@ fn files_over_their_limit_are_refused(rt: HostRuntime) -> Result<(), Fail> {
         let mut rows = FileRows::new(alloc);
         rows.push(long_file(alloc, "q", *bytes)?)?;
         rows.push(file(alloc, "m", CO)?)?;
-        assert!(rt; is_answered(alloc, rows, wanted, Status::Refused)?, "{name}");
+        assert!(rt;
+            is_answered(alloc, rows, wanted, Status::Refused)?,
+            "{name}"
+        );
     }
     for (name, bytes, wanted) in LONG_MOLECULES.iter() {
         let mut rows = FileRows::new(alloc);
         rows.push(file(alloc, "q", CO)?)?;
         rows.push(long_file(alloc, "m", *bytes)?)?;
-        assert!(rt; is_answered(alloc, rows, wanted, Status::Refused)?, "{name}");
+        assert!(rt;
+            is_answered(alloc, rows, wanted, Status::Refused)?,
+            "{name}"
+        );
     }
     Ok(())
 }

@@ -11,8 +11,6 @@
 mod atom_counts;
 mod atoms;
 mod bonds;
-#[cfg(test)]
-mod building;
 mod columns;
 mod drawn_counts;
 mod ends;

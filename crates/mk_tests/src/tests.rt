@@ -1,7 +1,7 @@
 // Small queries on small molecules: what is asked of the first atom, and of a bond.
-use crate::building::{graph_of, mol_of};
 use crate::{atom_fits, bond_fits};
-use mk_model::{Atom, AtomTest, Edge, Elements, Graph, GraphAtom, Kind, Memory, Mol};
+use mk_drawn::{graph_of, mol_of};
+use mk_model::{Atom, AtomTest, Edge, Elements, Graph, GraphAtom, GraphBond, Kind, Memory, Mol};
 use std::alloc::Global;
 use std::test::Fail;
 
@@ -334,8 +334,8 @@ const BONDS: [(u8, u8, &str); 11] = [
 fn bonds(rt: HostRuntime) -> Result<(), Fail> {
     let mol = molecule_of(rt.alloc(), TAILED)?;
     for (kind, topology, want) in BONDS {
-        let edges = [edge(1, 2, kind)];
-        let graph = graph_of(rt.alloc(), any_two(rt.alloc())?, &edges, &[topology])?;
+        let bonds = vec![in rt.alloc(); bond(1, 2, kind, topology)]?;
+        let graph = graph_of(rt.alloc(), any_two(rt.alloc())?, bonds)?;
         assert!(rt;
             takes_these(&graph, 1, &mol, want)?,
             "type {kind}, topology {topology}"
@@ -396,9 +396,11 @@ fn query_of(alloc: Global, first: GraphAtom, drawing: Drawing) -> Result<Graph, 
     for z in drawing.0.iter().skip(1) {
         atoms.push(drawn_atom(*z))?;
     }
-    let topologies = vec![in alloc; 0u8; drawing.1.len()]?;
-    let edges = edges_of(alloc, drawing.1)?;
-    graph_of(alloc, atoms, &edges, &topologies)
+    let mut bonds = Vec::with_capacity(alloc, drawing.1.len())?;
+    for (first, second, kind) in drawing.1 {
+        bonds.push(bond(*first, *second, *kind, 0))?;
+    }
+    graph_of(alloc, atoms, bonds)
 }
 
 fn molecule_of(alloc: Global, drawing: Drawing) -> Result<Mol, Fail> {
@@ -410,23 +412,25 @@ fn molecule_of(alloc: Global, drawing: Drawing) -> Result<Mol, Fail> {
             radical: 0,
         })?;
     }
-    let edges = edges_of(alloc, drawing.1)?;
+    let mut edges = Vec::with_capacity(alloc, drawing.1.len())?;
+    for (first, second, kind) in drawing.1 {
+        edges.push(Edge {
+            first: *first,
+            second: *second,
+            kind: *kind,
+        })?;
+    }
     mol_of(alloc, atoms, &edges)
 }
 
-fn edges_of(alloc: Global, drawn: &[(u32, u32, u8)]) -> Result<Vec<Edge>, Memory> {
-    let mut edges = Vec::with_capacity(alloc, drawn.len())?;
-    for (first, second, kind) in drawn {
-        edges.push(edge(*first, *second, *kind))?;
-    }
-    Ok(edges)
-}
-
-fn edge(first: u32, second: u32, kind: u8) -> Edge {
-    Edge {
+fn bond(first: u32, second: u32, kind: u8, topology: u8) -> GraphBond {
+    GraphBond {
         first,
         second,
         kind,
+        topology,
+        ring: false,
+        aromatic: false,
     }
 }
 

@@ -1,10 +1,9 @@
-use Rattle.std.proofs.Common.{◌≡◌, ◌+◌, ◌<◌, ◌≤◌, ◌++◌, ◌∷◌, [], ◌≢◌, ℕ, List, length, take, drop, set, refl, IsTrue, false, length-set, sym, subst, ◌∙◌, arith, rules, All}
+use Rattle.std.proofs.Common.{◌≡◌, ◌+◌, ◌<◌, ◌≤◌, ◌∷◌, ◌≢◌, ℕ, List, length, take, drop, set, refl, IsTrue, false, length-set, ◌∙◌, arith, rules}
 use Rattle.std.proofs.lemmas.List.{length-take-le}
-use Rattle.mk_model.specs.Hits.{IsLeast}
 use Rattle.mk_model.proofs.PlaceLemmas.{drawn_first}
 use Rattle.mk_match.specs.Search.{IsBegun, MayStand, rest_after}
 use Rattle.mk_match.proofs.BegunLemmas.{begun_more}
-use Rattle.mk_match.proofs.SearchLemmas.{anchor_within, completes_next, images_next, images_stay, none_next, none_stands, search_ends, search_finds, search_goes_on, search_starts, whole_found, whole_missed}
+use Rattle.mk_match.proofs.SearchLemmas.{anchor_within, completes_next, images_next, images_stay, none_stands, search_ends, search_finds, search_goes_on, search_starts, whole_found, whole_missed}
 use Rattle.mk_match.proofs.searching.+search.Goals as goal
 
 pub search-returns-then-k-images-clause-found : goal.search-returns-then-k-images-clause-found

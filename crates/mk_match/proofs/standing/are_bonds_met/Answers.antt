@@ -1,4 +1,4 @@
-use Rattle.std.proofs.Common.{◌≡◌, ◌<◌, ◌+◌, length, take, refl, arith, All}
+use Rattle.std.proofs.Common.{◌≡◌, ◌<◌, length, take, refl, arith, All}
 use Rattle.std.proofs.lemmas.List.{take_all}
 use Rattle.std.proofs.lemmas.List.Elements.{All-more}
 use Rattle.mk_match.specs.Search.{IsMetAt}

@@ -1,7 +1,7 @@
 use Rattle.std.proofs.Common.{◌<◌, ℕ, get_or}
 use Rattle.mk_model.specs.declared.edge.Edge.{Edge}
-use Rattle.mk_tests.specs.Drawn.{IsDrawn, StandsBefore}
-use Rattle.mk_tests.proofs.building.are_in_order.Given as goal
+use Rattle.mk_drawn.specs.Drawn.{IsDrawn, StandsBefore}
+use Rattle.mk_drawn.proofs.building.are_in_order.Given as goal
 
 abbrev pub invariant-loop-b : goal.invariant-loop-b
 invariant-loop-b l = record {

@@ -1,51 +1,48 @@
-// Molecules and graphs for tests, from their atoms and drawn bonds.
+// Molecules and graphs, and the tests that what is drawn is one.
 ghost use Rattle.std.specs.Prelude.{◌≡◌, All, IfOk, IsTrue, length};
-ghost use Rattle.mk_model.specs.Graphs.{drawn_edge};
-ghost use Rattle.mk_model.specs.Molecules.{edge_of, IsElement};
+ghost use Rattle.mk_model.specs.Molecules.{edges, IsElement};
 ghost use Rattle.mk_model.specs.Tests.{IsBondInRange, IsKindInRange, IsListOfElements, IsTestInRange};
-ghost use Rattle.mk_tests.specs.Drawn.{AreInOrder, AreMarked, IsDrawn, StandsBefore};
+ghost use Rattle.mk_rings.specs.Bare.{bare_bonds};
+ghost use Rattle.mk_drawn.specs.Drawn.{AreInOrder, AreMarked, IsDrawn, StandsBefore};
 
-use mk_model::{Atom, AtomTest, Edge, Graph, GraphAtom, GraphBond, Kind, Memory, Mol, MolBond};
-use mk_rings::{aromatic_bonds, ring_bonds};
+use mk_model::{
+    Atom, AtomTest, Edge, Graph, GraphAtom, GraphBond, Kind, Memory, Mol, MolBond, graph_edges,
+};
+use mk_rings::{aromatic_bonds, marked_graph, ring_bonds};
 use std::alloc::Global;
 use std::test::Fail;
 
-/// Builds a molecule, all of whose atoms are written. Each bond is written with its lower end first, and the bonds in order.
-pub fn mol_of(alloc: Global, atoms: Vec<Atom>, edges: &[Edge]) -> Result<Mol, Fail> {
+/// Builds a molecule, all of whose atoms are written. Each bond is drawn with its lower end first, and the bonds in order.
+pub fn mol_of(alloc: Global, atoms: Vec<Atom>, drawn: &[Edge]) -> Result<Mol, Fail>
+    ensures atoms { IfOk result (λ mol. mol.atoms ≡ atoms.items) }
+    ensures bonds { IfOk result (λ mol. edges mol.bonds ≡ drawn.now) }
+{
     if atoms.len() > 512 || !have_elements(&atoms) {
         return Err(Fail::from("a molecule's atoms"));
     }
     let count = atoms.len() as u32;
-    if edges.len() > 9999 || !are_in_order(count, edges) {
+    if drawn.len() > 9999 || !are_in_order(count, drawn) {
         return Err(Fail::from("a molecule's bonds"));
     }
-    let rings = ring_bonds(alloc, count, edges)?;
-    let aromatics = aromatic_bonds(alloc, count, edges)?;
-    let bonds = mol_bonds(alloc, edges, &rings, &aromatics)?;
+    let rings = ring_bonds(alloc, count, drawn)?;
+    let aromatics = aromatic_bonds(alloc, count, drawn)?;
+    let bonds = mol_bonds(alloc, drawn, &rings, &aromatics)?;
     Ok(Mol::of(alloc, count, atoms, bonds)?)
 }
 
-/// Builds a graph. Each bond is written with its lower end first, and the bonds in order.
-pub fn graph_of(
-    alloc: Global,
-    atoms: Vec<GraphAtom>,
-    edges: &[Edge],
-    topologies: &[u8],
-) -> Result<Graph, Fail> {
+/// Builds a graph. Each bond is drawn with its lower end first, and the bonds in order. Its marks may be any.
+pub fn graph_of(alloc: Global, atoms: Vec<GraphAtom>, bonds: Vec<GraphBond>) -> Result<Graph, Fail>
+    ensures atoms { IfOk result (λ graph. graph.atoms ≡ atoms.items) }
+    ensures bonds { IfOk result (λ graph. bare_bonds graph.bonds ≡ bare_bonds bonds.items) }
+{
     if atoms.len() > 512 || !have_tests(&atoms) {
         return Err(Fail::from("a graph's atoms"));
     }
-    let count = atoms.len() as u32;
-    if topologies.len() != edges.len() || !are_in_order(count, edges) {
+    let drawn = graph_edges(alloc, &bonds)?;
+    if !are_in_order(atoms.len() as u32, &drawn) || !have_bond_tests(&bonds) {
         return Err(Fail::from("a graph's bonds"));
     }
-    let rings = ring_bonds(alloc, count, edges)?;
-    let aromatics = aromatic_bonds(alloc, count, edges)?;
-    let bonds = graph_bonds(alloc, edges, topologies, &rings, &aromatics)?;
-    if !have_bond_tests(&bonds) {
-        return Err(Fail::from("a graph's bond tests"));
-    }
-    Ok(Graph::of(alloc, atoms, bonds)?)
+    Ok(marked_graph(alloc, atoms, bonds)?)
 }
 
 // The bonds with their marks.
@@ -58,7 +55,7 @@ fn mol_bonds(
     requires rings { length rings.now ≡ length edges.now }
     requires aromatics { length aromatics.now ≡ length edges.now }
     ensures size { IfOk result (λ bonds. length bonds.items ≡ length edges.now) }
-    ensures marks { IfOk result (λ bonds. AreMarked edge_of (λ bond. bond.ring) (λ bond. bond.aromatic) edges.now rings.now aromatics.now bonds.items) }
+    ensures marks { IfOk result (λ bonds. AreMarked edges.now rings.now aromatics.now bonds.items) }
 {
     let mut bonds = Vec::new(alloc);
     for b in 0..edges.len() {
@@ -66,34 +63,6 @@ fn mol_bonds(
             first: edges[b].first,
             second: edges[b].second,
             kind: edges[b].kind,
-            ring: rings[b],
-            aromatic: aromatics[b],
-        })?;
-    }
-    Ok(bonds)
-}
-
-// The bonds with their topologies and marks.
-fn graph_bonds(
-    alloc: Global,
-    edges: &[Edge],
-    topologies: &[u8],
-    rings: &[bool],
-    aromatics: &[bool],
-) -> Result<Vec<GraphBond>, Memory>
-    requires topologies { length topologies.now ≡ length edges.now }
-    requires rings { length rings.now ≡ length edges.now }
-    requires aromatics { length aromatics.now ≡ length edges.now }
-    ensures size { IfOk result (λ bonds. length bonds.items ≡ length edges.now) }
-    ensures marks { IfOk result (λ bonds. AreMarked drawn_edge (λ bond. bond.ring) (λ bond. bond.aromatic) edges.now rings.now aromatics.now bonds.items) }
-{
-    let mut bonds = Vec::new(alloc);
-    for b in 0..edges.len() {
-        bonds.push(GraphBond {
-            first: edges[b].first,
-            second: edges[b].second,
-            kind: edges[b].kind,
-            topology: topologies[b],
             ring: rings[b],
             aromatic: aromatics[b],
         })?;
