@@ -2,16 +2,17 @@
 --     least_end_more      one more end
 --     no_end_between      no atom that is bonded lies between the number and the least end above it
 --     no_end_above        and none lies above it where there is no such end
-use Rattle.std.proofs.Common.{◌≡◌, ℕ, ◌+◌, ◌<◌, ◌≤◌, ◌-◌, inl, inr, Bool, true, false, cond, eqb, min, List, [], ◌∷◌, ◌++◌, length, get_or, Option, Some, None, refl, sym, ap, ◌∙◌, arith, All}
+--     end_bonded          each end is bonded
+use Rattle.std.proofs.Common.{◌≡◌, ℕ, ◌+◌, ◌<◌, ◌≤◌, ◌-◌, ◌||◌, inl, inr, Bool, true, false, cond, eqb, min, List, [], ◌∷◌, ◌++◌, length, get_or, Option, Some, None, refl, sym, ap, subst, ◌∙◌, arith, All}
 use Rattle.std.specs.Prelude.{IfNone, IfSome, slice_get, nat_le}
 use Rattle.std.proofs.lemmas.Bool.Decides.{nat_tests}
-use Rattle.std.proofs.lemmas.List.{length-map, get_or-map}
+use Rattle.std.proofs.lemmas.List.{length-map, get_or-map, get_or_default}
 use Rattle.std.proofs.lemmas.List.Elements.{All-push}
 use Rattle.mk_model.specs.declared.edge.Edge.{Edge}
 use Rattle.mk_model.specs.declared.molecule.MolBond.{MolBond}
 use Rattle.mk_model.specs.Edges.{HasEnds, numbers_at, touches}
 use Rattle.mk_model.specs.Molecules.{Molecule, edge_of, edges}
-use Rattle.mk_model.proofs.ForCallers.{numbers_at-all}
+use Rattle.mk_model.proofs.ForCallers.{IsNumberOf, numbers_at-all}
 use Rattle.mk_model.proofs.MoleculeLemmas.{touches-ends}
 use Rattle.mk_model.proofs.PlaceLemmas.{at_place}
 use Rattle.mk_match.specs.Search.{AreBonded, IsCandidate, IsLeastEnd, end_numbered, lesser_end}
@@ -83,6 +84,26 @@ bonded_end mol n b bonded =
     let at = numbers_at-all (edges mol.bonds) n k (edge_of bond) (omega (arith, length-map mol.bonds edge_of)) touched in
     record { place = at.0; within = at.1; is = end_is mol.bonds bond _ k n b below here at.2 ends }
 
+-- the ends of a bond of an atom are the atom and its other end, by which comes first
+ends_by : (edge : Edge) (n : ℕ) (t : Bool) → eqb edge.first n ≡ t → touches n edge ≡ true → HasEnds edge n (cond t edge.second edge.first)
+ends_by edge n true e touched = inl (grind (arith, nat_tests), refl)
+ends_by edge n false e touched = (let second : edge.second ≡ n = second_by e touched in inr (refl, second))
+  where
+    second_by : eqb edge.first n ≡ false → (eqb edge.first n || eqb edge.second n) ≡ true → edge.second ≡ n
+    second_by other either = grind (arith, nat_tests)
+
+-- each end is bonded
+pub end_bonded : (mol : Molecule) (n number : ℕ) → IsNumberOf (edges mol.bonds) n number → AreBonded mol n (end_numbered mol.bonds number n)
+end_bonded mol n number is =
+    let none : MolBond = record { first = 0; second = 0; kind = 0; ring = false; aromatic = false } in
+    let k = number - 1 in
+    let below : k < length mol.bonds = omega (arith, is.least, is.most, length-map mol.bonds edge_of) in
+    let bond : MolBond = get_or mol.bonds k none in
+    let edge_is : get_or (edges mol.bonds) k (edge_of none) ≡ edge_of bond = get_or-map edge_of mol.bonds k none (edge_of none) below in
+    let touched : touches n (edge_of bond) ≡ true = rw edge_is at (is.ends (edge_of none)) in
+    let ends : HasEnds (edge_of bond) n (end_numbered mol.bonds number n) = rw (at_place mol.bonds k none below) (ends_by (edge_of bond) n _ refl touched) in
+    (bond, ((k, below, get_or_default mol.bonds k bond none below), ends))
+
 -- none lies between the number and the least end above it
 pub no_end_between : (mol : Molecule) (n above least b : ℕ) → IsLeastEnd mol.bonds n (numbers_at (edges mol.bonds) n) above (Some least) → above < b → b < least → AreBonded mol n b → ⊥
 no_end_between mol n above least b is over under bonded =
@@ -100,18 +121,22 @@ no_end_above mol n above b is over bonded =
 
 -- ---- for the answers of the code
 
--- the lesser of two atoms is one
-pub lesser_within : (least : Option ℕ) (above end most : ℕ) → IfSome least (λ a. a ≤ most) → end ≤ most → IfSome (lesser_end least above end) (λ a. a ≤ most)
-lesser_within None above end most so_far within = none_within (nat_le end above)
+-- the lesser of two ends has what both have
+pub lesser_has : (P : ℕ → Type 0) (least : Option ℕ) (above end : ℕ) → IfSome least P → P end → IfSome (lesser_end least above end) P
+lesser_has P None above end so_far has = none_has (nat_le end above)
   where
-    none_within : (b : Bool) → IfSome (cond b None (Some end)) (λ a. a ≤ most)
-    none_within true = tt
-    none_within false = within
-lesser_within (Some least) above end most so_far within = some_within (nat_le end above)
+    none_has : (b : Bool) → IfSome (cond b None (Some end)) P
+    none_has true = tt
+    none_has false = has
+lesser_has P (Some least) above end so_far has = some_has (nat_le end above)
   where
-    some_within : (b : Bool) → IfSome (cond b (Some least) (Some (min least end))) (λ a. a ≤ most)
-    some_within true = so_far
-    some_within false = omega arith
+    least_of : (b : Bool) → nat_le least end ≡ b → P (min least end)
+    least_of true e = (let same : least ≡ min least end = (let below : least ≤ end = grind (arith, nat_tests) in omega arith) in subst P same so_far)
+    least_of false e = (let same : end ≡ min least end = (let below : end < least = grind (arith, nat_tests) in omega arith) in subst P same has)
+
+    some_has : (b : Bool) → IfSome (cond b (Some least) (Some (min least end))) P
+    some_has true = so_far
+    some_has false = least_of (nat_le least end) refl
 
 -- what the least end says of the atoms between
 pub ends_between : (mol : Molecule) (n above : ℕ) (found : Option ℕ) → IsLeastEnd mol.bonds n (numbers_at (edges mol.bonds) n) above found → IfSome found (λ a. (b : ℕ) → above < b → b < a → IsCandidate mol (Some n) b → b ≤ length mol.atoms → ⊥)

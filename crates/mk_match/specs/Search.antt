@@ -3,6 +3,7 @@
 --     MayStand graph mol first a         atom a may stand behind them
 --     Completes graph mol first others   the others make a hit of the first atoms
 --     IsAnchor graph first anchor        an earlier neighbour of the next atom lies on the anchor
+--     HasNoAnchor graph first            the next atom has no earlier neighbour
 --     rest_after rest a                  what is left of a front behind a
 use Rattle.std.specs.Prelude.{◌≡◌, ◌≢◌, ◌<◌, ◌≤◌, ◌+◌, ◌-◌, ◌==◌, nat_le, min, ℕ, List, [], ◌∷◌, ◌++◌, Option, Some, None, length, slice_get, All, AllPairs, Contains, if◌then◌else◌}
 use Rattle.mk_text.specs.Rising.{IsBelow}
@@ -38,6 +39,10 @@ pub record IsAnchor (graph : Drawing) (first : List ℕ) (anchor : ℕ) : Type 0
   pub next : bond.second ≡ length first + 1
   pub is : anchor ≡ image first bond.first
 
+-- the next atom of the graph has no earlier neighbour
+abbrev pub HasNoAnchor : Drawing → List ℕ → Type 0
+HasNoAnchor graph first = All (λ bond. bond.second ≢ length first + 1) graph.bonds
+
 -- some bond of the molecule joins the two atoms
 abbrev pub AreBonded : Molecule → ℕ → ℕ → Type 0
 AreBonded mol a b = (bond : MolBond) × IsBondOf mol a b bond
@@ -69,6 +74,10 @@ lesser_end (Some least) above end = if nat_le end above then Some least else Som
 abbrev pub IsMetAt : Drawing → Molecule → List ℕ → ℕ → ℕ → Type 0
 IsMetAt graph mol first a number =
     (bond : GraphBond) → slice_get graph.bonds (number - 1) ≡ Some bond → bond.second ≡ length first + 1 → LiesOn mol bond (image first bond.first) a
+
+-- the bond of this number isn't one between the next atom and an earlier one
+abbrev pub IsElsewhere : Drawing → List ℕ → ℕ → Type 0
+IsElsewhere graph first number = (bond : GraphBond) → slice_get graph.bonds (number - 1) ≡ Some bond → bond.second ≢ length first + 1
 
 -- what is left of a front behind a first number: the others, where it begins with that number
 abbrev pub rest_after : List ℕ → ℕ → List ℕ

@@ -4,7 +4,7 @@ ghost use Rattle.std.specs.Option.{ForSome};
 ghost use Rattle.mk_model.specs.declared.molecule.MolBond.{MolBond as Bond};
 ghost use Rattle.mk_model.specs.Edges.{numbers_at};
 ghost use Rattle.mk_model.specs.Molecules.{edges};
-ghost use Rattle.mk_match.specs.Search.{IsCandidate, IsLeastEnd, end_numbered, lesser_end};
+ghost use Rattle.mk_match.specs.Search.{AreBonded, IsCandidate, IsLeastEnd, end_numbered, lesser_end};
 
 use mk_model::{Mol, MolBond};
 
@@ -12,6 +12,7 @@ use mk_model::{Mol, MolBond};
 pub fn next_atom(mol: &Mol, anchor: Option<u32>, above: u32) -> Option<u32>
     requires { ForSome anchor (λ a. (1 ≤ a) × (a ≤ length mol.now.atoms)) }
     ensures found { IfSome result (λ a. (above < a) × (a ≤ length mol.now.atoms)) }
+    ensures candidate { IfSome result (IsCandidate mol.now anchor) }
     ensures between { IfSome result (λ a. (b : ℕ) → above < b → b < a → IsCandidate mol.now anchor b → b ≤ length mol.now.atoms → ⊥) }
     ensures none { IfNone result ((b : ℕ) → above < b → IsCandidate mol.now anchor b → b ≤ length mol.now.atoms → ⊥) }
 {
@@ -32,6 +33,7 @@ fn least_end_above(mol: &Mol, atom: u32, above: u32) -> Option<u32>
     requires least { 1 ≤ atom }
     requires most { atom ≤ length mol.now.atoms }
     ensures within { IfSome result (λ a. a ≤ length mol.now.atoms) }
+    ensures bonded { IfSome result (AreBonded mol.now atom) }
     ensures ends { IsLeastEnd mol.now.bonds atom (numbers_at (edges mol.now.bonds) atom) above result }
 {
     let mut least = None;

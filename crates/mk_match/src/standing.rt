@@ -1,8 +1,8 @@
 // Whether an atom may stand behind the first ones.
-ghost use Rattle.std.specs.Prelude.{◌≡◌, ◌<◌, ◌≤◌, ◌+◌, ◌-◌, ◌↔◌, false, All, Some, IfSome, IsTrue, length, slice_get};
+ghost use Rattle.std.specs.Prelude.{◌≡◌, ◌<◌, ◌≤◌, ◌+◌, ◌-◌, ◌↔◌, false, All, Some, IfNone, IfSome, IsTrue, length, slice_get};
 ghost use Rattle.mk_model.specs.Fitting.{LiesOn};
 ghost use Rattle.mk_model.specs.Hits.{image};
-ghost use Rattle.mk_match.specs.Search.{IsAnchor, IsMetAt, MayStand};
+ghost use Rattle.mk_match.specs.Search.{HasNoAnchor, IsAnchor, IsMetAt, MayStand};
 
 use mk_model::{Graph, GraphBond, Mol};
 use mk_tests::{atom_fits, bond_fits};
@@ -59,7 +59,8 @@ fn is_met_at(graph: &Graph, mol: &Mol, first: &[u32], a: u32, number: u32) -> bo
 /// The atom on which an earlier neighbour of the next atom lies, where it has one.
 pub fn anchor_of(graph: &Graph, first: &[u32]) -> Option<u32>
     requires short { length first.now < length graph.now.atoms }
-    ensures { IfSome result (IsAnchor graph.now first.now) }
+    ensures some { IfSome result (IsAnchor graph.now first.now) }
+    ensures none { IfNone result (HasNoAnchor graph.now first.now) }
 {
     for number in graph.bonds_at(next_number(graph, first)) {
         let bond = bond_numbered(graph, *number);

@@ -18,7 +18,7 @@ pub search-loop-atom-init : goal.search-loop-atom-init
 search-loop-atom-init t c = search_starts c.args.graph.now c.args.mol.now c.requires.kept c.args.front.now c.args.images.now c.args.k c.below_first-above.result c.below_first-above.ensures
 
 pub search-next_atom-requires : goal.search-next_atom-requires
-search-next_atom-requires t c = anchor_within c.args.graph.now c.args.mol.now (take c.args.k c.args.images.now) c.anchor_of-anchor.result c.requires.kept c.requires.begun.within c.anchor_of-anchor.ensures
+search-next_atom-requires t c = anchor_within c.args.graph.now c.args.mol.now (take c.args.k c.args.images.now) c.anchor_of-anchor.result c.requires.kept c.requires.begun.within c.anchor_of-anchor.ensures.some
 
 -- the first atoms are fewer than the graph has
 short : (images : List ℕ) (k atoms : ℕ) → length images ≡ atoms → k ≤ length images → k ≢ length images → length (take k images) < atoms
@@ -28,7 +28,7 @@ pub search-returns-then-try_atom-clause-found : goal.search-returns-then-try_ato
 search-returns-then-try_atom-clause-found t c = λ is.
     let same : take c.args.k c.loop-atom.images ≡ take c.args.k c.args.images.now = c.loop-atom.invariant.same in
     let least = rw same at (c.if-try_atom.ensures.found is) in
-    let found = search_finds c.args.graph.now c.args.mol.now c.requires.kept c.args.front.now c.args.images.now c.loop-atom.images c.args.k c.loop-atom.above c.loop-atom.invariant c.anchor_of-anchor.result c.anchor_of-anchor.ensures
+    let found = search_finds c.args.graph.now c.args.mol.now c.requires.kept c.args.front.now c.args.images.now c.loop-atom.images c.args.k c.loop-atom.above c.loop-atom.invariant c.anchor_of-anchor.result c.anchor_of-anchor.ensures.some
     c.in-Some.atom (drop (c.args.k + 1) c.try_atom.new.images) (short c.args.images.now c.args.k _ c.requires.room c.requires.short c.if-k-images.false) c.in-Some.ensures.found.0 c.in-Some.ensures.between least in
     rw (c.if-try_atom.ensures.put is) found
 
@@ -36,12 +36,12 @@ pub search-loop-atom-preserved : goal.search-loop-atom-preserved
 search-loop-atom-preserved t c =
     let same : take c.args.k c.loop-atom.images ≡ take c.args.k c.args.images.now = c.loop-atom.invariant.same in
     let none = rw same at (c.if-try_atom.ensures.none refl) in
-    search_goes_on c.args.graph.now c.args.mol.now c.requires.kept c.args.front.now c.args.images.now c.loop-atom.images c.args.k c.loop-atom.above c.loop-atom.invariant c.anchor_of-anchor.result c.anchor_of-anchor.ensures
+    search_goes_on c.args.graph.now c.args.mol.now c.requires.kept c.args.front.now c.args.images.now c.loop-atom.images c.args.k c.loop-atom.above c.loop-atom.invariant c.anchor_of-anchor.result c.anchor_of-anchor.ensures.some
     c.in-Some.atom c.try_atom.new.images c.try_atom.ensures.same c.in-Some.ensures.found.0 c.in-Some.ensures.between none
 
 pub search-returns-clause-none : goal.search-returns-clause-none
 search-returns-clause-none t c = λ is.
-    search_ends c.args.graph.now c.args.mol.now c.requires.kept c.args.front.now c.args.images.now c.loop-atom.images c.args.k c.loop-atom.above c.loop-atom.invariant c.anchor_of-anchor.result c.anchor_of-anchor.ensures
+    search_ends c.args.graph.now c.args.mol.now c.requires.kept c.args.front.now c.args.images.now c.loop-atom.images c.args.k c.loop-atom.above c.loop-atom.invariant c.anchor_of-anchor.result c.anchor_of-anchor.ensures.some
     (short c.args.images.now c.args.k _ c.requires.room c.requires.short c.if-k-images.false) c.in_default.ensures.none
 
 pub try_atom-returns-then-not-may_stand-clause-none : goal.try_atom-returns-then-not-may_stand-clause-none
