@@ -10,7 +10,7 @@ use Rattle.std.proofs.lemmas.List.Elements.{All-push}
 use Rattle.std.proofs.lemmas.List.Quantifiers.{all_pairs_push}
 use Rattle.mk_model.specs.declared.graph.GraphBond.{GraphBond}
 use Rattle.mk_model.specs.Molecules.{Molecule}
-use Rattle.mk_model.specs.Graphs.{Drawing}
+use Rattle.mk_model.specs.Graphs.{GraphView}
 use Rattle.mk_model.specs.Fitting.{FitsAtom, LiesOn}
 use Rattle.mk_model.specs.Hits.{image, IsHit}
 use Rattle.mk_match.specs.Search.{IsBegun, MayStand}
@@ -38,7 +38,7 @@ one_longer first a = length-append first (a ∷ [])
 
 -- ---- one atom more
 
-module _ (graph : Drawing) (mol : Molecule) (first : List ℕ) (a : ℕ) where
+module _ (graph : GraphView) (mol : Molecule) (first : List ℕ) (a : ℕ) where
   -- the test of each atom is met
   atoms_more : IsBegun graph mol first → MayStand graph mol first a → (x : ℕ) → 1 ≤ x → x ≤ length (first ++ (a ∷ [])) → FitsAtom graph mol x (image (first ++ (a ∷ [])) x)
   atoms_more begun stands x least most =
@@ -114,7 +114,7 @@ module _ (graph : Drawing) (mol : Molecule) (first : List ℕ) (a : ℕ) where
 -- ---- the whole
 
 -- as many atoms as the graph has are a hit
-pub begun_whole : (graph : Drawing) (mol : Molecule) (first : List ℕ) → All (λ bond. bond.second ≤ length graph.atoms) graph.bonds → IsBegun graph mol first → length first ≡ length graph.atoms → IsHit graph mol first
+pub begun_whole : (graph : GraphView) (mol : Molecule) (first : List ℕ) → All (λ bond. bond.second ≤ length graph.atoms) graph.bonds → IsBegun graph mol first → length first ≡ length graph.atoms → IsHit graph mol first
 begun_whole graph mol first within begun whole = record {
   one_each = whole;
   within = begun.within;
@@ -124,6 +124,6 @@ begun_whole graph mol first within begun whole = record {
 }
 
 -- a hit has no more atoms than the graph
-pub no_more : (graph : Drawing) (mol : Molecule) (first others : List ℕ) → length first ≡ length graph.atoms → IsHit graph mol (first ++ others) → others ≡ []
+pub no_more : (graph : GraphView) (mol : Molecule) (first others : List ℕ) → length first ≡ length graph.atoms → IsHit graph mol (first ++ others) → others ≡ []
 no_more graph mol first [] whole hit = refl
 no_more graph mol first (a ∷ others) whole hit = absurd (omega (arith, hit.one_each, length-append first (a ∷ others)))

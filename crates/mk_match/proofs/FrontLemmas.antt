@@ -5,7 +5,7 @@ use Rattle.std.proofs.Common.{◌≡◌, ℕ, ◌<◌, ◌≤◌, inl, inr, Bool
 use Rattle.std.proofs.lemmas.Bool.{cases_lt, cases_eq}
 use Rattle.std.proofs.lemmas.Bool.Decides.{nat_tests}
 use Rattle.mk_text.specs.Rising.{IsBelow}
-use Rattle.mk_model.specs.Hits.{IsLeast, IsLeastFrom}
+use Rattle.mk_text.specs.Rising.{IsLeast, IsLeastFrom}
 use Rattle.mk_match.specs.Search.{rest_after, least_first, IsPassed}
 
 -- what isn't below a front isn't below what is left of it behind the first number

@@ -13,7 +13,7 @@ use Rattle.mk_model.specs.declared.molecule.Atom.{Atom}
 use Rattle.mk_model.specs.declared.molecule.MolBond.{MolBond}
 use Rattle.mk_model.specs.Edges.{HasEnds}
 use Rattle.mk_model.specs.Molecules.{Molecule, edge_of}
-use Rattle.mk_model.specs.Graphs.{Drawing}
+use Rattle.mk_model.specs.Graphs.{GraphView}
 use Rattle.mk_model.specs.Tests.{meets}
 use Rattle.mk_model.specs.Fitting.{FitsAtom, LiesOn}
 use Rattle.mk_model.specs.Hits.{image, IsHit}
@@ -23,7 +23,7 @@ use Rattle.mk_match.proofs.ListTestLemmas.{all_found, all_given, all_places, all
 
 -- ---- atoms
 
-module _ (graph : Drawing) (mol : Molecule) where
+module _ (graph : GraphView) (mol : Molecule) where
   -- what passes the test fits
   fits_found_by : (x m : ℕ) (asked : Option GraphAtom) (atom : Option Atom) → slice_get graph.atoms (x - 1) ≡ asked → slice_get mol.atoms (m - 1) ≡ atom → meets_some graph mol x m asked atom ≡ true → FitsAtom graph mol x m
   fits_found_by x m None atom asked_at atom_at met = absurd cc
@@ -98,7 +98,7 @@ lies_given mol asked a b lies =
 -- ---- the hit
 
 -- what passes the tests is a hit
-hit_found : (graph : Drawing) (mol : Molecule) (hit : List ℕ) → IsPassed (length mol.atoms) (length graph.atoms) (is_hit graph mol) hit → IsHit graph mol hit
+hit_found : (graph : GraphView) (mol : Molecule) (hit : List ℕ) → IsPassed (length mol.atoms) (length graph.atoms) (is_hit graph mol) hit → IsHit graph mol hit
 unfolding is_hit
 hit_found graph mol hit passed =
     let h = both (are_distinct hit) _ passed.passes in
@@ -115,7 +115,7 @@ hit_found graph mol hit passed =
     }
 
 -- a hit passes the tests
-hit_given : (graph : Drawing) (mol : Molecule) (hit : List ℕ) → IsHit graph mol hit → IsPassed (length mol.atoms) (length graph.atoms) (is_hit graph mol) hit
+hit_given : (graph : GraphView) (mol : Molecule) (hit : List ℕ) → IsHit graph mol hit → IsPassed (length mol.atoms) (length graph.atoms) (is_hit graph mol) hit
 unfolding is_hit
 hit_given graph mol hit h =
     let one_by_one : (k : ℕ) → k < length hit → FitsAtom graph mol (1 + k) (get_or hit k 0) =

@@ -10,8 +10,9 @@ use Rattle.std.proofs.lemmas.List.{append_cancel_left, drop_all, drop_more, leng
 use Rattle.mk_text.specs.Rising.{IsBelow}
 use Rattle.mk_model.specs.declared.graph.GraphBond.{GraphBond}
 use Rattle.mk_model.specs.Molecules.{Molecule}
-use Rattle.mk_model.specs.Graphs.{Drawing, IsDrawing}
-use Rattle.mk_model.specs.Hits.{image, IsHit, IsLeast, IsLeastFrom}
+use Rattle.mk_model.specs.Graphs.{GraphView, IsGraph}
+use Rattle.mk_model.specs.Hits.{image, IsHit}
+use Rattle.mk_text.specs.Rising.{IsLeast, IsLeastFrom}
 use Rattle.mk_model.proofs.PlaceLemmas.{drawn_first, drawn_second}
 use Rattle.mk_match.specs.Search.{AreBonded, Completes, IsAnchor, IsBegun, IsCandidate, IsPassed, MayStand, least_first, rest_after}
 use Rattle.mk_match.proofs.BegunLemmas.{begun_whole, hit_begins, no_more}
@@ -20,7 +21,7 @@ use Rattle.mk_match.proofs.FrontLemmas.{least_more, none_more, passed_first, pas
 -- ---- the anchor
 
 -- an atom that may stand behind the first ones is bonded to the anchor
-candidate_of : (graph : Drawing) (mol : Molecule) (first : List ℕ) (a : ℕ) (anchor : Option ℕ) → IfSome anchor (IsAnchor graph first) → MayStand graph mol first a → IsCandidate mol anchor a
+candidate_of : (graph : GraphView) (mol : Molecule) (first : List ℕ) (a : ℕ) (anchor : Option ℕ) → IfSome anchor (IsAnchor graph first) → MayStand graph mol first a → IsCandidate mol anchor a
 candidate_of graph mol first a None is stands = tt
 candidate_of graph mol first a (Some anchor) is stands =
     let k = is.drawn.0 in
@@ -32,7 +33,7 @@ candidate_of graph mol first a (Some anchor) is stands =
     subst P same (lies.bond, lies.joins)
 
 -- the anchor is an atom of the molecule
-pub anchor_within : (graph : Drawing) (mol : Molecule) (first : List ℕ) (anchor : Option ℕ) → IsDrawing graph → All (λ a. (1 ≤ a) × (a ≤ length mol.atoms)) first → IfSome anchor (IsAnchor graph first) → ForSome anchor (λ a. (1 ≤ a) × (a ≤ length mol.atoms))
+pub anchor_within : (graph : GraphView) (mol : Molecule) (first : List ℕ) (anchor : Option ℕ) → IsGraph graph → All (λ a. (1 ≤ a) × (a ≤ length mol.atoms)) first → IfSome anchor (IsAnchor graph first) → ForSome anchor (λ a. (1 ≤ a) × (a ≤ length mol.atoms))
 anchor_within graph mol first None drawing within is = λ x e. absurd cc
 anchor_within graph mol first (Some anchor) drawing within is =
     let k = is.drawn.0 in
@@ -46,12 +47,12 @@ anchor_within graph mol first (Some anchor) drawing within is =
 -- ---- the loop over the next atom
 
 -- what has been tried so far, where the first atoms are the first k images at the start
-pub record HasTried (graph : Drawing) (mol : Molecule) (front : List ℕ) (k : ℕ) (start images : List ℕ) (above : ℕ) : Type 0 where
+pub record HasTried (graph : GraphView) (mol : Molecule) (front : List ℕ) (k : ℕ) (start images : List ℕ) (above : ℕ) : Type 0 where
   pub same : take k images ≡ take k start
   pub passed : IsPassed (Completes graph mol (take k start)) front above
   pub floor : least_first front ≤ above + 1
 
-module _ (graph : Drawing) (mol : Molecule) (drawing : IsDrawing graph) where
+module _ (graph : GraphView) (mol : Molecule) (drawing : IsGraph graph) where
   -- the first atom of what completes may stand, and is one of the molecule
   completes_begins : (first : List ℕ) (a : ℕ) (others : List ℕ) → Completes graph mol first (a ∷ others) → MayStand graph mol first a × (1 ≤ a) × (a ≤ length mol.atoms)
   completes_begins first a others hit = hit_begins graph mol first a drawing.sketch.lower_first (drawn_first graph drawing) others hit
@@ -147,14 +148,14 @@ pub least_same : (front : List ℕ) (P Q : List ℕ → Type 0) (found : List �
 least_same front P Q found to from least = record { has = to found least.has; from = least.from; least = λ other has not. least.least other (from other has) not }
 
 -- one atom more, as the next of the first ones or as the first of the others
-pub completes_next : (graph : Drawing) (mol : Molecule) (first front found : List ℕ) (a : ℕ) → IsLeast front (Completes graph mol (first ++ (a ∷ []))) found → IsLeast front (λ others. Completes graph mol first (a ∷ others)) found
+pub completes_next : (graph : GraphView) (mol : Molecule) (first front found : List ℕ) (a : ℕ) → IsLeast front (Completes graph mol (first ++ (a ∷ []))) found → IsLeast front (λ others. Completes graph mol first (a ∷ others)) found
 completes_next graph mol first front found a =
     least_same front (Completes graph mol (first ++ (a ∷ []))) (λ others. Completes graph mol first (a ∷ others)) found
     (λ others hit. subst (IsHit graph mol) (append_assoc first (a ∷ []) others) hit)
     (λ others hit. subst (IsHit graph mol) (sym (append_assoc first (a ∷ []) others)) hit)
 
 -- and so where there is none
-pub none_next : (graph : Drawing) (mol : Molecule) (first front : List ℕ) (a : ℕ) → IsLeastFrom front (Completes graph mol (first ++ (a ∷ []))) None → IsLeastFrom front (λ others. Completes graph mol first (a ∷ others)) None
+pub none_next : (graph : GraphView) (mol : Molecule) (first front : List ℕ) (a : ℕ) → IsLeastFrom front (Completes graph mol (first ++ (a ∷ []))) None → IsLeastFrom front (λ others. Completes graph mol first (a ∷ others)) None
 none_next graph mol first front a none others hit not = none others (subst (IsHit graph mol) (sym (append_assoc first (a ∷ []) others)) hit) not
 
 -- ---- the images

@@ -10,13 +10,13 @@ use Rattle.mk_model.specs.declared.graph.GraphAtom.{GraphAtom}
 use Rattle.mk_model.specs.declared.graph.GraphBond.{GraphBond}
 use Rattle.mk_model.specs.declared.molecule.Atom.{Atom}
 use Rattle.mk_model.specs.Molecules.{Molecule, edge_of}
-use Rattle.mk_model.specs.Graphs.{Drawing}
+use Rattle.mk_model.specs.Graphs.{GraphView}
 use Rattle.mk_model.specs.Tests.{accepts, charge_fits, hydrogens_fit, meets, radical_fits, ring_bonds_fit, substitution_fits, unsaturation_fits}
 use Rattle.mk_model.specs.Fitting.{drawn_hydrogens, drawn_others, drawn_rings, hydrogens_at, is_unsaturated_at, others_at, rings_at}
 use Rattle.mk_model.specs.Hits.{AreHits, image}
 
 -- every test of atom x, which asks this, is met by atom m, which is this
-abbrev pub meets_all : Drawing → Molecule → ℕ → ℕ → GraphAtom → Atom → Bool
+abbrev pub meets_all : GraphView → Molecule → ℕ → ℕ → GraphAtom → Atom → Bool
 meets_all graph mol x m asked atom =
     (accepts asked.test.kind atom.element && (charge_fits asked.test.charge atom.charge && radical_fits asked.test.radical atom.radical))
     && (hydrogens_fit asked.test.hydrogens (drawn_hydrogens graph x) asked.free (hydrogens_at mol m)
@@ -25,13 +25,13 @@ meets_all graph mol x m asked atom =
     && unsaturation_fits asked.test.unsaturated (is_unsaturated_at mol m))))
 
 -- the same, where there are such atoms
-abbrev pub meets_some : Drawing → Molecule → ℕ → ℕ → Option GraphAtom → Option Atom → Bool
+abbrev pub meets_some : GraphView → Molecule → ℕ → ℕ → Option GraphAtom → Option Atom → Bool
 meets_some graph mol x m None atom = false
 meets_some graph mol x m (Some asked) None = false
 meets_some graph mol x m (Some asked) (Some atom) = meets_all graph mol x m asked atom
 
 -- atom x of the graph accepts atom m of the molecule
-abbrev pub fits_atom : Drawing → Molecule → ℕ → ℕ → Bool
+abbrev pub fits_atom : GraphView → Molecule → ℕ → ℕ → Bool
 fits_atom graph mol x m = meets_some graph mol x m (slice_get graph.atoms (x - 1)) (slice_get mol.atoms (m - 1))
 
 -- the ends of a bond are a and b, in either order
@@ -48,22 +48,22 @@ are_distinct [] = true
 are_distinct (a ∷ others) = not (list_any (λ b. b == a) others) && are_distinct others
 
 -- the atoms from number x on are accepted, one by one
-abbrev pub atoms_fit : Drawing → Molecule → ℕ → List ℕ → Bool
+abbrev pub atoms_fit : GraphView → Molecule → ℕ → List ℕ → Bool
 atoms_fit graph mol x [] = true
 atoms_fit graph mol x (a ∷ others) = fits_atom graph mol x a && atoms_fit graph mol (x + 1) others
 
 -- each bond of the graph lies on a bond that meets its test
-abbrev pub bonds_fit : Drawing → Molecule → List ℕ → Bool
+abbrev pub bonds_fit : GraphView → Molecule → List ℕ → Bool
 bonds_fit graph mol hit = list_all (λ asked. lies_on mol asked (image hit asked.first) (image hit asked.second)) graph.bonds
 
 -- the tests of a hit
-unfoldable pub is_hit : Drawing → Molecule → List ℕ → Bool
+unfoldable pub is_hit : GraphView → Molecule → List ℕ → Bool
 is_hit graph mol hit = are_distinct hit && (atoms_fit graph mol 1 hit && bonds_fit graph mol hit)
 
 -- the lists of one atom for each atom of the graph that pass, in rising order
-unfoldable pub hits_of : Drawing → Molecule → List (List ℕ)
+unfoldable pub hits_of : GraphView → Molecule → List (List ℕ)
 hits_of graph mol = filter (is_hit graph mol) (choices (length mol.atoms) (length graph.atoms))
 
 -- they are the rising list of all hits: so there is such a list for every graph and molecule
 abbrev pub HitsAreListed : Type 0
-HitsAreListed = (graph : Drawing) (mol : Molecule) → AreHits graph mol (hits_of graph mol)
+HitsAreListed = (graph : GraphView) (mol : Molecule) → AreHits graph mol (hits_of graph mol)

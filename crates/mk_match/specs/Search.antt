@@ -10,12 +10,12 @@ use Rattle.mk_text.specs.Rising.{IsBelow}
 use Rattle.mk_model.specs.declared.graph.GraphBond.{GraphBond}
 use Rattle.mk_model.specs.declared.molecule.MolBond.{MolBond}
 use Rattle.mk_model.specs.Molecules.{Molecule, IsBondOf, edge_of}
-use Rattle.mk_model.specs.Graphs.{Drawing}
+use Rattle.mk_model.specs.Graphs.{GraphView}
 use Rattle.mk_model.specs.Fitting.{FitsAtom, LiesOn, other_end}
 use Rattle.mk_model.specs.Hits.{image, IsHit}
 
 -- every test is met that speaks of the first atoms of the graph alone
-pub record IsBegun (graph : Drawing) (mol : Molecule) (first : List ℕ) : Type 0 where
+pub record IsBegun (graph : GraphView) (mol : Molecule) (first : List ℕ) : Type 0 where
   pub short : length first ≤ length graph.atoms
   pub within : All (λ a. (1 ≤ a) × (a ≤ length mol.atoms)) first
   pub distinct : AllPairs (λ a b. a ≢ b) first
@@ -23,24 +23,24 @@ pub record IsBegun (graph : Drawing) (mol : Molecule) (first : List ℕ) : Type 
   pub bonds : All (λ bond. bond.second ≤ length first → LiesOn mol bond (image first bond.first) (image first bond.second)) graph.bonds
 
 -- atom a may stand behind the first ones: its test is met, it isn't among them, and its bonds to them lie on bonds
-pub record MayStand (graph : Drawing) (mol : Molecule) (first : List ℕ) (a : ℕ) : Type 0 where
+pub record MayStand (graph : GraphView) (mol : Molecule) (first : List ℕ) (a : ℕ) : Type 0 where
   pub fits : FitsAtom graph mol (length first + 1) a
   pub new : All (λ b. b ≢ a) first
   pub bonds : All (λ bond. bond.second ≡ length first + 1 → LiesOn mol bond (image first bond.first) a) graph.bonds
 
 -- these atoms make a hit behind the first ones
-abbrev pub Completes : Drawing → Molecule → List ℕ → List ℕ → Type 0
+abbrev pub Completes : GraphView → Molecule → List ℕ → List ℕ → Type 0
 Completes graph mol first others = IsHit graph mol (first ++ others)
 
 -- the atom on which an earlier neighbour of the next atom of the graph lies
-pub record IsAnchor (graph : Drawing) (first : List ℕ) (anchor : ℕ) : Type 0 where
+pub record IsAnchor (graph : GraphView) (first : List ℕ) (anchor : ℕ) : Type 0 where
   pub bond : GraphBond
   pub drawn : Contains graph.bonds bond
   pub next : bond.second ≡ length first + 1
   pub is : anchor ≡ image first bond.first
 
 -- the next atom of the graph has no earlier neighbour
-abbrev pub HasNoAnchor : Drawing → List ℕ → Type 0
+abbrev pub HasNoAnchor : GraphView → List ℕ → Type 0
 HasNoAnchor graph first = All (λ bond. bond.second ≢ length first + 1) graph.bonds
 
 -- some bond of the molecule joins the two atoms
@@ -71,12 +71,12 @@ lesser_end None above end = if nat_le end above then None else Some end
 lesser_end (Some least) above end = if nat_le end above then Some least else Some (min least end)
 
 -- the bond of this number is met by atom a, or isn't one between the next atom and an earlier one
-abbrev pub IsMetAt : Drawing → Molecule → List ℕ → ℕ → ℕ → Type 0
+abbrev pub IsMetAt : GraphView → Molecule → List ℕ → ℕ → ℕ → Type 0
 IsMetAt graph mol first a number =
     (bond : GraphBond) → slice_get graph.bonds (number - 1) ≡ Some bond → bond.second ≡ length first + 1 → LiesOn mol bond (image first bond.first) a
 
 -- the bond of this number isn't one between the next atom and an earlier one
-abbrev pub IsElsewhere : Drawing → List ℕ → ℕ → Type 0
+abbrev pub IsElsewhere : GraphView → List ℕ → ℕ → Type 0
 IsElsewhere graph first number = (bond : GraphBond) → slice_get graph.bonds (number - 1) ≡ Some bond → bond.second ≢ length first + 1
 
 -- what is left of a front behind a first number: the others, where it begins with that number

@@ -1,7 +1,8 @@
 // The search: it goes through the graph's atoms in order.
 ghost use Rattle.std.specs.Prelude.{◌≡◌, ◌<◌, ◌≤◌, ◌+◌, ◌-◌, ◌++◌, ◌∷◌, [], false, None, IfOk, IsTrue, length, take, drop};
-ghost use Rattle.mk_model.specs.Graphs.{IsDrawing};
-ghost use Rattle.mk_model.specs.Hits.{IsHit, IsLeast, IsLeastFrom};
+ghost use Rattle.mk_model.specs.Graphs.{IsGraph};
+ghost use Rattle.mk_model.specs.Hits.{IsHit};
+ghost use Rattle.mk_text.specs.Rising.{IsLeast, IsLeastFrom};
 ghost use Rattle.mk_match.specs.Search.{Completes, IsBegun, rest_after};
 
 use crate::candidates::next_atom;
@@ -34,7 +35,7 @@ pub fn least_map<L: Ledger>(
 // Puts the least atoms behind the first ones that make a hit of them and aren't below the front, and tells whether there are any.
 #[cycle(search)]
 fn search(graph: &Graph, mol: &Mol, images: &mut [u32], k: usize, front: &[u32]) -> bool
-    requires kept { IsDrawing graph.now }
+    requires kept { IsGraph graph.now }
     requires room { length images.old ≡ length graph.now.atoms }
     requires short { k ≤ length images.old }
     requires begun { IsBegun graph.now mol.now (take k images.old) }
@@ -66,7 +67,7 @@ fn try_atom(
     front: &[u32],
     atom: u32,
 ) -> bool
-    requires kept { IsDrawing graph.now }
+    requires kept { IsGraph graph.now }
     requires room { length images.old ≡ length graph.now.atoms }
     requires short { k < length images.old }
     requires begun { IsBegun graph.now mol.now (take k images.old) }

@@ -2,7 +2,7 @@
 ghost use Rattle.std.specs.Prelude.{◌≡◌, ◌<◌, length};
 
 use crate::least_map;
-use mk_drawn::{graph_of, mol_of};
+use mk_fixtures::{graph_of, mol_of};
 use mk_model::{
     Atom, AtomTest, Edge, Elements, Graph, GraphAtom, GraphBond, Kind, Map, Memory, Mol, Steps,
 };
@@ -14,13 +14,13 @@ use std::sync::ledger::{Blank, Ledger};
 use std::test::Fail;
 
 // Elements and bonds.
-type Drawing = (&'static [u8], &'static [(u32, u32, u8)]);
+type GraphView = (&'static [u8], &'static [(u32, u32, u8)]);
 
-const COC: Drawing = (&[6, 8, 6], &[(1, 2, 1), (2, 3, 1)]);
+const COC: GraphView = (&[6, 8, 6], &[(1, 2, 1), (2, 3, 1)]);
 
-const TRIANGLE: Drawing = (&[6, 6, 6], &[(1, 2, 1), (1, 3, 1), (2, 3, 1)]);
+const TRIANGLE: GraphView = (&[6, 6, 6], &[(1, 2, 1), (1, 3, 1), (2, 3, 1)]);
 
-const SPIRO: Drawing = (
+const SPIRO: GraphView = (
     &[6, 6, 6, 6, 6],
     &[
         (1, 2, 1),
@@ -32,7 +32,7 @@ const SPIRO: Drawing = (
     ],
 );
 
-const JOINED: Drawing = (
+const JOINED: GraphView = (
     &[6, 6, 6, 6, 6, 6],
     &[
         (1, 2, 1),
@@ -45,14 +45,14 @@ const JOINED: Drawing = (
     ],
 );
 
-const CC: Drawing = (&[6, 6], &[(1, 2, 1)]);
+const CC: GraphView = (&[6, 6], &[(1, 2, 1)]);
 
-const CO: Drawing = (&[6, 8], &[(1, 2, 1)]);
+const CO: GraphView = (&[6, 8], &[(1, 2, 1)]);
 
-const APART: Drawing = (&[6, 6], &[]);
+const APART: GraphView = (&[6, 6], &[]);
 
 // The query with the ring-bond column of its first atom and the topology of its bonds, the molecule, and all hits in order.
-const ROWS: [(&str, Drawing, i8, u8, Drawing, &[&[u32]]); 9] = [
+const ROWS: [(&str, GraphView, i8, u8, GraphView, &[&[u32]]); 9] = [
     (
         "as many ring bonds as are drawn",
         TRIANGLE,
@@ -377,7 +377,7 @@ fn pairs(alloc: Global, atoms: u32) -> Result<Vec<(u32, u32)>, Memory> {
 // ---- graphs and molecules that are drawn
 
 // The graph of elements and bonds, with the ring-bond column of its first atom and the topology of all its bonds.
-fn query_of(alloc: Global, drawing: Drawing, ring_bonds: i8, topology: u8) -> Result<Graph, Fail> {
+fn query_of(alloc: Global, drawing: GraphView, ring_bonds: i8, topology: u8) -> Result<Graph, Fail> {
     let mut atoms = Vec::new(alloc);
     for (x, z) in drawing.0.iter().enumerate() {
         let column = if x == 0 { ring_bonds } else { 0 };
@@ -390,7 +390,7 @@ fn query_of(alloc: Global, drawing: Drawing, ring_bonds: i8, topology: u8) -> Re
     graph_of(alloc, atoms, bonds)
 }
 
-fn molecule_of(alloc: Global, drawing: Drawing) -> Result<Mol, Fail> {
+fn molecule_of(alloc: Global, drawing: GraphView) -> Result<Mol, Fail> {
     let mut atoms = Vec::new(alloc);
     for z in drawing.0 {
         atoms.push(atom(*z))?;

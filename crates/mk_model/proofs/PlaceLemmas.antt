@@ -8,7 +8,7 @@ use Rattle.std.specs.Prelude.{slice_get}
 use Rattle.std.proofs.lemmas.List.{length-map, get_or-map}
 use Rattle.mk_model.specs.Edges.{IsBetween}
 use Rattle.mk_model.specs.Molecules.{Molecule, IsMolecule, edge_of}
-use Rattle.mk_model.specs.Graphs.{Drawing, IsDrawing, drawn_edge}
+use Rattle.mk_model.specs.Graphs.{GraphView, IsGraph, graph_edge}
 
 -- what stands at a place
 pub at_place : {X : Type 0} (xs : List X) (k : ℕ) (d : X) → k < length xs → slice_get xs k ≡ Some (get_or xs k d)
@@ -37,8 +37,8 @@ all_mapped f P xs all = λ k d below. subst P (get_or-map f xs k d (f d) below) 
 -- ---- graphs
 
 -- the ends of each bond of a graph are two of its atoms
-pub drawn_between : (graph : Drawing) → IsDrawing graph → All (λ bond. IsBetween (length graph.atoms) (drawn_edge bond)) graph.bonds
-drawn_between graph is = all_mapped drawn_edge (IsBetween (length graph.atoms)) graph.bonds is.sketch.graph.ends
+pub drawn_between : (graph : GraphView) → IsGraph graph → All (λ bond. IsBetween (length graph.atoms) (graph_edge bond)) graph.bonds
+drawn_between graph is = all_mapped graph_edge (IsBetween (length graph.atoms)) graph.bonds is.sketch.graph.ends
 
 -- ---- molecules
 
@@ -48,10 +48,10 @@ bonds_between mol is = all_mapped edge_of (IsBetween (length mol.atoms)) mol.bon
 
 -- ---- the ends one by one
 
-pub drawn_first : (graph : Drawing) → IsDrawing graph → All (λ bond. 1 ≤ bond.first) graph.bonds
+pub drawn_first : (graph : GraphView) → IsGraph graph → All (λ bond. 1 ≤ bond.first) graph.bonds
 drawn_first graph is = λ k d below. (drawn_between graph is k d below).first.0
 
-pub drawn_second : (graph : Drawing) → IsDrawing graph → All (λ bond. bond.second ≤ length graph.atoms) graph.bonds
+pub drawn_second : (graph : GraphView) → IsGraph graph → All (λ bond. bond.second ≤ length graph.atoms) graph.bonds
 drawn_second graph is = λ k d below. (drawn_between graph is k d below).second.1
 
 pub bond_first : (mol : Molecule) → IsMolecule mol → All (λ bond. bond.first ≤ length mol.atoms) mol.bonds

@@ -3,7 +3,7 @@
 --     Joins bonds b x y         the bond at place b joins x and y
 --     HasKind bonds b kind      the bond at place b has this type
 --     AreBetween atoms bonds    ends are atoms and differ
---     IsGraph atoms bonds       ends are atoms and differ, and no two bonds join one pair
+--     IsSimple atoms bonds       ends are atoms and differ, and no two bonds join one pair
 --     touches n edge            the bond ends at atom n
 --     numbers_at bonds n        the numbers of the bonds of atom n, rising
 --     rows_of atoms bonds       the lists of all atoms
@@ -37,7 +37,7 @@ abbrev pub AreBetween : ℕ → List Edge → Type 0
 AreBetween atoms bonds = All (IsBetween atoms) bonds
 
 -- every bond is between two of the atoms, and no two bonds join one pair
-pub record IsGraph (atoms : ℕ) (bonds : List Edge) : Type 0 where
+pub record IsSimple (atoms : ℕ) (bonds : List Edge) : Type 0 where
   pub ends : AreBetween atoms bonds
   pub once : (b c x y : ℕ) → Joins bonds b x y → Joins bonds c x y → b ≡ c
 

@@ -14,7 +14,7 @@ use Rattle.mk_model.specs.declared.molecule.Atom.{Atom}
 use Rattle.mk_model.specs.declared.molecule.MolBond.{MolBond}
 use Rattle.mk_model.specs.Edges.{touches}
 use Rattle.mk_model.specs.Molecules.{Molecule, IsBondOf, edge_of}
-use Rattle.mk_model.specs.Graphs.{Drawing, drawn_edge}
+use Rattle.mk_model.specs.Graphs.{GraphView, graph_edge}
 use Rattle.mk_model.specs.Tests.{accepts, charge_fits, radical_fits, hydrogens_fit, ring_bonds_fit, substitution_fits, unsaturation_fits, is_unsaturated, meets}
 
 -- the end of a bond that isn't atom n
@@ -63,21 +63,21 @@ is_drawn_hydrogen atoms n = is_at (slice_get atoms (n - 1))
     is_at (Some atom) = is_hydrogen_kind atom.test.kind
 
 -- the bonds of atom x that lead to a drawn hydrogen
-abbrev pub drawn_hydrogens : Drawing → ℕ → ℕ
-drawn_hydrogens graph x = count_by (λ bond. touches x (drawn_edge bond) && is_drawn_hydrogen graph.atoms (other_end x (drawn_edge bond))) graph.bonds
+abbrev pub drawn_hydrogens : GraphView → ℕ → ℕ
+drawn_hydrogens graph x = count_by (λ bond. touches x (graph_edge bond) && is_drawn_hydrogen graph.atoms (other_end x (graph_edge bond))) graph.bonds
 
 -- the bonds of atom x that lead to another atom
-abbrev pub drawn_others : Drawing → ℕ → ℕ
-drawn_others graph x = count_by (λ bond. touches x (drawn_edge bond) && not (is_drawn_hydrogen graph.atoms (other_end x (drawn_edge bond)))) graph.bonds
+abbrev pub drawn_others : GraphView → ℕ → ℕ
+drawn_others graph x = count_by (λ bond. touches x (graph_edge bond) && not (is_drawn_hydrogen graph.atoms (other_end x (graph_edge bond)))) graph.bonds
 
 -- the ring bonds of atom x
-abbrev pub drawn_rings : Drawing → ℕ → ℕ
-drawn_rings graph x = count_by (λ bond. touches x (drawn_edge bond) && bond.ring) graph.bonds
+abbrev pub drawn_rings : GraphView → ℕ → ℕ
+drawn_rings graph x = count_by (λ bond. touches x (graph_edge bond) && bond.ring) graph.bonds
 
 -- ---- an atom on an atom
 
 -- every test of atom x of the graph is met by atom m of the molecule
-pub record FitsAtom (graph : Drawing) (mol : Molecule) (x m : ℕ) : Type 0 where
+pub record FitsAtom (graph : GraphView) (mol : Molecule) (x m : ℕ) : Type 0 where
   pub asked : GraphAtom
   pub asked_at : slice_get graph.atoms (x - 1) ≡ Some asked
   pub atom : Atom

@@ -1,54 +1,54 @@
 -- Graphs of queries as their lists.
---     Drawing               what is seen of a `Graph`: its atoms and its bonds
---     drawn_edges bonds     the bonds without their tests and marks
---     IsSketch drawing      its conditions but for the marks of its bonds
---     IsDrawing drawing     what every `Graph` keeps
+--     GraphView               what is seen of a `Graph`: its atoms and its bonds
+--     graph_edges bonds     the bonds without their tests and marks
+--     IsUnmarked drawing      its conditions but for the marks of its bonds
+--     IsGraph drawing     what every `Graph` keeps
 use Rattle.std.specs.Prelude.{◌≡◌, ◌≤◌, ◌<◌, ◌⊎◌, ◌↔◌, ℕ, List, Some, length, map, slice_get, All, AllPairs, IsTrue}
 use Rattle.mk_model.specs.declared.edge.Edge.{Edge}
 use Rattle.mk_model.specs.declared.graph.GraphAtom.{GraphAtom}
 use Rattle.mk_model.specs.declared.graph.GraphBond.{GraphBond}
-use Rattle.mk_model.specs.Edges.{IsGraph, rows_of}
+use Rattle.mk_model.specs.Edges.{IsSimple, rows_of}
 use Rattle.mk_model.specs.Rings.{IsRingBond}
 use Rattle.mk_model.specs.Aromatic.{IsAromatic}
 use Rattle.mk_model.specs.Tests.{IsTestInRange, IsBondInRange}
 
 -- what is seen of a `Graph`: its atoms and its bonds
-pub record Drawing : Type 0 where
+pub record GraphView : Type 0 where
   pub atoms : List GraphAtom
   pub bonds : List GraphBond
 
 -- a bond without its test and its marks
-abbrev pub drawn_edge : GraphBond → Edge
-drawn_edge bond = record { first = bond.first; second = bond.second; kind = bond.kind }
+abbrev pub graph_edge : GraphBond → Edge
+graph_edge bond = record { first = bond.first; second = bond.second; kind = bond.kind }
 
 -- the bonds without their tests and marks
-abbrev pub drawn_edges : List GraphBond → List Edge
-drawn_edges bonds = map drawn_edge bonds
+abbrev pub graph_edges : List GraphBond → List Edge
+graph_edges bonds = map graph_edge bonds
 
 -- a bond stands before another whose lower end is higher, or whose lower end is the same and the other one higher
 abbrev pub IsBefore : GraphBond → GraphBond → Type 0
 IsBefore b c = (b.first < c.first) ⊎ ((b.first ≡ c.first) × (b.second < c.second))
 
 -- the marks of the bond at place b are those of the definitions, taken over the graph's own bonds
-pub record HasDrawnMarks (bonds : List Edge) (b : ℕ) (bond : GraphBond) : Type 0 where
+pub record HasGraphMarks (bonds : List Edge) (b : ℕ) (bond : GraphBond) : Type 0 where
   pub ring : IsTrue bond.ring ↔ IsRingBond bonds b
   pub aromatic : IsTrue bond.aromatic ↔ IsAromatic bonds b
 
 -- at most 512 atoms, all tests in range, each bond with its lower end first and the bonds in order, and no pair twice
-pub record IsSketch (drawing : Drawing) : Type 0 where
+pub record IsUnmarked (drawing : GraphView) : Type 0 where
   pub few : length drawing.atoms ≤ 512
   pub tests : All (λ atom. IsTestInRange atom.test) drawing.atoms
   pub bond_tests : All IsBondInRange drawing.bonds
-  pub graph : IsGraph (length drawing.atoms) (drawn_edges drawing.bonds)
+  pub graph : IsSimple (length drawing.atoms) (graph_edges drawing.bonds)
   pub lower_first : All (λ bond. bond.first < bond.second) drawing.bonds
   pub order : AllPairs IsBefore drawing.bonds
 
 -- and the marks of the bonds are right
-pub record IsDrawing (drawing : Drawing) : Type 0 where
-  pub sketch : IsSketch drawing
-  pub marks : (b : ℕ) (bond : GraphBond) → slice_get drawing.bonds b ≡ Some bond → HasDrawnMarks (drawn_edges drawing.bonds) b bond
+pub record IsGraph (drawing : GraphView) : Type 0 where
+  pub sketch : IsUnmarked drawing
+  pub marks : (b : ℕ) (bond : GraphBond) → slice_get drawing.bonds b ≡ Some bond → HasGraphMarks (graph_edges drawing.bonds) b bond
 
 -- what a `Graph` keeps beside: the lists of its atoms' bonds
-pub record IsKeptDrawing (drawing : Drawing) (kept : List (List ℕ)) : Type 0 where
-  pub holds : IsDrawing drawing
-  pub rows : kept ≡ rows_of (length drawing.atoms) (drawn_edges drawing.bonds)
+pub record IsKeptGraph (drawing : GraphView) (kept : List (List ℕ)) : Type 0 where
+  pub holds : IsGraph drawing
+  pub rows : kept ≡ rows_of (length drawing.atoms) (graph_edges drawing.bonds)

@@ -7,7 +7,7 @@ use Rattle.std.specs.Prelude.{◌≡◌, ◌≤◌, ◌<◌, ◌^◌, ◌↔◌,
 use Rattle.mk_model.specs.declared.edge.Edge.{Edge}
 use Rattle.mk_model.specs.declared.molecule.Atom.{Atom}
 use Rattle.mk_model.specs.declared.molecule.MolBond.{MolBond}
-use Rattle.mk_model.specs.Edges.{HasEnds, IsGraph, rows_of}
+use Rattle.mk_model.specs.Edges.{HasEnds, IsSimple, rows_of}
 use Rattle.mk_model.specs.Rings.{IsRingBond}
 use Rattle.mk_model.specs.Aromatic.{IsAromatic}
 
@@ -40,7 +40,7 @@ pub record IsMolecule (mol : Molecule) : Type 0 where
   pub few_atoms : length mol.atoms < 2 ^ 32
   pub few_bonds : length mol.bonds < 2 ^ 32
   pub elements : All (λ atom. IsElement atom.element) mol.atoms
-  pub graph : IsGraph (length mol.atoms) (edges mol.bonds)
+  pub graph : IsSimple (length mol.atoms) (edges mol.bonds)
   pub marks : (b : ℕ) (bond : MolBond) → slice_get mol.bonds b ≡ Some bond → HasMarks (edges mol.bonds) b bond
 
 -- the bond is one of the molecule's, and joins the atoms a and b

@@ -1,7 +1,7 @@
 // Edges of bonds, and the bond between two atoms among some.
 ghost use Rattle.std.specs.Prelude.{◌≡◌, ◌≤◌, ◌<◌, ◌-◌, ℕ, All, IfOk, MatchOption, length, slice_index, slice_index_or};
 ghost use Rattle.mk_model.specs.Edges.{HasEnds};
-ghost use Rattle.mk_model.specs.Graphs.{drawn_edges};
+ghost use Rattle.mk_model.specs.Graphs.{graph_edges};
 ghost use Rattle.mk_model.specs.Molecules.{BondAmong, edge_of, edges};
 
 use crate::{Edge, GraphBond, MolBond};
@@ -23,8 +23,8 @@ pub fn edges_of(alloc: Global, bonds: &[MolBond]) -> Result<Vec<Edge>, Memory>
 }
 
 /// The bonds of a graph without their tests and marks.
-pub fn graph_edges(alloc: Global, bonds: &[GraphBond]) -> Result<Vec<Edge>, Memory>
-    ensures { IfOk result (λ list. list.items ≡ drawn_edges bonds.now) }
+pub fn edges_of_graph(alloc: Global, bonds: &[GraphBond]) -> Result<Vec<Edge>, Memory>
+    ensures { IfOk result (λ list. list.items ≡ graph_edges bonds.now) }
 {
     bonds
         .iter()

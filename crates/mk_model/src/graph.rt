@@ -2,7 +2,7 @@
 ghost use Rattle.std.specs.Prelude.{◌≡◌, ◌≤◌, All, IfOk, length};
 
 use crate::asking::AtomTest;
-use crate::finding::graph_edges;
+use crate::finding::edges_of_graph;
 use crate::neighbours::Neighbours;
 use mk_text::Memory;
 use std::alloc::Global;
@@ -35,25 +35,25 @@ pub struct Graph {
 }
 
 impl Model for Graph {
-    ghost use Rattle.mk_model.specs.Graphs.{Drawing, IsKeptDrawing};
+    ghost use Rattle.mk_model.specs.Graphs.{GraphView, IsKeptGraph};
 
-    ghost Value = { Drawing };
+    ghost Value = { GraphView };
 
     ghost view = { λ g. record { atoms = g.atoms.items; bonds = g.bonds.items } };
 
-    ghost invariant = { λ g. IsKeptDrawing (record { atoms = g.atoms.items; bonds = g.bonds.items }) g.neighbours };
+    ghost invariant = { λ g. IsKeptGraph (record { atoms = g.atoms.items; bonds = g.bonds.items }) g.neighbours };
 }
 
 impl Graph {
     ghost use Rattle.mk_model.specs.Edges.{numbers_at};
-    ghost use Rattle.mk_model.specs.Graphs.{Drawing, IsDrawing, drawn_edges};
+    ghost use Rattle.mk_model.specs.Graphs.{GraphView, IsGraph, graph_edges};
 
     /// Takes the lists over and adds the neighbour lists.
     pub fn of(alloc: Global, atoms: Vec<GraphAtom>, bonds: Vec<GraphBond>) -> Result<Graph, Memory>
-        requires { IsDrawing (record { atoms = atoms.items; bonds = bonds.items }) }
+        requires { IsGraph (record { atoms = atoms.items; bonds = bonds.items }) }
         ensures { IfOk result (λ graph. graph ≡ record { atoms = atoms.items; bonds = bonds.items }) }
     {
-        let edges = graph_edges(alloc, bonds.as_slice())?;
+        let edges = edges_of_graph(alloc, bonds.as_slice())?;
         let neighbours = Neighbours::of(alloc, atoms.len() as u32, edges.as_slice())?;
         Ok(Graph {
             atoms,
@@ -65,21 +65,21 @@ impl Graph {
     pub fn atom_count(&self) -> u32
         ensures count { result ≡ length self.now.atoms }
         ensures few { result ≤ 512 }
-        ensures kept { IsDrawing self.now }
+        ensures kept { IsGraph self.now }
     {
         self.atoms.len() as u32
     }
 
     pub fn atoms(&self) -> &[GraphAtom]
         ensures list { result.now ≡ self.now.atoms }
-        ensures kept { IsDrawing self.now }
+        ensures kept { IsGraph self.now }
     {
         self.atoms.as_slice()
     }
 
     pub fn bonds(&self) -> &[GraphBond]
         ensures list { result.now ≡ self.now.bonds }
-        ensures kept { IsDrawing self.now }
+        ensures kept { IsGraph self.now }
     {
         self.bonds.as_slice()
     }
@@ -88,9 +88,9 @@ impl Graph {
     pub fn bonds_at(&self, x: u32) -> &[u32]
         requires least { 1 ≤ x }
         requires most { x ≤ length self.now.atoms }
-        ensures numbers { result.now ≡ numbers_at (drawn_edges self.now.bonds) x }
+        ensures numbers { result.now ≡ numbers_at (graph_edges self.now.bonds) x }
         ensures within { All (λ number. (1 ≤ number) × (number ≤ length self.now.bonds)) result.now }
-        ensures kept { IsDrawing self.now }
+        ensures kept { IsGraph self.now }
     {
         self.neighbours.at(x)
     }

@@ -22,7 +22,7 @@ mod tests;
 pub use asking::{AtomTest, Kind};
 pub use edge::Edge;
 pub use elements::Elements;
-pub use finding::graph_edges;
+pub use finding::edges_of_graph;
 pub use graph::{Graph, GraphAtom, GraphBond};
 pub use mk_text::{Bytes, Memory, Numbers, Place, Text};
 pub use molecule::{Atom, Mol, MolBond};

@@ -4,7 +4,7 @@ use Rattle.std.specs.Prelude.{pos, slice_get}
 use Rattle.std.proofs.lemmas.Bool.{cases_lt}
 use Rattle.std.proofs.lemmas.List.{take_all}
 use Rattle.mk_model.specs.declared.edge.Edge.{Edge}
-use Rattle.mk_model.specs.Edges.{IsGraph, rows_of}
+use Rattle.mk_model.specs.Edges.{IsSimple, rows_of}
 use Rattle.mk_model.specs.Filling.{degree}
 use Rattle.mk_model.proofs.DegreeLemmas.{length-numbers_from}
 use Rattle.mk_ctab.specs.declared.raw.RawAtom.{RawAtom}
@@ -26,7 +26,7 @@ whole atoms bonds edges front new =
     front.edges_are ∙ ap edges_of (take_all (length edges) bonds full)
 
 -- and a graph
-pub is_graph : (atoms : ℕ) (bonds : List RawBond) (edges : List Edge) → IsEdgeFront atoms bonds edges → ((item : ℕ) → IsNewBondAt atoms bonds item) → IsGraph atoms edges
+pub is_graph : (atoms : ℕ) (bonds : List RawBond) (edges : List Edge) → IsEdgeFront atoms bonds edges → ((item : ℕ) → IsNewBondAt atoms bonds item) → IsSimple atoms edges
 is_graph atoms bonds edges front new =
     graph atoms edges front.between
     (λ b. let place : b + 1 - 1 ≡ b = omega arith in let P : ℕ → Type 0 = IsNewAt edges in subst P place (new_edge atoms bonds edges front (b + 1) (new (b + 1))))

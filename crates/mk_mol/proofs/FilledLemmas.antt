@@ -7,7 +7,7 @@ use Rattle.std.proofs.lemmas.List.Elements.{All-append, All-push, All-replicate,
 use Rattle.mk_model.specs.declared.edge.Edge.{Edge}
 use Rattle.mk_model.specs.declared.molecule.Atom.{Atom}
 use Rattle.mk_model.specs.declared.molecule.MolBond.{MolBond}
-use Rattle.mk_model.specs.Edges.{IsBetween, IsGraph, HasEnds, Joins}
+use Rattle.mk_model.specs.Edges.{IsBetween, IsSimple, HasEnds, Joins}
 use Rattle.mk_model.specs.Molecules.{Molecule, IsElement, IsMolecule, HasMarks, edge_of, edges}
 use Rattle.std.specs.declared.alloc.AllocError.{AllocError}
 use Rattle.mk_ctab.specs.declared.raw.RawTable.{RawTable}
@@ -29,7 +29,7 @@ between-more atoms edge is = record {
 }
 
 -- one hydrogen more
-graph-more : (atoms : ℕ) (bonds : List Edge) (owner : ℕ) → IsGraph atoms bonds → 1 ≤ owner → owner ≤ atoms → IsGraph (atoms + 1) (bonds ++ record { first = owner; second = atoms + 1; kind = 1 } ∷ [])
+graph-more : (atoms : ℕ) (bonds : List Edge) (owner : ℕ) → IsSimple atoms bonds → 1 ≤ owner → owner ≤ atoms → IsSimple (atoms + 1) (bonds ++ record { first = owner; second = atoms + 1; kind = 1 } ∷ [])
 graph-more atoms bonds owner is least most =
     graph (atoms + 1) (bonds ++ last ∷ [])
     (All-push (IsBetween (atoms + 1)) bonds last (All-weaker (IsBetween atoms) (IsBetween (atoms + 1)) (between-more atoms) bonds is.ends) last_between)
@@ -58,7 +58,7 @@ graph-more atoms bonds owner is least most =
         ⊎_elim (λ e. absurd (omega (arith, e.1, between.second.1))) (λ e. absurd (omega (arith, e.0, between.first.1))) ends'
 
 -- some hydrogens more
-pub graph-filled : (atoms : ℕ) (bonds : List Edge) (os : List ℕ) → IsGraph atoms bonds → All (λ o. (1 ≤ o) × (o ≤ atoms)) os → IsGraph (atoms + length os) (bonds ++ hydrogen_bonds (atoms + 1) os)
+pub graph-filled : (atoms : ℕ) (bonds : List Edge) (os : List ℕ) → IsSimple atoms bonds → All (λ o. (1 ≤ o) × (o ≤ atoms)) os → IsSimple (atoms + length os) (bonds ++ hydrogen_bonds (atoms + 1) os)
 graph-filled atoms bonds [] is within =
     let none : atoms + 0 ≡ atoms = omega arith in
     rw (none, append-nil bonds) is
@@ -80,7 +80,7 @@ owners-within n (gained ∷ gains) =
     (All-weaker (λ (o : ℕ). (n + 1 ≤ o) × (o < n + 1 + length gains)) (λ (o : ℕ). (n ≤ o) × (o < n + length (gained ∷ gains))) (λ o h. (omega (arith, h.0), omega (arith, h.1))) (owners (n + 1) gains) (owners-within (n + 1) gains))
 
 -- the edges with those of all hydrogens are a graph over all atoms
-pub filled_graph : (atoms new : List Atom) (old more : List Edge) (gains : List ℕ) → length gains ≡ length atoms → IsGraph (length atoms) old → new ≡ atoms ++ replicate (length (owners 1 gains)) hydrogen → more ≡ old ++ hydrogen_bonds (length atoms + 1) (owners 1 gains) → IsGraph (length new) more
+pub filled_graph : (atoms new : List Atom) (old more : List Edge) (gains : List ℕ) → length gains ≡ length atoms → IsSimple (length atoms) old → new ≡ atoms ++ replicate (length (owners 1 gains)) hydrogen → more ≡ old ++ hydrogen_bonds (length atoms + 1) (owners 1 gains) → IsSimple (length new) more
 filled_graph atoms new old more gains size is filled bonded =
     let os = owners 1 gains in
     let many : length new ≡ length atoms + length os = ap length filled ∙ length-append atoms (replicate (length os) hydrogen) ∙ ap (λ (k : ℕ). length atoms + k) (length-replicate (length os) hydrogen) in
@@ -91,7 +91,7 @@ filled_graph atoms new old more gains size is filled bonded =
 -- ---- the molecule
 
 -- the atoms, filled, and their marked bonds are a molecule
-pub molecule : (atoms new : List Atom) (old plain : List Edge) (gains : List ℕ) (written : ℕ) (bonds : List MolBond) → written ≡ length atoms → length gains ≡ length atoms → length old ≤ 999 → length new < 2 ^ 20 → All IsSound atoms → IsGraph (length atoms) old → new ≡ atoms ++ replicate (length (owners 1 gains)) hydrogen → plain ≡ old ++ hydrogen_bonds (length atoms + 1) (owners 1 gains) → edges bonds ≡ plain → ((b : ℕ) (bond : MolBond) → slice_get bonds b ≡ Some bond → HasMarks plain b bond) → IsMolecule (record { written = written; atoms = new; bonds = bonds })
+pub molecule : (atoms new : List Atom) (old plain : List Edge) (gains : List ℕ) (written : ℕ) (bonds : List MolBond) → written ≡ length atoms → length gains ≡ length atoms → length old ≤ 999 → length new < 2 ^ 20 → All IsSound atoms → IsSimple (length atoms) old → new ≡ atoms ++ replicate (length (owners 1 gains)) hydrogen → plain ≡ old ++ hydrogen_bonds (length atoms + 1) (owners 1 gains) → edges bonds ≡ plain → ((b : ℕ) (bond : MolBond) → slice_get bonds b ≡ Some bond → HasMarks plain b bond) → IsMolecule (record { written = written; atoms = new; bonds = bonds })
 molecule atoms new old plain gains written bonds is size few_old few sound old_graph filled bonded same marks =
     let os = owners 1 gains in
     let many : length new ≡ length atoms + length os = ap length filled ∙ length-append atoms (replicate (length os) hydrogen) ∙ ap (λ (k : ℕ). length atoms + k) (length-replicate (length os) hydrogen) in

@@ -5,7 +5,7 @@ use Rattle.std.proofs.lemmas.Bool.{cases_lt, cases_order}
 use Rattle.std.proofs.lemmas.List.{length-take-le, get_or_default, get_or-take, get_or-map}
 use Rattle.std.proofs.lemmas.List.Elements.{All-from_get_or}
 use Rattle.mk_model.specs.declared.edge.Edge.{Edge}
-use Rattle.mk_model.specs.Edges.{IsBetween, AreBetween, HasEnds, IsGraph, Joins, numbers_at, rows_of}
+use Rattle.mk_model.specs.Edges.{IsBetween, AreBetween, HasEnds, IsSimple, Joins, numbers_at, rows_of}
 use Rattle.mk_model.proofs.DegreeLemmas.{slice_get-rows_of}
 use Rattle.mk_model.proofs.MoleculeLemmas.{touches-ends}
 use Rattle.mk_model.proofs.ForCallers.{numbers_at-each, numbers_at-all}
@@ -178,7 +178,7 @@ module _ (atoms : ℕ) (bonds : List RawBond) (edges : List Edge) (front : IsEdg
 -- ---- the graph
 
 -- where all are new, no two edges join one pair
-pub graph : (atoms : ℕ) (edges : List Edge) → AreBetween atoms edges → ((b : ℕ) → IsNewAt edges b) → IsGraph atoms edges
+pub graph : (atoms : ℕ) (edges : List Edge) → AreBetween atoms edges → ((b : ℕ) → IsNewAt edges b) → IsSimple atoms edges
 graph atoms edges between new = record {
   ends = between;
   once = λ b c x y p q. by_order b c x y p q (cases_order b c);

@@ -9,7 +9,7 @@
 --     IsDrawn table drawn               the edges of all bonds, and the numbers of each atom's
 use Rattle.std.specs.Prelude.{◌≡◌, ◌<◌, ◌≤◌, ◌+◌, ◌-◌, ℕ, List, Option, Some, None, All, length, take, slice_index, slice_index_or}
 use Rattle.mk_model.specs.declared.edge.Edge.{Edge}
-use Rattle.mk_model.specs.Edges.{AreBetween, HasEnds, IsBetween, IsGraph, rows_of}
+use Rattle.mk_model.specs.Edges.{AreBetween, HasEnds, IsBetween, IsSimple, rows_of}
 use Rattle.mk_ctab.specs.declared.raw.RawBond.{RawBond}
 use Rattle.mk_ctab.specs.declared.raw.RawTable.{RawTable}
 use Rattle.mk_mol.specs.declared.bond_checks.Drawn.{Drawn}
@@ -59,4 +59,4 @@ IsNewBondAt atoms bonds item = OfItem (IsNewBond atoms (take (item - 1) bonds)) 
 pub record IsDrawn (table : RawTable) (drawn : Drawn) : Type 0 where
   pub edges : drawn.edges.items ≡ edges_of table.bonds
   pub near : drawn.near ≡ rows_of (length table.atoms) drawn.edges.items
-  pub graph : IsGraph (length table.atoms) drawn.edges.items
+  pub graph : IsSimple (length table.atoms) drawn.edges.items

@@ -1,6 +1,6 @@
 // What is demanded of bonds, and the numbers of each atom's bonds.
 ghost use Rattle.std.specs.Prelude.{◌≡◌, ◌≤◌, ◌<◌, ◌-◌, ◌↔◌, All, IfOk, IsFalse, IsTrue, OnOk, length};
-ghost use Rattle.mk_model.specs.Edges.{AreBetween, HasEnds, IsGraph, rows_of};
+ghost use Rattle.mk_model.specs.Edges.{AreBetween, HasEnds, IsSimple, rows_of};
 ghost use Rattle.mk_mol.specs.Answers.{IfCheck};
 ghost use Rattle.mk_mol.specs.Checks.{edges_of, HasKnownType, OfItem};
 ghost use Rattle.mk_mol.specs.FirstFault.{IsFirstFault, PassesBelow};
@@ -48,7 +48,7 @@ fn check_drawn(table: &RawTable, edges: &[Edge], near: &Neighbours) -> Result<()
     requires rows { near.now ≡ rows_of (length near.now) edges.now }
     requires size { length near.now ≡ length table.now.atoms }
     ensures whole { OnOk result (edges.now ≡ edges_of table.now.bonds) }
-    ensures graph { OnOk result (IsGraph (length table.now.atoms) edges.now) }
+    ensures graph { OnOk result (IsSimple (length table.now.atoms) edges.now) }
     ensures passes { OnOk result (PassesBelow table.now 5) }
     ensures fault { IfCheck result (IsFirstFault table.now) }
 {

@@ -1,7 +1,7 @@
 // The filled molecule of a table that passes its checks.
 ghost use Rattle.std.specs.Prelude.{◌≡◌, ◌≤◌, ◌<◌, ◌^◌, ℕ, IfOk, Some, length, slice_get};
 ghost use Rattle.mk_model.specs.declared.molecule.MolBond.{MolBond as MarkedBond};
-ghost use Rattle.mk_model.specs.Edges.{IsGraph};
+ghost use Rattle.mk_model.specs.Edges.{IsSimple};
 ghost use Rattle.mk_model.specs.Molecules.{HasMarks, edges};
 ghost use Rattle.mk_mol.specs.Filled.{IsFilled};
 ghost use Rattle.mk_mol.specs.FirstFault.{PassesAll};
@@ -35,7 +35,7 @@ pub fn fill(alloc: Global, table: &RawTable, drawn: Drawn) -> Result<Mol, Memory
 
 // The bonds with their marks.
 fn marked_bonds(alloc: Global, atoms: u32, plain: &[Edge]) -> Result<Vec<MolBond>, Memory>
-    requires { IsGraph atoms plain.now }
+    requires { IsSimple atoms plain.now }
     ensures edges { IfOk result (λ bonds. edges bonds.items ≡ plain.now) }
     ensures marks { IfOk result (λ bonds. (b : ℕ) (bond : MarkedBond) → slice_get bonds.items b ≡ Some bond → HasMarks plain.now b bond) }
 {

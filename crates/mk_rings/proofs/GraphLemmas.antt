@@ -11,11 +11,11 @@ use Rattle.std.proofs.Math.Seq.{map-set_same}
 use Rattle.mk_model.specs.declared.edge.Edge.{Edge}
 use Rattle.mk_model.specs.declared.graph.GraphAtom.{GraphAtom}
 use Rattle.mk_model.specs.declared.graph.GraphBond.{GraphBond}
-use Rattle.mk_model.specs.Edges.{IsGraph}
+use Rattle.mk_model.specs.Edges.{IsSimple}
 use Rattle.mk_model.specs.Rings.{IsRingBond}
 use Rattle.mk_model.specs.Aromatic.{IsAromatic}
 use Rattle.mk_model.specs.Tests.{IsBondInRange}
-use Rattle.mk_model.specs.Graphs.{Drawing, HasDrawnMarks, IsBefore, IsDrawing, IsSketch, drawn_edge, drawn_edges}
+use Rattle.mk_model.specs.Graphs.{GraphView, HasGraphMarks, IsBefore, IsGraph, IsUnmarked, graph_edge, graph_edges}
 use Rattle.mk_model.proofs.PlaceLemmas.{all_mapped, place_is, place_within}
 use Rattle.mk_rings.specs.Bare.{bare_bond, bare_bonds}
 use Rattle.mk_rings.specs.Marks.{Marks}
@@ -68,12 +68,12 @@ same_at old new k d same below =
     ∙ get_or-map bare_bond old k d (bare_bond d) (let long = same_length old new same in omega arith)
 
 -- the edges
-edges_bare : (bonds : List GraphBond) → drawn_edges (bare_bonds bonds) ≡ drawn_edges bonds
+edges_bare : (bonds : List GraphBond) → graph_edges (bare_bonds bonds) ≡ graph_edges bonds
 edges_bare [] = refl
-edges_bare (bond ∷ bonds) = ap (λ (edges : List Edge). drawn_edge bond ∷ edges) (edges_bare bonds)
+edges_bare (bond ∷ bonds) = ap (λ (edges : List Edge). graph_edge bond ∷ edges) (edges_bare bonds)
 
-pub same_edges : (old new : List GraphBond) → bare_bonds new ≡ bare_bonds old → drawn_edges new ≡ drawn_edges old
-same_edges old new same = sym (edges_bare new) ∙ ap drawn_edges same ∙ edges_bare old
+pub same_edges : (old new : List GraphBond) → bare_bonds new ≡ bare_bonds old → graph_edges new ≡ graph_edges old
+same_edges old new same = sym (edges_bare new) ∙ ap graph_edges same ∙ edges_bare old
 
 -- the order
 before_bare : (b c b' c' : GraphBond) → bare_bond b' ≡ bare_bond b → bare_bond c' ≡ bare_bond c → IsBefore b c → IsBefore b' c'
@@ -88,12 +88,12 @@ before_bare b c b' c' first second before =
     ]
 
 -- a sketch is one whatever its marks are
-pub marked_sketch : (atoms : List GraphAtom) (old new : List GraphBond) → bare_bonds new ≡ bare_bonds old → IsSketch (record { atoms = atoms; bonds = old }) → IsSketch (record { atoms = atoms; bonds = new })
+pub marked_sketch : (atoms : List GraphAtom) (old new : List GraphBond) → bare_bonds new ≡ bare_bonds old → IsUnmarked (record { atoms = atoms; bonds = old }) → IsUnmarked (record { atoms = atoms; bonds = new })
 marked_sketch atoms old new same is = record {
   few = is.few;
   tests = is.tests;
   bond_tests = all_bare IsBondInRange old new (λ bond r. record { kind = r.kind; topology = r.topology }) (λ bond r. record { kind = r.kind; topology = r.topology }) same is.bond_tests;
-  graph = subst (IsGraph (length atoms)) (sym (same_edges old new same)) is.graph;
+  graph = subst (IsSimple (length atoms)) (sym (same_edges old new same)) is.graph;
   lower_first = all_bare (λ bond. bond.first < bond.second) old new (λ bond h. h) (λ bond h. h) same is.lower_first;
   order = λ i j d below within.
       let long = same_length old new same in
@@ -107,19 +107,19 @@ mark_is : (b : ℕ) (mark : Bool) (marks : List Bool) (P : ℕ → Type 0) → m
 mark_is b mark marks P is exact = (λ true. exact.0 (sym is ∙ true), λ holds. is ∙ exact.1 holds)
 
 -- the marks are those of the bonds
-pub marked_drawing : (atoms : List GraphAtom) (old new : List GraphBond) (rings aromatics : List Bool) → bare_bonds new ≡ bare_bonds old → IsSketch (record { atoms = atoms; bonds = old })
-    → Marks (IsRingBond (drawn_edges old)) (drawn_edges old) rings → Marks (IsAromatic (drawn_edges old)) (drawn_edges old) aromatics
+pub marked_drawing : (atoms : List GraphAtom) (old new : List GraphBond) (rings aromatics : List Bool) → bare_bonds new ≡ bare_bonds old → IsUnmarked (record { atoms = atoms; bonds = old })
+    → Marks (IsRingBond (graph_edges old)) (graph_edges old) rings → Marks (IsAromatic (graph_edges old)) (graph_edges old) aromatics
     → ((b : ℕ) (d : GraphBond) → b < length new → (get_or new b d).ring ≡ get_or rings b false) → ((b : ℕ) (d : GraphBond) → b < length new → (get_or new b d).aromatic ≡ get_or aromatics b false)
-    → IsDrawing (record { atoms = atoms; bonds = new })
+    → IsGraph (record { atoms = atoms; bonds = new })
 marked_drawing atoms old new rings aromatics same is by_ring by_aromatic ring aromatic = record {
   sketch = marked_sketch atoms old new same is;
   marks = λ b bond at.
       let below : b < length new = place_within new b bond at in
       let there : get_or new b bond ≡ bond = place_is new b bond bond at in
-      let edges : drawn_edges old ≡ drawn_edges new = sym (same_edges old new same) in
-      let inside : b < length (drawn_edges old) = (let long = same_length old new same in omega (arith, length-map old drawn_edge)) in
-      subst (λ (es : List Edge). HasDrawnMarks es b bond) edges (record {
-        ring = mark_is b bond.ring rings (IsRingBond (drawn_edges old)) (sym (ap (λ (x : GraphBond). x.ring) there) ∙ ring b bond below) (by_ring.each b inside);
-        aromatic = mark_is b bond.aromatic aromatics (IsAromatic (drawn_edges old)) (sym (ap (λ (x : GraphBond). x.aromatic) there) ∙ aromatic b bond below) (by_aromatic.each b inside);
+      let edges : graph_edges old ≡ graph_edges new = sym (same_edges old new same) in
+      let inside : b < length (graph_edges old) = (let long = same_length old new same in omega (arith, length-map old graph_edge)) in
+      subst (λ (es : List Edge). HasGraphMarks es b bond) edges (record {
+        ring = mark_is b bond.ring rings (IsRingBond (graph_edges old)) (sym (ap (λ (x : GraphBond). x.ring) there) ∙ ring b bond below) (by_ring.each b inside);
+        aromatic = mark_is b bond.aromatic aromatics (IsAromatic (graph_edges old)) (sym (ap (λ (x : GraphBond). x.aromatic) there) ∙ aromatic b bond below) (by_aromatic.each b inside);
       });
 }

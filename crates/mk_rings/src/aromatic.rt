@@ -1,6 +1,6 @@
 // The aromatic set, by rounds until a whole round adds nothing.
 ghost use Rattle.std.specs.Prelude.{◌≡◌, ◌≤◌, ◌<◌, ◌↔◌, ◌⊎◌, ℕ, Bool, false, IfOk, IsTrue, MatchBool, length};
-ghost use Rattle.mk_model.specs.Edges.{AreBetween, HasKind, IsGraph, rows_of};
+ghost use Rattle.mk_model.specs.Edges.{AreBetween, HasKind, IsSimple, rows_of};
 ghost use Rattle.mk_model.specs.Aromatic.{IsAromatic};
 ghost use Rattle.mk_rings.specs.Marks.{IsMarked, Marks};
 ghost use Rattle.mk_rings.specs.SixRings.{AllBelow, ClosesRing, set_of, StayWithin, unmarked};
@@ -12,7 +12,7 @@ use std::alloc::Global;
 
 /// Marks the bonds of the aromatic set.
 pub fn aromatic_bonds(alloc: Global, atoms: u32, bonds: &[Edge]) -> Result<Vec<bool>, Memory>
-    requires { IsGraph atoms bonds.now }
+    requires { IsSimple atoms bonds.now }
     ensures { IfOk result (λ marks. Marks (IsAromatic bonds.now) bonds.now marks.items) }
 {
     let near = Neighbours::of(alloc, atoms, bonds)?;

@@ -1,12 +1,12 @@
 // Whether drawn bonds are what the calls ask for.
 ghost use Rattle.std.specs.Prelude.{◌≡◌, ℕ, IsTrue};
-ghost use Rattle.mk_model.specs.Edges.{AreBetween, HasEnds, IsGraph, Joins};
+ghost use Rattle.mk_model.specs.Edges.{AreBetween, HasEnds, IsSimple, Joins};
 
 use mk_model::Edge;
 
 /// The bonds are between the atoms, and no two join one pair.
 pub fn is_graph(atoms: u32, bonds: &[Edge]) -> bool
-    ensures { IsTrue result → IsGraph atoms bonds.now }
+    ensures { IsTrue result → IsSimple atoms bonds.now }
 {
     are_between(atoms, bonds) && are_apart(bonds)
 }

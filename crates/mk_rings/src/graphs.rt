@@ -1,12 +1,12 @@
 // Graphs of queries with the marks of their bonds.
 ghost use Rattle.std.specs.Prelude.{◌≡◌, ◌<◌, ℕ, false, IfOk, length, slice_index_or};
 ghost use Rattle.mk_model.specs.declared.graph.GraphBond.{GraphBond as Drawn};
-ghost use Rattle.mk_model.specs.Graphs.{IsSketch};
+ghost use Rattle.mk_model.specs.Graphs.{IsUnmarked};
 ghost use Rattle.mk_rings.specs.Bare.{bare_bonds};
 
 use crate::aromatic::aromatic_bonds;
 use crate::marking::ring_bonds;
-use mk_model::{Graph, GraphAtom, GraphBond, Memory, graph_edges};
+use mk_model::{Graph, GraphAtom, GraphBond, Memory, edges_of_graph};
 use std::alloc::Global;
 
 /// Keeps atoms and bonds as a graph, with the marks of its own bonds in place of those that are given.
@@ -15,12 +15,12 @@ pub fn marked_graph(
     atoms: Vec<GraphAtom>,
     bonds: Vec<GraphBond>,
 ) -> Result<Graph, Memory>
-    requires { IsSketch (record { atoms = atoms.items; bonds = bonds.items }) }
+    requires { IsUnmarked (record { atoms = atoms.items; bonds = bonds.items }) }
     ensures atoms { IfOk result (λ graph. graph.atoms ≡ atoms.items) }
     ensures bonds { IfOk result (λ graph. bare_bonds graph.bonds ≡ bare_bonds bonds.items) }
 {
     let count = atoms.len() as u32;
-    let edges = graph_edges(alloc, &bonds)?;
+    let edges = edges_of_graph(alloc, &bonds)?;
     let rings = ring_bonds(alloc, count, &edges)?;
     let aromatics = aromatic_bonds(alloc, count, &edges)?;
     let mut marked = bonds;

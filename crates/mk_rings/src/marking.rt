@@ -1,6 +1,6 @@
 // Marks of ring bonds by a spanning forest.
 ghost use Rattle.std.specs.Prelude.{◌≡◌, ◌≢◌, ◌≤◌, ◌<◌, ◌-◌, ◌↔◌, ◌⊎◌, ℕ, IfOk, IsTrue, length};
-ghost use Rattle.mk_model.specs.Edges.{AreBetween, IsGraph, Joins};
+ghost use Rattle.mk_model.specs.Edges.{AreBetween, IsSimple, Joins};
 ghost use Rattle.mk_model.specs.Rings.{IsRingBond};
 ghost use Rattle.mk_rings.specs.Forests.{HangsBy, IsForest, node};
 ghost use Rattle.mk_rings.specs.Marks.{IsMarked, Marks, MarksWay};
@@ -12,7 +12,7 @@ use std::alloc::Global;
 
 /// Marks the ring bonds.
 pub fn ring_bonds(alloc: Global, atoms: u32, bonds: &[Edge]) -> Result<Vec<bool>, Memory>
-    requires { IsGraph atoms bonds.now }
+    requires { IsSimple atoms bonds.now }
     ensures { IfOk result (λ marks. Marks (IsRingBond bonds.now) bonds.now marks.items) }
 {
     let near = Neighbours::of(alloc, atoms, bonds)?;

@@ -17,7 +17,7 @@ use Rattle.mk_ctab.proofs.PlainLemmas.{given}
 use Rattle.mk_model.specs.declared.edge.Edge.{Edge}
 use Rattle.mk_model.specs.declared.graph.GraphAtom.{GraphAtom}
 use Rattle.mk_model.specs.declared.graph.GraphBond.{GraphBond}
-use Rattle.mk_model.specs.Graphs.{Drawing, HasDrawnMarks, IsBefore, IsDrawing, drawn_edges}
+use Rattle.mk_model.specs.Graphs.{GraphView, HasGraphMarks, IsBefore, IsGraph, graph_edges}
 use Rattle.mk_model.specs.Hits.{AreHits, IsHit}
 use Rattle.mk_model.specs.Molecules.{Molecule as Mol}
 use Rattle.mk_model.proofs.PlaceLemmas.{at_place}
@@ -137,7 +137,7 @@ drawn_alike bond b c p q less less' =
     by_ends (inr h) (inr g) = (h.0 ∙ sym g.0, h.1 ∙ sym g.1)
 
 -- each bond of one graph of the query is, without its marks, one of each other graph of it
-bare_are_in : (table : PlainTable) (a b : Drawing) → IsGraphOf table a → IsGraphOf table b → AreIn (bare_bonds a.bonds) (bare_bonds b.bonds)
+bare_are_in : (table : PlainTable) (a b : GraphView) → IsGraphOf table a → IsGraphOf table b → AreIn (bare_bonds a.bonds) (bare_bonds b.bonds)
 bare_are_in table a b p q c is =
     let k = is.0 in
     let below : k < length a.bonds = omega (arith, length-map a.bonds bare_bond, is.1) in
@@ -168,25 +168,25 @@ same_bond b c same ring aromatic =
     ∙ ap (λ (x : Bool). record c { aromatic = x }) aromatic
 
 -- the marks are those of the definitions, so the bonds are one list
-one_bonds : (a b : Drawing) → IsDrawing a → IsDrawing b → bare_bonds a.bonds ≡ bare_bonds b.bonds → a.bonds ≡ b.bonds
+one_bonds : (a b : GraphView) → IsGraph a → IsGraph b → bare_bonds a.bonds ≡ bare_bonds b.bonds → a.bonds ≡ b.bonds
 one_bonds a b p q same =
     let size : length a.bonds ≡ length b.bonds = same_length b.bonds a.bonds same in
-    let edges : drawn_edges b.bonds ≡ drawn_edges a.bonds = sym (same_edges b.bonds a.bonds same) in
+    let edges : graph_edges b.bonds ≡ graph_edges a.bonds = sym (same_edges b.bonds a.bonds same) in
     same_lists a.bonds b.bonds size
     (λ k d below.
     let within : k < length b.bonds = omega arith in
     let m = p.marks k (get_or a.bonds k d) (at_place a.bonds k d below) in
-    let n : HasDrawnMarks (drawn_edges a.bonds) k (get_or b.bonds k d) = subst (λ (es : List Edge). HasDrawnMarks es k (get_or b.bonds k d)) edges (q.marks k (get_or b.bonds k d) (at_place b.bonds k d within)) in
+    let n : HasGraphMarks (graph_edges a.bonds) k (get_or b.bonds k d) = subst (λ (es : List Edge). HasGraphMarks es k (get_or b.bonds k d)) edges (q.marks k (get_or b.bonds k d) (at_place b.bonds k d within)) in
     same_bond (get_or a.bonds k d) (get_or b.bonds k d) (same_at b.bonds a.bonds k d same below) (same_test _ _ _ m.ring n.ring) (same_test _ _ _ m.aromatic n.aromatic))
 
 -- ---- the graph
 
 -- atoms and bonds make a graph
-same_drawing : (a b : Drawing) → a.atoms ≡ b.atoms → a.bonds ≡ b.bonds → a ≡ b
+same_drawing : (a b : GraphView) → a.atoms ≡ b.atoms → a.bonds ≡ b.bonds → a ≡ b
 same_drawing a b atoms bonds = ap (λ (x : List GraphAtom). record { atoms = x; bonds = a.bonds }) atoms ∙ ap (λ (x : List GraphBond). record { atoms = b.atoms; bonds = x }) bonds
 
 -- a plain query is at most one graph
-pub one_graph : (table : PlainTable) (a b : Drawing) → IsGraphOf table a → IsGraphOf table b → a ≡ b
+pub one_graph : (table : PlainTable) (a b : GraphView) → IsGraphOf table a → IsGraphOf table b → a ≡ b
 one_graph table a b p q =
     let bare : bare_bonds a.bonds ≡ bare_bonds b.bonds =
     one_order (bare_bonds a.bonds) (bare_bonds b.bonds) (order_bare a.bonds p.drawing.sketch.order) (order_bare b.bonds q.drawing.sketch.order) (bare_are_in table a b p q) (bare_are_in table b a q p) in
@@ -327,7 +327,7 @@ done hits = record { bytes = hits_text (take 10000 hits) 10000; status = status.
 
 -- the hits of the query in the molecule are listed
 record IsListing (wanted : PlainTable) (mol : Mol) (outcome : Outcome) : Type 0 where
-  graph : Drawing
+  graph : GraphView
   of_query : IsGraphOf wanted graph
   hits : List (List ℕ)
   are_hits : AreHits graph mol hits
@@ -342,7 +342,7 @@ IsEndOfSearch wanted (Refused line) outcome = outcome ≡ refused line
 one_end_of_search : (wanted : PlainTable) (held : Held) (a b : Outcome) → IsEndOfSearch wanted held a → IsEndOfSearch wanted held b → a ≡ b
 one_end_of_search wanted (Molecule mol) a b p q =
     let same : q.graph ≡ p.graph = one_graph wanted q.graph p.graph q.of_query p.of_query in
-    let hits : p.hits ≡ q.hits = one_of_all (IsHit p.graph mol) p.hits q.hits p.are_hits (subst (λ (graph : Drawing). AreHits graph mol q.hits) same q.are_hits) in
+    let hits : p.hits ≡ q.hits = one_of_all (IsHit p.graph mol) p.hits q.hits p.are_hits (subst (λ (graph : GraphView). AreHits graph mol q.hits) same q.are_hits) in
     p.ends ∙ ap done hits ∙ sym q.ends
 one_end_of_search wanted (Refused line) a b p q = p ∙ sym q
 

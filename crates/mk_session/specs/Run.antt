@@ -10,7 +10,7 @@ use Rattle.mk_ctab.specs.declared.plain_table.PlainTable.{PlainTable}
 use Rattle.mk_ctab.specs.declared.raw.RawTable.{RawTable}
 use Rattle.mk_ctab.specs.PlainFile.{IsPlainFile}
 use Rattle.mk_model.specs.Molecules.{IsMolecule, Molecule}
-use Rattle.mk_model.specs.Graphs.{Drawing}
+use Rattle.mk_model.specs.Graphs.{GraphView}
 use Rattle.mk_model.specs.Hits.{AreHits}
 use Rattle.mk_mol.specs.Filled.{IsFilled}
 use Rattle.mk_mol.specs.FirstFault.{IsFirstFault, PassesAll}
@@ -96,7 +96,7 @@ refused line = record { bytes = line; status = status.Refused }
 -- the run once the query is read: the molecules' file is refused, or the hits are listed
 pub data IsSearch (wanted : PlainTable) (look : List ℕ → Option (List ℕ)) (name : List ℕ) (outcome : Outcome) : Type 0 where
   Refuses : (line : List ℕ) → IsRefused look name line → outcome ≡ refused line → IsSearch wanted look name outcome
-  Lists : (graph : Drawing) → IsGraphOf wanted graph → (mol : Molecule) → IsHeld look name mol → (hits : List (List ℕ)) → AreHits graph mol hits
+  Lists : (graph : GraphView) → IsGraphOf wanted graph → (mol : Molecule) → IsHeld look name mol → (hits : List (List ℕ)) → AreHits graph mol hits
       → outcome ≡ record { bytes = hits_text (take 10000 hits) 10000; status = status.Done } → IsSearch wanted look name outcome
 
 -- One case for each way in which a run goes. The molecules' file plays no part where the query is refused.

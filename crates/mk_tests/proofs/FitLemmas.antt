@@ -10,7 +10,7 @@ use Rattle.mk_model.specs.declared.graph.GraphBond.{GraphBond}
 use Rattle.mk_model.specs.declared.molecule.Atom.{Atom}
 use Rattle.mk_model.specs.declared.molecule.MolBond.{MolBond}
 use Rattle.mk_model.specs.Fitting.{FitsAtom, LiesOn, drawn_hydrogens, drawn_others, drawn_rings, hydrogens_at, is_unsaturated_at, others_at, rings_at}
-use Rattle.mk_model.specs.Graphs.{Drawing}
+use Rattle.mk_model.specs.Graphs.{GraphView}
 use Rattle.mk_model.specs.Molecules.{IsBondOf, Molecule}
 use Rattle.mk_model.specs.Tests.{accepts, charge_fits, hydrogens_fit, meets, radical_fits, ring_bonds_fit, substitution_fits, unsaturation_fits}
 
@@ -21,7 +21,7 @@ abbrev pub alone : GraphAtom → Atom → Bool
 alone asked atom = accepts asked.test.kind atom.element && (charge_fits asked.test.charge atom.charge && radical_fits asked.test.radical atom.radical)
 
 -- the tests that look at its bonds
-abbrev pub around : Drawing → Molecule → ℕ → ℕ → GraphAtom → Bool
+abbrev pub around : GraphView → Molecule → ℕ → ℕ → GraphAtom → Bool
 around graph mol x m asked =
     hydrogens_fit asked.test.hydrogens (drawn_hydrogens graph x) asked.free (hydrogens_at mol m)
     && (ring_bonds_fit asked.test.ring_bonds (drawn_rings graph x) (rings_at mol m)
@@ -29,7 +29,7 @@ around graph mol x m asked =
     && unsaturation_fits asked.test.unsaturated (is_unsaturated_at mol m)))
 
 -- tests that are all met make the atom fit
-pub fits_by : (graph : Drawing) (mol : Molecule) (x m : ℕ) (asked : GraphAtom) (atom : Atom) → slice_get graph.atoms (x - 1) ≡ Some asked → slice_get mol.atoms (m - 1) ≡ Some atom → alone asked atom ≡ true → around graph mol x m asked ≡ true → FitsAtom graph mol x m
+pub fits_by : (graph : GraphView) (mol : Molecule) (x m : ℕ) (asked : GraphAtom) (atom : Atom) → slice_get graph.atoms (x - 1) ≡ Some asked → slice_get mol.atoms (m - 1) ≡ Some atom → alone asked atom ≡ true → around graph mol x m asked ≡ true → FitsAtom graph mol x m
 fits_by graph mol x m asked atom asked_at atom_at by_itself by_bonds =
     let kind = and_parts _ _ by_itself in
     let charge = and_parts _ _ kind.1 in
@@ -51,7 +51,7 @@ fits_by graph mol x m asked atom asked_at atom_at by_itself by_bonds =
     }
 
 -- an atom that fits meets the tests that look at its bonds
-pub meets_around : (graph : Drawing) (mol : Molecule) (x m : ℕ) (asked : GraphAtom) → slice_get graph.atoms (x - 1) ≡ Some asked → FitsAtom graph mol x m → around graph mol x m asked ≡ true
+pub meets_around : (graph : GraphView) (mol : Molecule) (x m : ℕ) (asked : GraphAtom) → slice_get graph.atoms (x - 1) ≡ Some asked → FitsAtom graph mol x m → around graph mol x m asked ≡ true
 meets_around graph mol x m asked asked_at fits =
     let same : fits.asked ≡ asked = cc (fits.asked_at, asked_at) in
     let P : GraphAtom → Type 0 = λ a. around graph mol x m a ≡ true in

@@ -2,7 +2,7 @@
 ghost use Rattle.std.specs.Prelude.{◌≡◌, ◌≤◌, All, count_by, length};
 ghost use Rattle.mk_model.specs.Edges.{AreBetween};
 ghost use Rattle.mk_model.specs.Fitting.{drawn_hydrogens, drawn_others, drawn_rings, is_drawn_hydrogen, other_end};
-ghost use Rattle.mk_model.specs.Graphs.{drawn_edge, drawn_edges};
+ghost use Rattle.mk_model.specs.Graphs.{graph_edge, graph_edges};
 ghost use Rattle.mk_tests.specs.Numbered.{passes_at};
 
 use crate::ends::leads_to_drawn_hydrogen;
@@ -38,9 +38,9 @@ pub fn count_drawn_rings(graph: &Graph, x: u32) -> usize
 
 // How many of the numbered bonds lead from atom x to a drawn hydrogen.
 fn drawn_hydrogens_among(atoms: &[GraphAtom], bonds: &[GraphBond], numbers: &[u32], x: u32) -> usize
-    requires ends { AreBetween (length atoms.now) (drawn_edges bonds.now) }
+    requires ends { AreBetween (length atoms.now) (graph_edges bonds.now) }
     requires numbers { All (λ number. (1 ≤ number) × (number ≤ length bonds.now)) numbers.now }
-    ensures { result ≡ count_by (λ number. passes_at (λ bond. is_drawn_hydrogen atoms.now (other_end x (drawn_edge bond))) bonds.now number) numbers.now }
+    ensures { result ≡ count_by (λ number. passes_at (λ bond. is_drawn_hydrogen atoms.now (other_end x (graph_edge bond))) bonds.now number) numbers.now }
 {
     let mut count = 0;
     for number in numbers {

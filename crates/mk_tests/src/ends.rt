@@ -2,7 +2,7 @@
 ghost use Rattle.std.specs.Prelude.{◌≡◌, ◌≤◌, length};
 ghost use Rattle.mk_model.specs.Edges.{AreBetween};
 ghost use Rattle.mk_model.specs.Fitting.{is_drawn_hydrogen, is_hydrogen, other_end};
-ghost use Rattle.mk_model.specs.Graphs.{drawn_edge, drawn_edges};
+ghost use Rattle.mk_model.specs.Graphs.{graph_edge, graph_edges};
 ghost use Rattle.mk_model.specs.Molecules.{edge_of, edges};
 ghost use Rattle.mk_tests.specs.Numbered.{passes_at};
 
@@ -28,10 +28,10 @@ pub fn leads_to_drawn_hydrogen(
     x: u32,
     number: u32,
 ) -> bool
-    requires ends { AreBetween (length atoms.now) (drawn_edges bonds.now) }
+    requires ends { AreBetween (length atoms.now) (graph_edges bonds.now) }
     requires least { 1 ≤ number }
     requires most { number ≤ length bonds.now }
-    ensures { result ≡ passes_at (λ bond. is_drawn_hydrogen atoms.now (other_end x (drawn_edge bond))) bonds.now number }
+    ensures { result ≡ passes_at (λ bond. is_drawn_hydrogen atoms.now (other_end x (graph_edge bond))) bonds.now number }
 {
     let bond = drawn_bond_numbered(bonds, number);
     is_drawn_hydrogen_atom(atoms, drawn_end_beside(bond, x))
@@ -50,7 +50,7 @@ fn end_beside(bond: MolBond, m: u32) -> u32
 
 // The end of the drawn bond that isn't atom x.
 fn drawn_end_beside(bond: GraphBond, x: u32) -> u32
-    ensures { result ≡ other_end x (drawn_edge bond) }
+    ensures { result ≡ other_end x (graph_edge bond) }
 {
     if bond.first == x {
         bond.second

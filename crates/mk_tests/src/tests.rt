@@ -1,40 +1,40 @@
 // Small queries on small molecules: what is asked of the first atom, and of a bond.
 use crate::{atom_fits, bond_fits};
-use mk_drawn::{graph_of, mol_of};
+use mk_fixtures::{graph_of, mol_of};
 use mk_model::{Atom, AtomTest, Edge, Elements, Graph, GraphAtom, GraphBond, Kind, Memory, Mol};
 use std::alloc::Global;
 use std::test::Fail;
 
 // Elements, with 0 for any in a query, and bonds.
-type Drawing = (&'static [u8], &'static [(u32, u32, u8)]);
+type GraphView = (&'static [u8], &'static [(u32, u32, u8)]);
 
-const C: Drawing = (&[6], &[]);
+const C: GraphView = (&[6], &[]);
 
-const CH: Drawing = (&[6, 1], &[(1, 2, 1)]);
+const CH: GraphView = (&[6, 1], &[(1, 2, 1)]);
 
-const CH2: Drawing = (&[6, 1, 1], &[(1, 2, 1), (1, 3, 1)]);
+const CH2: GraphView = (&[6, 1, 1], &[(1, 2, 1), (1, 3, 1)]);
 
-const CH3: Drawing = (&[6, 1, 1, 1], &[(1, 2, 1), (1, 3, 1), (1, 4, 1)]);
+const CH3: GraphView = (&[6, 1, 1, 1], &[(1, 2, 1), (1, 3, 1), (1, 4, 1)]);
 
-const CH4: Drawing = (
+const CH4: GraphView = (
     &[6, 1, 1, 1, 1],
     &[(1, 2, 1), (1, 3, 1), (1, 4, 1), (1, 5, 1)],
 );
 // a carbon with carbons, and one hydrogen on the second of them
-const CC: Drawing = (&[6, 6, 1], &[(1, 2, 1), (2, 3, 1)]);
+const CC: GraphView = (&[6, 6, 1], &[(1, 2, 1), (2, 3, 1)]);
 
-const CC2: Drawing = (&[6, 6, 6], &[(1, 2, 1), (1, 3, 1)]);
+const CC2: GraphView = (&[6, 6, 6], &[(1, 2, 1), (1, 3, 1)]);
 
-const CC3: Drawing = (&[6, 6, 6, 6], &[(1, 2, 1), (1, 3, 1), (1, 4, 1)]);
+const CC3: GraphView = (&[6, 6, 6, 6], &[(1, 2, 1), (1, 3, 1), (1, 4, 1)]);
 
-const CHC: Drawing = (&[6, 1, 6], &[(1, 2, 1), (1, 3, 1)]);
+const CHC: GraphView = (&[6, 1, 6], &[(1, 2, 1), (1, 3, 1)]);
 
-const SF5: Drawing = (
+const SF5: GraphView = (
     &[16, 9, 9, 9, 9, 9],
     &[(1, 2, 1), (1, 3, 1), (1, 4, 1), (1, 5, 1), (1, 6, 1)],
 );
 
-const SF6: Drawing = (
+const SF6: GraphView = (
     &[16, 9, 9, 9, 9, 9, 9],
     &[
         (1, 2, 1),
@@ -46,7 +46,7 @@ const SF6: Drawing = (
     ],
 );
 
-const SF7: Drawing = (
+const SF7: GraphView = (
     &[16, 9, 9, 9, 9, 9, 9, 9],
     &[
         (1, 2, 1),
@@ -59,16 +59,16 @@ const SF7: Drawing = (
     ],
 );
 // a carbon in no ring, in a triangle with a tail, in two squares, in two triangles, and with five ring bonds
-const TAIL: Drawing = (&[6, 6, 6, 6], &[(1, 2, 1), (2, 3, 1), (2, 4, 1), (3, 4, 1)]);
+const TAIL: GraphView = (&[6, 6, 6, 6], &[(1, 2, 1), (2, 3, 1), (2, 4, 1), (3, 4, 1)]);
 
-const TRIANGLE: Drawing = (&[6, 6, 6, 6], &[(1, 2, 1), (1, 3, 1), (1, 4, 1), (2, 3, 1)]);
+const TRIANGLE: GraphView = (&[6, 6, 6, 6], &[(1, 2, 1), (1, 3, 1), (1, 4, 1), (2, 3, 1)]);
 
-const SQUARES: Drawing = (
+const SQUARES: GraphView = (
     &[6, 6, 6, 6],
     &[(1, 2, 1), (1, 3, 1), (1, 4, 1), (2, 3, 1), (3, 4, 1)],
 );
 
-const SPIRO: Drawing = (
+const SPIRO: GraphView = (
     &[6, 6, 6, 6, 6],
     &[
         (1, 2, 1),
@@ -80,7 +80,7 @@ const SPIRO: Drawing = (
     ],
 );
 
-const WHEEL: Drawing = (
+const WHEEL: GraphView = (
     &[6, 6, 6, 6, 6, 6],
     &[
         (1, 2, 1),
@@ -95,13 +95,13 @@ const WHEEL: Drawing = (
     ],
 );
 
-const DOUBLE: Drawing = (&[6, 6], &[(1, 2, 2)]);
+const DOUBLE: GraphView = (&[6, 6], &[(1, 2, 2)]);
 
-const TRIPLE: Drawing = (&[6, 6], &[(1, 2, 3)]);
+const TRIPLE: GraphView = (&[6, 6], &[(1, 2, 3)]);
 
-const FOUR: Drawing = (&[6, 6], &[(1, 2, 4)]);
+const FOUR: GraphView = (&[6, 6], &[(1, 2, 4)]);
 
-const BENZENE: Drawing = (
+const BENZENE: GraphView = (
     &[6, 6, 6, 6, 6, 6],
     &[
         (1, 2, 1),
@@ -113,7 +113,7 @@ const BENZENE: Drawing = (
     ],
 );
 // two carbons beside a double bond, which is none of theirs
-const ALLYL: Drawing = (&[6, 6, 6], &[(1, 2, 1), (2, 3, 2)]);
+const ALLYL: GraphView = (&[6, 6, 6], &[(1, 2, 1), (2, 3, 2)]);
 
 #[derive(Clone, Copy)]
 enum Column {
@@ -124,7 +124,7 @@ enum Column {
 }
 
 // The column of the first atom, its value, the free ends, the query, the molecule, and whether the first atom fits.
-static COLUMNS: [(Column, i8, u32, Drawing, Drawing, bool); 81] = [
+static COLUMNS: [(Column, i8, u32, GraphView, GraphView, bool); 81] = [
     (Column::Hydrogens, 0, 0, C, CH3, true),
     (Column::Hydrogens, 0, 0, CH, C, true),
     (Column::Hydrogens, 1, 0, C, C, true),
@@ -296,7 +296,7 @@ fn kinds(rt: HostRuntime) -> Result<(), Fail> {
 }
 
 // Benzene with a tail: a single, a double, a triple bond, and one of type 4.
-const TAILED: Drawing = (
+const TAILED: GraphView = (
     &[6, 6, 6, 6, 6, 6, 6, 6, 6, 6],
     &[
         (1, 2, 1),
@@ -391,7 +391,7 @@ fn first_fits(graph: &Graph, mol: &Mol) -> Result<bool, Fail> {
 }
 
 // The query of a drawing, with its first atom as given.
-fn query_of(alloc: Global, first: GraphAtom, drawing: Drawing) -> Result<Graph, Fail> {
+fn query_of(alloc: Global, first: GraphAtom, drawing: GraphView) -> Result<Graph, Fail> {
     let mut atoms = vec![in alloc; first]?;
     for z in drawing.0.iter().skip(1) {
         atoms.push(drawn_atom(*z))?;
@@ -403,7 +403,7 @@ fn query_of(alloc: Global, first: GraphAtom, drawing: Drawing) -> Result<Graph, 
     graph_of(alloc, atoms, bonds)
 }
 
-fn molecule_of(alloc: Global, drawing: Drawing) -> Result<Mol, Fail> {
+fn molecule_of(alloc: Global, drawing: GraphView) -> Result<Mol, Fail> {
     let mut atoms = Vec::new(alloc);
     for z in drawing.0 {
         atoms.push(Atom {

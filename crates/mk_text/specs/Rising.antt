@@ -3,7 +3,8 @@
 --     Rises lists                        each list is below all that follow it
 --     Holds lists xs                     xs is one of the lists
 --     IsRisingListOfAll P lists          the rising list of all lists of numbers that have P
-use Rattle.std.specs.Prelude.{◌≡◌, ℕ, ◌<◌, ◌⊎◌, List, [], ◌∷◌, ◌++◌, take, drop}
+--     IsLeastFrom front P found          the least list that has P and isn't below the front, or none
+use Rattle.std.specs.Prelude.{◌≡◌, ℕ, ◌<◌, ◌⊎◌, List, [], ◌∷◌, ◌++◌, Option, Some, None, take, drop}
 use Rattle.std.specs.List.{AllByRecursion}
 
 -- number by number, a proper prefix before what it begins
@@ -31,6 +32,19 @@ pub record IsRisingListOfAll (P : List ℕ → Type 0) (lists : List (List ℕ))
   pub rises : Rises lists
   pub each : (xs : List ℕ) → Holds lists xs → P xs
   pub all : (xs : List ℕ) → P xs → Holds lists xs
+
+-- ---- the least from a front on
+
+-- the list has P and isn't below the front, and nothing that has both is below it
+pub record IsLeast (front : List ℕ) (P : List ℕ → Type 0) (found : List ℕ) : Type 0 where
+  pub has : P found
+  pub from : IsBelow found front → ⊥
+  pub least : (other : List ℕ) → P other → (IsBelow other front → ⊥) → IsBelow other found → ⊥
+
+-- the least list that has P and isn't below the front; none exactly where there is none
+abbrev pub IsLeastFrom : List ℕ → (List ℕ → Type 0) → Option (List ℕ) → Type 0
+IsLeastFrom front P None = (other : List ℕ) → P other → (IsBelow other front → ⊥) → ⊥
+IsLeastFrom front P (Some found) = IsLeast front P found
 
 -- ---- laws
 

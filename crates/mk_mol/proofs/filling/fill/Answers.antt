@@ -1,6 +1,6 @@
 use Rattle.std.proofs.Common.{◌≡◌, ◌∙◌, ◌+◌, ◌++◌, ◌≤◌, ◌<◌, ◌^◌, ap, sym, length, replicate, arith}
 use Rattle.std.proofs.lemmas.List.{length-map}
-use Rattle.mk_model.specs.Edges.{IsGraph}
+use Rattle.mk_model.specs.Edges.{IsSimple}
 use Rattle.mk_mol.specs.Checks.{edge_of}
 use Rattle.mk_mol.specs.Filled.{AreGains, hydrogen, hydrogen_bonds, owners}
 use Rattle.mk_mol.proofs.FilledLemmas.{filled_graph, molecule, is_filled}
@@ -17,7 +17,7 @@ marked_bonds-requires c =
     let gains = c.in_ok-gains.gains.items in
     let are : AreGains c.args.table.now atoms gains = rw c.deref.ensures.value at c.in_ok-gains.ensures in
     let size : length gains ≡ length atoms = are.size ∙ sym c.in_ok-atoms.ensures.written.size in
-    let graph : IsGraph (length atoms) c.args.drawn.edges.items = rw c.in_ok-atoms.ensures.written.size c.requires.drawn.graph in
+    let graph : IsSimple (length atoms) c.args.drawn.edges.items = rw c.in_ok-atoms.ensures.written.size c.requires.drawn.graph in
     let filled : c.add_hydrogens.new.atoms.items ≡ atoms ++ replicate (length (owners 1 gains)) hydrogen = rw c.deref-2.ensures.value at c.in_ok-add_hydrogens.ensures.atoms in
     let bonded : c.add_hydrogens.new.edges.items ≡ c.args.drawn.edges.items ++ hydrogen_bonds (length atoms + 1) (owners 1 gains) = rw c.deref-2.ensures.value at c.in_ok-add_hydrogens.ensures.edges in
     let many : c.len.result ≡ length c.add_hydrogens.new.atoms.items = omega (arith, c.len.ensures, c.add_hydrogens.new.atoms.ok.0) in
@@ -30,7 +30,7 @@ of-requires c =
     let gains = c.in_ok-gains.gains.items in
     let are : AreGains c.args.table.now atoms gains = rw c.deref.ensures.value at c.in_ok-gains.ensures in
     let size : length gains ≡ length atoms = are.size ∙ sym c.in_ok-atoms.ensures.written.size in
-    let graph : IsGraph (length atoms) c.args.drawn.edges.items = rw c.in_ok-atoms.ensures.written.size c.requires.drawn.graph in
+    let graph : IsSimple (length atoms) c.args.drawn.edges.items = rw c.in_ok-atoms.ensures.written.size c.requires.drawn.graph in
     let filled : c.add_hydrogens.new.atoms.items ≡ atoms ++ replicate (length (owners 1 gains)) hydrogen = rw c.deref-2.ensures.value at c.in_ok-add_hydrogens.ensures.atoms in
     let bonded : c.add_hydrogens.new.edges.items ≡ c.args.drawn.edges.items ++ hydrogen_bonds (length atoms + 1) (owners 1 gains) = rw c.deref-2.ensures.value at c.in_ok-add_hydrogens.ensures.edges in
     let few : length c.args.drawn.edges.items ≤ 999 = omega (arith, ap length c.requires.drawn.edges, length-map c.args.table.now.bonds edge_of, c.requires.few_bonds) in
@@ -44,7 +44,7 @@ returns c =
     let gains = c.in_ok-gains.gains.items in
     let are : AreGains c.args.table.now atoms gains = rw c.deref.ensures.value at c.in_ok-gains.ensures in
     let size : length gains ≡ length atoms = are.size ∙ sym c.in_ok-atoms.ensures.written.size in
-    let graph : IsGraph (length atoms) c.args.drawn.edges.items = rw c.in_ok-atoms.ensures.written.size c.requires.drawn.graph in
+    let graph : IsSimple (length atoms) c.args.drawn.edges.items = rw c.in_ok-atoms.ensures.written.size c.requires.drawn.graph in
     let filled : c.add_hydrogens.new.atoms.items ≡ atoms ++ replicate (length (owners 1 gains)) hydrogen = rw c.deref-2.ensures.value at c.in_ok-add_hydrogens.ensures.atoms in
     let bonded : c.add_hydrogens.new.edges.items ≡ c.args.drawn.edges.items ++ hydrogen_bonds (length atoms + 1) (owners 1 gains) = rw c.deref-2.ensures.value at c.in_ok-add_hydrogens.ensures.edges in
     is_filled c.args.table.now c.of.result atoms c.add_hydrogens.new.atoms.items c.args.drawn.edges.items c.add_hydrogens.new.edges.items gains c.len-written.result c.in_ok-bonds.bonds.items

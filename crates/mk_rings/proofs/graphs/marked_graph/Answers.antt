@@ -1,7 +1,7 @@
 use Rattle.std.proofs.Common.{◌≡◌, ◌∙◌, ℕ, false, List, ap, get_or, subst}
 use Rattle.mk_model.specs.declared.edge.Edge.{Edge}
 use Rattle.mk_model.specs.Aromatic.{IsAromatic}
-use Rattle.mk_model.specs.Graphs.{drawn_edges}
+use Rattle.mk_model.specs.Graphs.{graph_edges}
 use Rattle.mk_model.specs.Rings.{IsRingBond}
 use Rattle.mk_rings.specs.Marks.{Marks}
 use Rattle.mk_rings.proofs.GraphLemmas.{marked_drawing}
@@ -10,7 +10,7 @@ use Rattle.mk_rings.proofs.graphs.marked_graph.Goals as goal
 pub of-requires : goal.of-requires
 of-requires c =
     let bonds = c.args.bonds.items in
-    let edges : c.in_ok-edges.edges.items ≡ drawn_edges bonds = c.in_ok-edges.ensures ∙ ap drawn_edges c.deref.ensures.value in
+    let edges : c.in_ok-edges.edges.items ≡ graph_edges bonds = c.in_ok-edges.ensures ∙ ap graph_edges c.deref.ensures.value in
     marked_drawing c.args.atoms.items bonds c.put_marks.new.bonds.items c.in_ok-rings.rings.items c.in_ok-aromatics.aromatics.items c.put_marks.ensures.same c.requires
     (subst (λ (es : List Edge). Marks (IsRingBond es) es c.in_ok-rings.rings.items) (c.deref-2.ensures.value ∙ edges) c.in_ok-rings.ensures)
     (subst (λ (es : List Edge). Marks (IsAromatic es) es c.in_ok-aromatics.aromatics.items) (c.deref-3.ensures.value ∙ edges) c.in_ok-aromatics.ensures)

@@ -1,5 +1,6 @@
 use Rattle.std.proofs.Common.{◌≡◌, ◌++◌, ◌∷◌, [], None, ◌+◌, length, length-append, arith}
-use Rattle.mk_model.specs.Hits.{IsHit, IsLeast, IsLeastFrom}
+use Rattle.mk_model.specs.Hits.{IsHit}
+use Rattle.mk_text.specs.Rising.{IsLeast, IsLeastFrom}
 use Rattle.mk_match.specs.Plain.{hits_of}
 use Rattle.mk_match.proofs.PlainLemmas.{law}
 use Rattle.mk_session.proofs.ListingLemmas.{listed_all, listed_first, listed_more, listed_none, listed_whole}

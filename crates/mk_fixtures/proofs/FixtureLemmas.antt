@@ -13,23 +13,23 @@ use Rattle.mk_model.specs.declared.graph.GraphBond.{GraphBond}
 use Rattle.mk_model.specs.declared.molecule.Atom.{Atom}
 use Rattle.mk_model.specs.declared.molecule.MolBond.{MolBond}
 use Rattle.mk_model.specs.Aromatic.{IsAromatic}
-use Rattle.mk_model.specs.Edges.{HasEnds, IsGraph, Joins}
-use Rattle.mk_model.specs.Graphs.{drawn_edge, drawn_edges, IsSketch}
+use Rattle.mk_model.specs.Edges.{HasEnds, IsSimple, Joins}
+use Rattle.mk_model.specs.Graphs.{graph_edge, graph_edges, IsUnmarked}
 use Rattle.mk_model.specs.Molecules.{edge_of, edges, IsElement, IsMolecule}
 use Rattle.mk_model.specs.Rings.{IsRingBond}
 use Rattle.mk_model.specs.Tests.{IsBondInRange, IsTestInRange}
 use Rattle.mk_model.proofs.PlaceLemmas.{all_mapped}
 use Rattle.mk_rings.specs.Marks.{Marks}
-use Rattle.mk_drawn.specs.Drawn.{AreInOrder, AreMarked, IsDrawn, StandsBefore}
+use Rattle.mk_fixtures.specs.Fixtures.{AreInOrder, AreMarked, IsEdgeOf, IsEdgeBefore}
 
 -- ---- bonds in order
 
 -- bonds that join one pair with their lower ends first don't stand one before the other
-not-before : (atoms : ℕ) (e f : Edge) (x y : ℕ) → IsDrawn atoms e → IsDrawn atoms f → HasEnds e x y → HasEnds f x y → StandsBefore e f → ⊥
+not-before : (atoms : ℕ) (e f : Edge) (x y : ℕ) → IsEdgeOf atoms e → IsEdgeOf atoms f → HasEnds e x y → HasEnds f x y → IsEdgeBefore e f → ⊥
 not-before atoms e f x y e_drawn f_drawn e_ends f_ends before = omega (arith, e_drawn, f_drawn, e_ends, f_ends, before)
 
 -- bonds in order are a graph
-pub graph-in_order : (atoms : ℕ) (bonds : List Edge) → AreInOrder atoms bonds → IsGraph atoms bonds
+pub graph-in_order : (atoms : ℕ) (bonds : List Edge) → AreInOrder atoms bonds → IsSimple atoms bonds
 graph-in_order atoms bonds are = record {
   ends = λ k d below. let drawn = are.ends k d below in record { first = omega (arith, drawn); second = omega (arith, drawn); differ = λ same. omega (arith, drawn, same) };
   once = λ b c x y j k. one b c x y j k;
@@ -41,15 +41,15 @@ graph-in_order atoms bonds are = record {
     within : (b x y : ℕ) → Joins bonds b x y → b < length bonds
     within b x y j = slice_get_within bonds b j.edge j.at
 
-    drawn : (b x y : ℕ) (j : Joins bonds b x y) → IsDrawn atoms j.edge
-    drawn b x y j = let P : Edge → Type 0 = λ e. IsDrawn atoms e in subst P (at b x y j) (are.ends b j.edge (within b x y j))
+    drawn : (b x y : ℕ) (j : Joins bonds b x y) → IsEdgeOf atoms j.edge
+    drawn b x y j = let P : Edge → Type 0 = λ e. IsEdgeOf atoms e in subst P (at b x y j) (are.ends b j.edge (within b x y j))
 
     apart : (b c x y : ℕ) → Joins bonds b x y → Joins bonds c x y → b < c → ⊥
     apart b c x y j k below =
-        let before : StandsBefore (get_or bonds b j.edge) (get_or bonds c j.edge) = are.order b c j.edge below (within c x y k) in
+        let before : IsEdgeBefore (get_or bonds b j.edge) (get_or bonds c j.edge) = are.order b c j.edge below (within c x y k) in
         let there : get_or bonds c j.edge ≡ k.edge = get_or_from_slice_get bonds c k.edge j.edge k.at in
-        let P : Edge → Type 0 = λ e. StandsBefore e (get_or bonds c j.edge) in
-        let Q : Edge → Type 0 = λ e. StandsBefore j.edge e in
+        let P : Edge → Type 0 = λ e. IsEdgeBefore e (get_or bonds c j.edge) in
+        let Q : Edge → Type 0 = λ e. IsEdgeBefore j.edge e in
         not-before atoms j.edge k.edge x y (drawn b x y j) (drawn c x y k) j.ends k.ends (subst Q there (subst P (at b x y j) before))
 
     one : (b c x y : ℕ) → Joins bonds b x y → Joins bonds c x y → b ≡ c
@@ -102,14 +102,14 @@ molecule-built count atoms drawn rings aromatics bonds is_count few few_bonds el
     }
 
 -- a sketch of atoms and bonds whose tests are in range
-pub sketch-built : (atoms : List GraphAtom) (bonds : List GraphBond) → length atoms ≤ 512 → All (λ atom. IsTestInRange atom.test) atoms → All IsBondInRange bonds → AreInOrder (length atoms) (drawn_edges bonds) → IsSketch (record { atoms = atoms; bonds = bonds })
+pub sketch-built : (atoms : List GraphAtom) (bonds : List GraphBond) → length atoms ≤ 512 → All (λ atom. IsTestInRange atom.test) atoms → All IsBondInRange bonds → AreInOrder (length atoms) (graph_edges bonds) → IsUnmarked (record { atoms = atoms; bonds = bonds })
 sketch-built atoms bonds few tests bond_tests order = record {
   few = few;
   tests = tests;
   bond_tests = bond_tests;
-  graph = graph-in_order (length atoms) (drawn_edges bonds) order;
-  lower_first = λ k d below. (all_mapped drawn_edge (IsDrawn (length atoms)) bonds order.ends k d below).1;
+  graph = graph-in_order (length atoms) (graph_edges bonds) order;
+  lower_first = λ k d below. (all_mapped graph_edge (IsEdgeOf (length atoms)) bonds order.ends k d below).1;
   order = λ i j d below last.
-      rw (get_or-map drawn_edge bonds i d (drawn_edge d) (omega arith), get_or-map drawn_edge bonds j d (drawn_edge d) last)
-      at (order.order i j (drawn_edge d) below (omega (arith, length-map bonds drawn_edge)));
+      rw (get_or-map graph_edge bonds i d (graph_edge d) (omega arith), get_or-map graph_edge bonds j d (graph_edge d) last)
+      at (order.order i j (graph_edge d) below (omega (arith, length-map bonds graph_edge)));
 }

@@ -1,7 +1,7 @@
 use Rattle.std.proofs.Common.{◌∙◌, ap, arith}
 use Rattle.mk_model.specs.Molecules.{Molecule, edges}
-use Rattle.mk_drawn.proofs.DrawnLemmas.{edges-marked, graph-in_order, molecule-built}
-use Rattle.mk_drawn.proofs.building.mol_of.Goals as goal
+use Rattle.mk_fixtures.proofs.FixtureLemmas.{edges-marked, graph-in_order, molecule-built}
+use Rattle.mk_fixtures.proofs.building.mol_of.Goals as goal
 
 pub ring_bonds-requires : goal.ring_bonds-requires
 ring_bonds-requires c = graph-in_order _ _ (c.are_in_order.ensures c.if-not-are_in_order.false)

@@ -3,10 +3,10 @@ ghost use Rattle.std.specs.Prelude.{◌≡◌, All, IfOk, IsTrue, length};
 ghost use Rattle.mk_model.specs.Molecules.{edges, IsElement};
 ghost use Rattle.mk_model.specs.Tests.{IsBondInRange, IsKindInRange, IsListOfElements, IsTestInRange};
 ghost use Rattle.mk_rings.specs.Bare.{bare_bonds};
-ghost use Rattle.mk_drawn.specs.Drawn.{AreInOrder, AreMarked, IsDrawn, StandsBefore};
+ghost use Rattle.mk_fixtures.specs.Fixtures.{AreInOrder, AreMarked, IsEdgeOf, IsEdgeBefore};
 
 use mk_model::{
-    Atom, AtomTest, Edge, Graph, GraphAtom, GraphBond, Kind, Memory, Mol, MolBond, graph_edges,
+    Atom, AtomTest, Edge, Graph, GraphAtom, GraphBond, Kind, Memory, Mol, MolBond, edges_of_graph,
 };
 use mk_rings::{aromatic_bonds, marked_graph, ring_bonds};
 use std::alloc::Global;
@@ -38,7 +38,7 @@ pub fn graph_of(alloc: Global, atoms: Vec<GraphAtom>, bonds: Vec<GraphBond>) -> 
     if atoms.len() > 512 || !have_tests(&atoms) {
         return Err(Fail::from("a graph's atoms"));
     }
-    let drawn = graph_edges(alloc, &bonds)?;
+    let drawn = edges_of_graph(alloc, &bonds)?;
     if !are_in_order(atoms.len() as u32, &drawn) || !have_bond_tests(&bonds) {
         return Err(Fail::from("a graph's bonds"));
     }
@@ -88,13 +88,13 @@ fn are_in_order(atoms: u32, edges: &[Edge]) -> bool
 }
 
 fn is_drawn(atoms: u32, edge: Edge) -> bool
-    ensures { IsTrue result → IsDrawn atoms edge }
+    ensures { IsTrue result → IsEdgeOf atoms edge }
 {
     1 <= edge.first && edge.first < edge.second && edge.second <= atoms
 }
 
 fn stands_before(edge: Edge, next: Edge) -> bool
-    ensures { IsTrue result → StandsBefore edge next }
+    ensures { IsTrue result → IsEdgeBefore edge next }
 {
     edge.first < next.first || edge.first == next.first && edge.second < next.second
 }

@@ -1,7 +1,7 @@
 use Rattle.std.proofs.Common.{◌<◌, ℕ, get_or}
 use Rattle.mk_model.specs.declared.graph.GraphBond.{GraphBond}
 use Rattle.mk_model.specs.Tests.{IsBondInRange}
-use Rattle.mk_drawn.proofs.building.have_bond_tests.Given as goal
+use Rattle.mk_fixtures.proofs.building.have_bond_tests.Given as goal
 
 abbrev pub invariant-loop-bond : goal.invariant-loop-bond
 invariant-loop-bond l = (k : ℕ) (d : GraphBond) → k < l.bond-index → IsBondInRange (get_or l.bonds k d)

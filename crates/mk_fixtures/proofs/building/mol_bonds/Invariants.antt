@@ -1,6 +1,6 @@
 use Rattle.std.proofs.Common.{◌≡◌, vec_len}
-use Rattle.mk_drawn.specs.Drawn.{AreMarked}
-use Rattle.mk_drawn.proofs.building.mol_bonds.Given as goal
+use Rattle.mk_fixtures.specs.Fixtures.{AreMarked}
+use Rattle.mk_fixtures.proofs.building.mol_bonds.Given as goal
 
 abbrev pub invariant-loop-b : goal.invariant-loop-b
 invariant-loop-b l = record {

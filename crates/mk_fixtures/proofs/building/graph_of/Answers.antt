@@ -1,11 +1,11 @@
 use Rattle.std.proofs.Common.{◌≡◌, ◌∙◌, ap, length, arith}
-use Rattle.mk_model.specs.Graphs.{drawn_edges}
-use Rattle.mk_drawn.proofs.DrawnLemmas.{sketch-built}
-use Rattle.mk_drawn.proofs.building.graph_of.Goals as goal
+use Rattle.mk_model.specs.Graphs.{graph_edges}
+use Rattle.mk_fixtures.proofs.FixtureLemmas.{sketch-built}
+use Rattle.mk_fixtures.proofs.building.graph_of.Goals as goal
 
 pub marked_graph-requires : goal.marked_graph-requires
 marked_graph-requires c =
-    let drawn : c.deref-3.result.now ≡ drawn_edges c.args.bonds.items = c.deref-3.ensures.value ∙ c.in_ok-drawn.ensures ∙ ap drawn_edges c.deref-2.ensures.value in
+    let drawn : c.deref-3.result.now ≡ graph_edges c.args.bonds.items = c.deref-3.ensures.value ∙ c.in_ok-drawn.ensures ∙ ap graph_edges c.deref-2.ensures.value in
     let size : c.len-2.result ≡ length c.args.atoms.items = omega arith in
     sketch-built c.args.atoms.items c.args.bonds.items
     (omega arith)
