@@ -4,3 +4,5 @@ pub mod FillLemmas
 pub mod ForCallers
 pub mod MoleculeLemmas
 pub mod PlaceLemmas
+pub mod GraphsLemmas
+pub mod BondOrderLemmas

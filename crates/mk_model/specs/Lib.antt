@@ -6,5 +6,6 @@ pub mod Aromatic
 pub mod Molecules
 pub mod Tests
 pub mod Graphs
+pub mod BondOrder
 pub mod Fitting
 pub mod Hits

@@ -8,10 +8,11 @@
 //! How the marks are found is left to mk_rings, and how a table becomes a molecule to the crates above.
 #![tactic(auto)]
 
-mod asking;
+mod atom_test;
+mod bond_order;
 mod edge;
+mod edges;
 mod elements;
-mod finding;
 mod graph;
 mod molecule;
 mod neighbours;
@@ -19,10 +20,11 @@ mod steps;
 #[cfg(test)]
 mod tests;
 
-pub use asking::{AtomTest, Kind};
+pub use atom_test::{AtomTest, Kind};
+pub use bond_order::put_in_order;
 pub use edge::Edge;
+pub use edges::edges_of_graph;
 pub use elements::Elements;
-pub use finding::edges_of_graph;
 pub use graph::{Graph, GraphAtom, GraphBond};
 pub use mk_text::{Bytes, Memory, Numbers, Place, Text};
 pub use molecule::{Atom, Mol, MolBond};

@@ -2,7 +2,7 @@ use Rattle.std.proofs.Common.{◌<◌, ◌-◌, ℕ, get_or}
 use Rattle.mk_model.specs.declared.molecule.MolBond.{MolBond}
 use Rattle.mk_model.specs.Edges.{HasEnds}
 use Rattle.mk_model.specs.Molecules.{edge_of}
-use Rattle.mk_model.proofs.finding.find_bond.Given as goal
+use Rattle.mk_model.proofs.edges.find_bond.Given as goal
 
 abbrev pub invariant-loop-number : goal.invariant-loop-number
 invariant-loop-number l =

@@ -1,4 +1,4 @@
-// Edges of bonds, and the bond between two atoms among some.
+// Lists of edges, and the bond between two atoms among some.
 ghost use Rattle.std.specs.Prelude.{◌≡◌, ◌≤◌, ◌<◌, ◌-◌, ℕ, All, IfOk, MatchOption, length, slice_index, slice_index_or};
 ghost use Rattle.mk_model.specs.Edges.{HasEnds};
 ghost use Rattle.mk_model.specs.Graphs.{graph_edges};
@@ -12,28 +12,14 @@ use std::alloc::Global;
 pub fn edges_of(alloc: Global, bonds: &[MolBond]) -> Result<Vec<Edge>, Memory>
     ensures { IfOk result (λ list. list.items ≡ edges bonds.now) }
 {
-    bonds
-        .iter()
-        .map(|bond| Edge {
-            first: bond.first,
-            second: bond.second,
-            kind: bond.kind,
-        })
-        .collect(alloc)
+    bonds.iter().map(|bond| bond.edge()).collect(alloc)
 }
 
 /// The bonds of a graph without their tests and marks.
 pub fn edges_of_graph(alloc: Global, bonds: &[GraphBond]) -> Result<Vec<Edge>, Memory>
     ensures { IfOk result (λ list. list.items ≡ graph_edges bonds.now) }
 {
-    bonds
-        .iter()
-        .map(|bond| Edge {
-            first: bond.first,
-            second: bond.second,
-            kind: bond.kind,
-        })
-        .collect(alloc)
+    bonds.iter().map(|bond| bond.edge()).collect(alloc)
 }
 
 /// The first of the numbered bonds that joins a and b.
@@ -43,10 +29,7 @@ pub fn find_bond(bonds: &[MolBond], numbers: &[u32], a: u32, b: u32) -> Option<M
 {
     for number in numbers {
         let bond = bonds[*number as usize - 1];
-        if bond.first == a && bond.second == b {
-            return Some(bond);
-        }
-        if bond.first == b && bond.second == a {
+        if bond.edge().has_ends(a, b) {
             return Some(bond);
         }
     }
