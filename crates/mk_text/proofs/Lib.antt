@@ -6,3 +6,4 @@ pub mod FieldLemmas
 pub mod SpellingLemmas
 pub mod RisingLemmas
 pub mod ChoiceLemmas
+pub mod LineStartLemmas

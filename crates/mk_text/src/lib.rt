@@ -13,6 +13,7 @@ mod cutting;
 mod decimals;
 mod fields;
 mod laws;
+mod line_start;
 mod lists;
 #[cfg(test)]
 mod tests;
@@ -26,6 +27,7 @@ pub use laws::{
     choices_rise, field_is_exact, first_of_rising, one_rising_list, right_justified_is_read,
     rising_from_place, signed_right_justified_is_read,
 };
+pub use line_start::{LineStart, first_line, line_from};
 pub use lists::{Bytes, Listed, Numbers, Place};
 pub use std::alloc::AllocError as Memory;
 pub use texts::Text;
