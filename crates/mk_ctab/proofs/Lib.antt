@@ -4,6 +4,9 @@ pub mod SeenLemmas
 pub mod LineLemmas
 pub mod BlockLemmas
 pub mod TableLemmas
+pub mod FaultLemmas
+pub mod MolfileLemmas
+pub mod ForCallers
 pub mod TableLawLemmas
 pub mod TableFactLemmas
 pub mod ReaderLemmas

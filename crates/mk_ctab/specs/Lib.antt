@@ -9,3 +9,4 @@ pub mod TableFacts
 pub mod TableFaults
 pub mod TableLaws
 pub mod TableSpelling
+pub mod Molfile

@@ -39,7 +39,7 @@ mod writing_properties;
 mod writing_tests;
 
 pub use fault::TableFault;
-pub use laws::{plain_file_is_exact, table_is_exact};
+pub use laws::{blank_line_is_no_counts_line, plain_file_is_exact, table_is_exact};
 pub use mk_text::{Bytes, Listed, Memory};
 pub use plain_reading::{PlainFault, read_plain};
 pub use plain_table::{PlainBond, PlainBonds, PlainTable};

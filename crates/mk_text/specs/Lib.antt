@@ -1,5 +1,8 @@
+pub mod Options
+pub mod Items
 pub mod Spans
 pub mod Lines
+pub mod KeptLines
 pub mod Columns
 pub mod Fields
 pub mod Spelling
