@@ -6,3 +6,8 @@ pub mod MoleculeLemmas
 pub mod PlaceLemmas
 pub mod GraphsLemmas
 pub mod BondOrderLemmas
+pub mod OpenSlotsLemmas
+pub mod CodesLemmas
+pub mod CodeLengthLemmas
+pub mod SizesLemmas
+pub mod BlockLemmas
