@@ -5,7 +5,6 @@ pub mod BlockLemmas
 pub mod TableLemmas
 pub mod FaultLemmas
 pub mod MolfileLemmas
-pub mod ForCallers
 pub mod TableLawLemmas
 pub mod TableFactLemmas
 pub mod ReaderLemmas
@@ -22,3 +21,8 @@ pub mod PlainTextLemmas
 pub mod PlainLineLemmas
 pub mod TableSpellingLemmas
 pub mod GraphicLemmas
+pub mod EdgeLemmas
+pub mod BondLemmas
+pub mod ChargePuttingLemmas
+pub mod ChargeLemmas
+pub mod ForCallers

@@ -11,10 +11,10 @@ use Rattle.mk_model.specs.Edges.{IsBetween, IsSimple, HasEnds, Joins}
 use Rattle.mk_model.specs.Molecules.{Molecule, IsElement, IsMolecule, HasMarks, edge_of, edges}
 use Rattle.std.specs.declared.alloc.AllocError.{AllocError}
 use Rattle.mk_ctab.specs.declared.raw.RawTable.{RawTable}
-use Rattle.mk_mol.specs.Checks.{edges_of}
+use Rattle.mk_ctab.specs.Bonds.{edges_of}
 use Rattle.mk_mol.specs.Filled.{AreGains, AreWrittenAtoms, IsFilled, hydrogen, hydrogen_bonds, owners}
 use Rattle.mk_mol.specs.Putting.{IsSound}
-use Rattle.mk_mol.proofs.ItemLemmas.{get-at}
+use Rattle.std.proofs.lemmas.Option.{slice_get-get_or}
 use Rattle.mk_mol.proofs.PairLemmas.{graph}
 use Rattle.mk_mol.proofs.HydrogenLemmas.{length-hydrogen_bonds}
 
@@ -46,8 +46,8 @@ graph-more atoms bonds owner is least most =
         let at_b = get_or_append_left bonds (last ∷ []) d b earlier in
         let at_j = get_or_append_left bonds (last ∷ []) d j (omega arith) in
         let ends' : HasEnds (get_or bonds j d) (get_or bonds b d).first (get_or bonds b d).second = rw (at_b, at_j) at ends in
-        let joins_j : Joins bonds j (get_or bonds b d).first (get_or bonds b d).second = record { edge = get_or bonds j d; at = get-at bonds j d (omega arith); ends = ends' } in
-        let joins_b : Joins bonds b (get_or bonds b d).first (get_or bonds b d).second = record { edge = get_or bonds b d; at = get-at bonds b d earlier; ends = inl (refl, refl) } in
+        let joins_j : Joins bonds j (get_or bonds b d).first (get_or bonds b d).second = record { edge = get_or bonds j d; at = slice_get-get_or bonds j d (omega arith); ends = ends' } in
+        let joins_b : Joins bonds b (get_or bonds b d).first (get_or bonds b d).second = record { edge = get_or bonds b d; at = slice_get-get_or bonds b d earlier; ends = inl (refl, refl) } in
         absurd (omega (arith, is.once j b _ _ joins_j joins_b))
     by_place b j d before within ends (inr past) =
         let here : length bonds ≡ b = omega arith in

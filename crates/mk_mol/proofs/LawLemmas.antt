@@ -15,12 +15,15 @@ use Rattle.mk_model.specs.Molecules.{Molecule, HasMarks, edge_of, edges}
 use Rattle.mk_ctab.specs.declared.raw.RawAtom.{RawAtom}
 use Rattle.mk_ctab.specs.declared.raw.RawTable.{RawTable}
 use Rattle.mk_ctab.specs.TableFacts.{HoldsNoText}
-use Rattle.mk_mol.specs.Checks.{IsKnownAtom, IsOfMolecules, edges_of}
+use Rattle.mk_ctab.specs.Bonds.{edges_of}
+use Rattle.mk_mol.specs.Checks.{IsKnownAtom, IsOfMolecules}
 use Rattle.mk_mol.specs.Filled.{AreGains, AreWrittenAtoms, IsWrittenAtom, hydrogen, hydrogen_bonds, owners}
-use Rattle.mk_mol.specs.FirstFault.{Check, Demands, IsLeastFailing}
+use Rattle.mk_text.specs.Items.{IsLeastFailing}
+use Rattle.mk_mol.specs.FirstFault.{Check, Demands}
 use Rattle.mk_mol.specs.Laws.{OneFirstFault, NoFaultWhereAllPass, OneFilledMolecule, PassingTablesKeepTheirText}
 use Rattle.mk_mol.proofs.FaultLemmas.{number-once}
-use Rattle.mk_mol.proofs.ItemLemmas.{get_or-from_get, get-at, all_of}
+use Rattle.std.proofs.lemmas.Option.{get_or_from_slice_get, slice_get-get_or}
+use Rattle.mk_text.proofs.ForCallers.{all_of}
 
 -- ---- the first fault
 
@@ -68,20 +71,20 @@ one_atoms table xs ys p q =
     same_lists xs ys (p.size ∙ sym q.size)
     (λ k d below.
     let line : RawAtom = record { symbol = []; charge = pos 0; hydrogens = pos 0; valence = pos 0 } in
-    let line_at = get-at table.atoms k line (omega (arith, below, p.size)) in
+    let line_at = slice_get-get_or table.atoms k line (omega (arith, below, p.size)) in
     one_written table (k + 1) (get_or table.atoms k line) (get_or xs k d) (get_or ys k d)
-    (p.each k (get_or table.atoms k line) (get_or xs k d) line_at (get-at xs k d below))
-    (q.each k (get_or table.atoms k line) (get_or ys k d) line_at (get-at ys k d (omega (arith, below, p.size, q.size)))))
+    (p.each k (get_or table.atoms k line) (get_or xs k d) line_at (slice_get-get_or xs k d below))
+    (q.each k (get_or table.atoms k line) (get_or ys k d) line_at (slice_get-get_or ys k d (omega (arith, below, p.size, q.size)))))
 
 one_gains : (table : RawTable) (atoms : List Atom) (gs hs : List ℕ) → length atoms ≡ length table.atoms → AreGains table atoms gs → AreGains table atoms hs → gs ≡ hs
 one_gains table atoms gs hs size p q =
     same_lists gs hs (p.size ∙ sym q.size)
     (λ k d below.
     let line : RawAtom = record { symbol = []; charge = pos 0; hydrogens = pos 0; valence = pos 0 } in
-    let line_at = get-at table.atoms k line (omega (arith, below, p.size)) in
-    let atom_at = get-at atoms k hydrogen (omega (arith, below, p.size, size)) in
-    get_or-from_get gs k d _ (p.each k (get_or table.atoms k line) (get_or atoms k hydrogen) line_at atom_at)
-    ∙ sym (get_or-from_get hs k d _ (q.each k (get_or table.atoms k line) (get_or atoms k hydrogen) line_at atom_at)))
+    let line_at = slice_get-get_or table.atoms k line (omega (arith, below, p.size)) in
+    let atom_at = slice_get-get_or atoms k hydrogen (omega (arith, below, p.size, size)) in
+    get_or_from_slice_get gs k _ d (p.each k (get_or table.atoms k line) (get_or atoms k hydrogen) line_at atom_at)
+    ∙ sym (get_or_from_slice_get hs k _ d (q.each k (get_or table.atoms k line) (get_or atoms k hydrogen) line_at atom_at)))
 
 -- tests that are true for one reason are one
 same_test : (p q : Bool) (P : Type 0) → IsTrue p ↔ P → IsTrue q ↔ P → p ≡ q
@@ -102,8 +105,8 @@ one_bonds plain xs ys p q marks_a marks_b =
     let size : length xs ≡ length ys = sym (length-map xs edge_of) ∙ ap length (p ∙ sym q) ∙ length-map ys edge_of in
     same_lists xs ys size
     (λ k d below.
-    let m = marks_a k (get_or xs k d) (get-at xs k d below) in
-    let n = marks_b k (get_or ys k d) (get-at ys k d (omega (arith, below, size))) in
+    let m = marks_a k (get_or xs k d) (slice_get-get_or xs k d below) in
+    let n = marks_b k (get_or ys k d) (slice_get-get_or ys k d (omega (arith, below, size))) in
     let e : Edge = record { first = 0; second = 0; kind = 0 } in
     let same : edge_of (get_or xs k d) ≡ edge_of (get_or ys k d) =
     sym (get_or-map edge_of xs k d e below) ∙ ap (λ (es : List Edge). get_or es k e) (p ∙ sym q) ∙ get_or-map edge_of ys k d e (omega (arith, below, size)) in

@@ -1,11 +1,5 @@
-pub mod ItemLemmas
 pub mod NameLemmas
 pub mod FaultLemmas
-pub mod EdgeLemmas
-pub mod PairLemmas
-pub mod BondFaultLemmas
-pub mod PutLemmas
-pub mod LineAtomLemmas
 pub mod HydrogenLemmas
 pub mod GainLemmas
 pub mod MarkLemmas

@@ -8,7 +8,7 @@ use Rattle.mk_model.specs.Molecules.{edge_of, edges, HasMarks}
 use Rattle.mk_model.specs.Rings.{IsRingBond}
 use Rattle.mk_model.specs.Aromatic.{IsAromatic}
 use Rattle.mk_rings.specs.Marks.{Marks}
-use Rattle.mk_mol.proofs.ItemLemmas.{get-within, get_or-from_get}
+use Rattle.std.proofs.lemmas.Option.{slice_get_within, get_or_from_slice_get}
 
 -- the bonds are these edges, with the marks at their places
 pub record AreMarked (plain : List Edge) (ring aromatic : List Bool) (bonds : List MolBond) : Type 0 where
@@ -18,8 +18,8 @@ pub record AreMarked (plain : List Edge) (ring aromatic : List Bool) (bonds : Li
 -- where the marks are those of the definitions, so are those of the bonds
 pub have_marks : (plain : List Edge) (ring aromatic : List Bool) (bonds : List MolBond) → AreMarked plain ring aromatic bonds → Marks (IsRingBond plain) plain ring → Marks (IsAromatic plain) plain aromatic → (b : ℕ) (bond : MolBond) → slice_get bonds b ≡ Some bond → HasMarks plain b bond
 have_marks plain ring aromatic bonds are rings aromatics b bond at =
-    let is : get_or bonds b bond ≡ bond = get_or-from_get bonds b bond bond at in
-    let below : b < length bonds = get-within bonds b bond at in
+    let is : get_or bonds b bond ≡ bond = get_or_from_slice_get bonds b bond bond at in
+    let below : b < length bonds = slice_get_within bonds b bond at in
     let within : b < length plain = omega (arith, length-map bonds edge_of, ap length are.edges_are) in
     let each = are.each b bond below in
     let ring_is : get_or ring b false ≡ bond.ring = sym each.0 ∙ ap (λ (x : MolBond). x.ring) is in

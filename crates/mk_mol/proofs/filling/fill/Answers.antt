@@ -1,7 +1,7 @@
 use Rattle.std.proofs.Common.{◌≡◌, ◌∙◌, ◌+◌, ◌++◌, ◌≤◌, ◌<◌, ◌^◌, ap, sym, length, replicate, arith}
 use Rattle.std.proofs.lemmas.List.{length-map}
 use Rattle.mk_model.specs.Edges.{IsSimple}
-use Rattle.mk_mol.specs.Checks.{edge_of}
+use Rattle.mk_ctab.specs.Bonds.{edge_of}
 use Rattle.mk_mol.specs.Filled.{AreGains, hydrogen, hydrogen_bonds, owners}
 use Rattle.mk_mol.proofs.FilledLemmas.{filled_graph, molecule, is_filled}
 use Rattle.mk_mol.proofs.filling.fill.Goals as goal
