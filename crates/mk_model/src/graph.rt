@@ -45,7 +45,7 @@ impl Model for Graph {
 }
 
 impl Graph {
-    ghost use Rattle.mk_model.specs.Edges.{numbers_at};
+    ghost use Rattle.mk_model.specs.Edges.{numbers_at, rows_of};
     ghost use Rattle.mk_model.specs.Graphs.{GraphView, IsGraph, graph_edges};
 
     /// Takes the lists over and adds the neighbour lists.
@@ -55,11 +55,20 @@ impl Graph {
     {
         let edges = edges_of_graph(alloc, bonds.as_slice())?;
         let neighbours = Neighbours::of(alloc, atoms.len() as u32, edges.as_slice())?;
-        Ok(Graph {
+        Ok(Graph::over(atoms, bonds, neighbours))
+    }
+
+    /// Takes the lists over, with the neighbour lists that were made of them. It takes no memory.
+    pub fn over(atoms: Vec<GraphAtom>, bonds: Vec<GraphBond>, neighbours: Neighbours) -> Graph
+        requires graph { IsGraph (record { atoms = atoms.items; bonds = bonds.items }) }
+        requires rows { neighbours ≡ rows_of (length atoms.items) (graph_edges bonds.items) }
+        ensures { result ≡ record { atoms = atoms.items; bonds = bonds.items } }
+    {
+        Graph {
             atoms,
             bonds,
             neighbours,
-        })
+        }
     }
 
     pub fn atom_count(&self) -> u32

@@ -45,7 +45,7 @@ impl Model for Mol {
 }
 
 impl Mol {
-    ghost use Rattle.mk_model.specs.Edges.{numbers_at};
+    ghost use Rattle.mk_model.specs.Edges.{numbers_at, rows_of};
     ghost use Rattle.mk_model.specs.Molecules.{IsBondOf, IsElement, IsMolecule, Molecule, edges};
 
     /// Takes the lists over and adds the neighbour lists.
@@ -60,12 +60,21 @@ impl Mol {
     {
         let edges = edges_of(alloc, bonds.as_slice())?;
         let neighbours = Neighbours::of(alloc, atoms.len() as u32, edges.as_slice())?;
-        Ok(Mol {
+        Ok(Mol::over(written, atoms, bonds, neighbours))
+    }
+
+    /// Takes the lists over, with the neighbour lists that were made of them. It takes no memory.
+    pub fn over(written: u32, atoms: Vec<Atom>, bonds: Vec<MolBond>, neighbours: Neighbours) -> Mol
+        requires molecule { IsMolecule (record { written = written; atoms = atoms.items; bonds = bonds.items }) }
+        requires rows { neighbours ≡ rows_of (length atoms.items) (edges bonds.items) }
+        ensures { result ≡ record { written = written; atoms = atoms.items; bonds = bonds.items } }
+    {
+        Mol {
             atoms,
             bonds,
             neighbours,
             written,
-        })
+        }
     }
 
     pub fn atom_count(&self) -> u32
