@@ -5,11 +5,8 @@ use Rattle.std.proofs.lemmas.Bool.{cases_lt, cases_order}
 use Rattle.std.proofs.lemmas.List.{length-take-le, get_or_default, get_or-take, get_or-map, take_all}
 use Rattle.std.proofs.lemmas.List.Elements.{All-from_get_or}
 use Rattle.mk_model.specs.declared.edge.Edge.{Edge}
-use Rattle.mk_model.specs.Filling.{degree}
-use Rattle.mk_model.specs.Edges.{IsBetween, AreBetween, HasEnds, IsSimple, Joins, numbers_at, rows_of}
-use Rattle.mk_model.proofs.DegreeLemmas.{length-numbers_from, slice_get-rows_of}
-use Rattle.mk_model.proofs.MoleculeLemmas.{touches-ends}
-use Rattle.mk_model.proofs.ForCallers.{numbers_at-each, numbers_at-all}
+use Rattle.mk_model.specs.Edges.{degree, IsBetween, AreBetween, HasEnds, IsSimple, Joins, numbers_at, rows_of}
+use Rattle.mk_model.proofs.ForCallers.{length-numbers_from, slice_get-rows_of, touches-ends, numbers_at-each, numbers_at-all}
 use Rattle.mk_ctab.specs.declared.raw.RawBond.{RawBond}
 use Rattle.mk_ctab.specs.Numbers.{natural}
 use Rattle.mk_ctab.specs.Bonds.{HasTwoEnds, JoinSame, edge_of, edges_of, HasFewBonds, IsEdgeFront, IsNewBondAt}

@@ -8,8 +8,7 @@
 use Rattle.std.specs.Prelude.{◌≡◌, ◌≢◌, ◌≤◌, ◌<◌, ◌+◌, ◌-◌, ◌⊎◌, ℕ, List, All, length, map, take}
 use Rattle.mk_text.specs.Items.{OfItem}
 use Rattle.mk_model.specs.declared.edge.Edge.{Edge}
-use Rattle.mk_model.specs.Edges.{AreBetween}
-use Rattle.mk_model.specs.Filling.{degree}
+use Rattle.mk_model.specs.Edges.{AreBetween, degree}
 use Rattle.mk_ctab.specs.declared.raw.RawBond.{RawBond}
 use Rattle.mk_ctab.specs.Numbers.{IsAtom, natural, byte}
 
