@@ -17,3 +17,4 @@ pub mod BondSearch
 pub mod Values
 pub mod Charges
 pub mod ChargePutting
+pub mod KeptTables

@@ -20,6 +20,7 @@ mod bonds;
 mod charges;
 mod edges;
 mod fault;
+mod kept_tables;
 mod laws;
 mod numbers;
 mod plain_lines;
@@ -28,9 +29,9 @@ mod plain_table;
 mod raw;
 mod table_lines;
 mod table_reading;
-mod table_walk;
 #[cfg(test)]
 mod table_tests;
+mod table_walk;
 #[cfg(test)]
 mod tests;
 mod values;
@@ -48,6 +49,7 @@ pub use bonds::{first_crowded_atom, first_no_new_bond};
 pub use charges::{Electrons, charges_and_radicals};
 pub use edges::{edges_between, has_two_ends};
 pub use fault::TableFault;
+pub use kept_tables::kept_lines_are_the_table;
 pub use laws::{blank_line_is_no_counts_line, plain_file_is_exact, table_is_exact};
 pub use mk_text::{Bytes, Listed, Memory};
 pub use numbers::{byte, is_atom, is_within, natural};

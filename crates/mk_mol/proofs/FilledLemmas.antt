@@ -1,6 +1,6 @@
 -- The filled molecule is a molecule.
 use Rattle.std.proofs.Common.{◌≡◌, ◌≤◌, ◌<◌, ◌+◌, ◌^◌, ℕ, List, [], ◌∷◌, ◌++◌, Some, refl, ap, sym, ◌∙◌, length, get_or, replicate, arith, inl, inr, ⊎_elim}
-use Rattle.std.specs.Prelude.{◌⊎◌, All, slice_get, Result, Ok, Err, IfOk}
+use Rattle.std.specs.Prelude.{◌⊎◌, All, slice_get}
 use Rattle.std.proofs.lemmas.Bool.{cases_lt}
 use Rattle.std.proofs.lemmas.List.{append-nil, append_assoc, length-append, length-replicate, length-map, length_push, get_or_append_left, get_or_push}
 use Rattle.std.proofs.lemmas.List.Elements.{All-append, All-push, All-replicate, All-weaker, All-head, All-tail, All-nil}
@@ -9,13 +9,12 @@ use Rattle.mk_model.specs.declared.molecule.Atom.{Atom}
 use Rattle.mk_model.specs.declared.molecule.MolBond.{MolBond}
 use Rattle.mk_model.specs.Edges.{IsBetween, IsSimple, HasEnds, Joins}
 use Rattle.mk_model.specs.Molecules.{Molecule, IsElement, IsMolecule, HasMarks, edge_of, edges}
-use Rattle.std.specs.declared.alloc.AllocError.{AllocError}
 use Rattle.mk_ctab.specs.declared.raw.RawTable.{RawTable}
 use Rattle.mk_ctab.specs.Bonds.{edges_of}
 use Rattle.mk_mol.specs.Filled.{AreGains, AreWrittenAtoms, IsFilled, hydrogen, hydrogen_bonds, owners}
 use Rattle.mk_mol.specs.Putting.{IsSound}
 use Rattle.std.proofs.lemmas.Option.{slice_get-get_or}
-use Rattle.mk_mol.proofs.PairLemmas.{graph}
+use Rattle.mk_ctab.proofs.ForCallers.{graph}
 use Rattle.mk_mol.proofs.HydrogenLemmas.{length-hydrogen_bonds}
 
 -- ---- the graph with hydrogens
@@ -111,9 +110,8 @@ molecule atoms new old plain gains written bonds is size few_old few sound old_g
     }
 
 -- and they are the filled molecule of the table
-pub is_filled : (table : RawTable) (r : Result Molecule AllocError) (atoms new : List Atom) (old plain : List Edge) (gains : List ℕ) (written : ℕ) (bonds : List MolBond) → written ≡ length atoms → AreWrittenAtoms table atoms → AreGains table atoms gains → old ≡ edges_of table.bonds → new ≡ atoms ++ replicate (length (owners 1 gains)) hydrogen → plain ≡ old ++ hydrogen_bonds (length atoms + 1) (owners 1 gains) → edges bonds ≡ plain → IfOk r (λ mol. mol ≡ record { written = written; atoms = new; bonds = bonds }) → IfOk r (IsFilled table)
-is_filled table (Err e) atoms new old plain gains written bonds is are gained drawn filled bonded same made = tt
-is_filled table (Ok mol) atoms new old plain gains written bonds is are gained drawn filled bonded same made = record {
+pub is_filled : (table : RawTable) (mol : Molecule) (atoms new : List Atom) (old plain : List Edge) (gains : List ℕ) (written : ℕ) (bonds : List MolBond) → written ≡ length atoms → AreWrittenAtoms table atoms → AreGains table atoms gains → old ≡ edges_of table.bonds → new ≡ atoms ++ replicate (length (owners 1 gains)) hydrogen → plain ≡ old ++ hydrogen_bonds (length atoms + 1) (owners 1 gains) → edges bonds ≡ plain → mol ≡ record { written = written; atoms = new; bonds = bonds } → IsFilled table mol
+is_filled table mol atoms new old plain gains written bonds is are gained drawn filled bonded same made = record {
   atoms = atoms;
   gains = gains;
   written = ap (λ (m : Molecule). m.written) made ∙ is ∙ are.size;

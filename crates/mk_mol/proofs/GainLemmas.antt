@@ -7,7 +7,7 @@ use Rattle.std.proofs.lemmas.Int.{ints}
 use Rattle.std.proofs.lemmas.List.Elements.{All-map}
 use Rattle.mk_model.specs.declared.edge.Edge.{Edge}
 use Rattle.mk_model.specs.Edges.{numbers_at, rows_of}
-use Rattle.mk_model.proofs.DegreeLemmas.{length-numbers_from, length-rows_of}
+use Rattle.mk_model.proofs.ForCallers.{length-numbers_from, length-rows_of}
 use Rattle.mk_valence.specs.Hydrogens.{added_hydrogens}
 use Rattle.mk_model.specs.declared.molecule.Atom.{Atom}
 use Rattle.mk_ctab.specs.declared.raw.RawAtom.{RawAtom}
@@ -20,7 +20,7 @@ use Rattle.mk_mol.specs.FirstFault.{PassesAll, known_types, few_bonds}
 use Rattle.mk_mol.specs.Filled.{AreGains, gained_by, kinds_at}
 use Rattle.mk_mol.specs.Putting.{kinds_of}
 use Rattle.mk_mol.specs.Search.{IsDrawn}
-use Rattle.mk_mol.proofs.PairLemmas.{numbers_are}
+use Rattle.mk_ctab.proofs.ForCallers.{numbers_are}
 use Rattle.mk_mol.proofs.HydrogenLemmas.{kinds_are}
 use Rattle.std.proofs.lemmas.Option.{slice_get_within, get_or_from_slice_get, slice_get-get_or}
 use Rattle.mk_text.proofs.ForCallers.{all_of}
@@ -89,9 +89,7 @@ near_size table drawn is = ap length is.near ∙ length-rows_of (length table.at
 -- it is short
 pub few_numbers : (table : RawTable) (i : ℕ) (numbers : List ℕ) → PassesAll table → i < length table.atoms → numbers ≡ numbers_at (edges_of table.bonds) (i + 1) → length numbers ≤ 20
 few_numbers table i numbers passes below are =
-    let line : RawAtom = record { symbol = []; charge = pos 0; hydrogens = pos 0; valence = pos 0 } in
-    let place : i + 1 - 1 ≡ i = omega arith in
-    let few = passes few_bonds (i + 1) (get_or table.atoms i line) (omega arith) (rw place (slice_get-get_or table.atoms i line below)) in
+    let few = passes few_bonds (i + 1) (omega arith) (omega arith) in
     omega (arith, few, ap length are, length-numbers_from 1 (edges_of table.bonds) (i + 1))
 
 -- what an atom gains by the types of the numbered bonds

@@ -1,15 +1,11 @@
 -- What the code knows of the written atoms and their bonds. For the code alone.
 --     IsSound atom                           an element with a radical that there is
 --     kinds_of edges numbers                 the types of the numbered bonds
-use Rattle.std.specs.Prelude.{◌≡◌, ◌≤◌, ◌<◌, ◌+◌, ◌-◌, ℕ, pos, Bool, List, length, map, slice_index_or, if◌then◌else◌}
-use Rattle.mk_elements.specs.Symbols.{Names}
-use Rattle.mk_props.specs.declared.property.Pair.{Pair}
+use Rattle.std.specs.Prelude.{◌≤◌, ◌-◌, ℕ, List, map, slice_index_or}
 use Rattle.mk_model.specs.declared.edge.Edge.{Edge}
 use Rattle.mk_model.specs.declared.molecule.Atom.{Atom}
 use Rattle.mk_model.specs.Molecules.{IsElement}
-use Rattle.mk_ctab.specs.declared.raw.RawAtom.{RawAtom}
-use Rattle.mk_mol.specs.Numbers.{natural}
-use Rattle.mk_mol.specs.Filled.{charge_of_column, radical_of_column, last_or, values_for}
+
 
 -- an element with a radical that there is
 pub record IsSound (atom : Atom) : Type 0 where
