@@ -109,7 +109,7 @@ steps-limit : IsLimit steps sdfile_part
 steps-limit = limit_of_steps grows
 
 -- and are read exactly
-exact-sdfile_part : Exact is_v3000 NoLines sdfile_part
+pub exact-sdfile_part : Exact is_v3000 NoLines sdfile_part
 exact-sdfile_part = exact-limit exact-steps steps-limit
 
 -- reading one is reading blank lines, or a block and then an SDfile
