@@ -12,6 +12,8 @@
 mod raw_record;
 mod sdfile;
 mod sdfile_laws;
+#[cfg(test)]
+mod sdfile_tests;
 
 pub use mk_ctab::{RawTable, TableFault};
 pub use mk_text::{Bytes, Memory};
