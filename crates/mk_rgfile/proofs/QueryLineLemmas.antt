@@ -8,10 +8,8 @@ use Rattle.std.proofs.lemmas.List.{take_all}
 use Rattle.std.proofs.lemmas.Slice.Eq.{starts_is}
 use Rattle.mk_text.specs.Columns.{are_blank, standing}
 use Rattle.mk_text.specs.Fields.{IsField, signed_in, field_in, field_of}
-use Rattle.mk_text.proofs.FieldLemmas.{law}
-use Rattle.mk_text.proofs.TestLemmas.{both}
-use Rattle.mk_text.proofs.TrimLemmas.{trimmed-columns}
-use Rattle.mk_props.specs.Reading.{◌>>=◌, when, count_in}
+use Rattle.mk_text.specs.Options.{◌>>=◌, when, count_in}
+use Rattle.mk_text.proofs.ForCallers.{both, fields_are_read, trimmed-columns}
 use Rattle.mk_ctab.specs.TableLines.{Line}
 use Rattle.mk_rgfile.specs.QueryLines.{is_keyword, IsGroupNumber, group_number_of}
 
@@ -71,7 +69,7 @@ number_at : (line : Line) (n : ℕ) (o : Option ℤ) → field_in line ≡ o →
 number_at line n None e h = absurd cc
 number_at line n (Some z) e h =
     let c = count_found 32 n z h in
-    record { field = (law line (pos n)).0 (e ∙ ap Some c.0); from_one = c.1; to_32 = c.2 }
+    record { field = (fields_are_read line (pos n)).0 (e ∙ ap Some c.0); from_one = c.1; to_32 = c.2 }
 
 -- the number that is computed is that of the group
 pub number_found : (line : Line) (n : ℕ) → group_number_of line ≡ Some n → IsGroupNumber line n
@@ -81,4 +79,4 @@ number_found line n h = number_at line n (field_in line) refl h
 -- and the number of the group is computed
 pub number_given : (line : Line) (n : ℕ) → IsGroupNumber line n → group_number_of line ≡ Some n
 unfolding group_number_of
-number_given line n h = rw ((law line (pos n)).1 h.field, le-leb 1 n h.from_one, le-leb n 32 h.to_32) refl
+number_given line n h = rw ((fields_are_read line (pos n)).1 h.field, le-leb 1 n h.from_one, le-leb n 32 h.to_32) refl

@@ -13,11 +13,12 @@ use Rattle.mk_text.specs.declared.cutting.Span.{Span}
 use Rattle.mk_text.specs.Columns.{are_blank}
 use Rattle.mk_text.specs.Lines.{lines_of}
 use Rattle.mk_text.specs.Spans.{AreWithin, parts}
+use Rattle.mk_text.proofs.ForCallers.{parts_length}
 use Rattle.mk_ctab.specs.declared.fault.TableFault.{TableFault}
 use Rattle.mk_ctab.specs.declared.raw.RawTable.{RawTable}
 use Rattle.mk_ctab.specs.TableLines.{Line}
 use Rattle.mk_ctab.specs.TableReading.{Fails}
-use Rattle.mk_ctab.proofs.ForCallers.{fails_first, fails_second, until_fails, parts_length}
+use Rattle.mk_ctab.proofs.ForCallers.{fails_first, until_fails}
 use Rattle.mk_rgfile.specs.declared.raw_query.RawGroup.{RawGroup}
 use Rattle.mk_rgfile.specs.QueryLines.{is_keyword}
 use Rattle.mk_rgfile.specs.QueryReading.{keyword, block_at, table_block, further_part, members_with, behind_member, members_part, group_at, group_form, groups_to_end, groups_in, groups_part, AreLines}

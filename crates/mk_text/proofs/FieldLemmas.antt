@@ -8,11 +8,11 @@ use Rattle.std.specs.Str.Parse.{digits_value}
 use Rattle.std.proofs.lemmas.Bool.{le-leb, leb-true}
 use Rattle.std.proofs.lemmas.Bool.Decides.{nat_tests}
 use Rattle.std.proofs.lemmas.List.Folds.{list_all-append}
-use Rattle.std.proofs.lemmas.List.{get_or_append_left, get_or-append_right, length-append}
-use Rattle.mk_text.specs.Columns.{is_space, are_blank, trimmed}
-use Rattle.mk_text.specs.Fields.{Sign, NoSign, Plus, Minus, sign_text, signed, IsNumberField, IsField, digits_number, signed_in, field_in, FieldsAreRead}
+use Rattle.std.proofs.lemmas.List.{get_or-append_right, length-append}
+use Rattle.mk_text.specs.Columns.{columns, is_space, are_blank, trimmed}
+use Rattle.mk_text.specs.Fields.{Sign, NoSign, Plus, Minus, sign_text, signed, IsField, digits_number, signed_in, field_in, field_of, FieldsAreRead}
 use Rattle.mk_text.proofs.DigitLemmas.{digit_at}
-use Rattle.mk_text.proofs.TrimLemmas.{AreBetween, trimmed_is_between, trimmed_between, trimmed_blank}
+use Rattle.mk_text.proofs.TrimLemmas.{trimmed_is_between, trimmed_between, trimmed_blank}
 
 -- ---- what the computation finds
 
@@ -153,8 +153,8 @@ given cells z (inr h) =
     ap field_in h.whole ∙ number_given h.before h.after h.sign h.digits h.blank_before h.blank_after h.some_digits h.few_digits h.are_digits ∙ ap Some (sym h.value)
 
 -- field and computation agree
-pub law : FieldsAreRead
-law cells z = (found cells z, given cells z)
+pub fields_are_read : FieldsAreRead
+fields_are_read cells z = (found cells z, given cells z)
 
 -- ---- for the answers of a reader
 
@@ -165,3 +165,15 @@ some_is_field cells o z read some = found cells z (sym read ∙ some)
 -- where nothing is read, they hold none
 pub none_is_no_field : (cells : List ℕ) → None ≡ field_in cells → (z : ℤ) → IsField cells z → ⊥
 none_is_no_field cells none z is = let some = given cells z is in cc
+
+-- ---- for readers of lines
+
+-- a field that was read holds the number
+pub field_found : (line : List ℕ) (a b : ℕ) (n : ℤ) → field_of line a b ≡ Some n → IsField (columns line a b) n
+unfolding field_of
+field_found line a b n read = (fields_are_read (columns line a b) n).0 read
+
+-- and one that holds it is read
+pub field_given : (line : List ℕ) (a b : ℕ) (n : ℤ) → IsField (columns line a b) n → field_of line a b ≡ Some n
+unfolding field_of
+field_given line a b n is = (fields_are_read (columns line a b) n).1 is

@@ -1,11 +1,10 @@
 -- Blanks past the end of a line change nothing: the columns without their outer blanks are those that stand on the line
 -- without their outer blanks. And what stands between blanks is what is left without them.
-use Rattle.std.proofs.Common.{◌≡◌, ℕ, ◌+◌, ◌-◌, ◌<◌, ◌≤◌, true, false, zero, suc, Bool, List, ◌∷◌, [], ◌++◌, ◌&&◌, length, get_or, take, drop, replicate, sym, ap, ◌∙◌, arith, rules, refl}
-use Rattle.std.specs.Prelude.{slice_range}
+use Rattle.std.proofs.Common.{◌≡◌, ℕ, ◌+◌, ◌-◌, ◌<◌, ◌≤◌, true, false, zero, suc, Bool, List, ◌∷◌, [], ◌++◌, length, get_or, take, drop, replicate, sym, ap, ◌∙◌, arith, rules, refl}
 use Rattle.std.specs.List.{prefix_len, suffix_len, list_all}
 use Rattle.std.specs.Prelude.{reverse}
-use Rattle.std.proofs.lemmas.List.{take-append-le, take-append-drop, places, same_lists, append-nil, append_assoc, reverse-append, length_push, length-append, length-take, length-drop, get_or-take, get_or-drop, get_or_append_left, get_or-append_right, get_or-reverse, drop_at, take_at, take_all}
-use Rattle.std.proofs.lemmas.List.Sums.{prefix_len_is, suffix_len_is, prefix_len_passes, prefix_len_stops, prefix_len-le-length, suffix_len-le-length}
+use Rattle.std.proofs.lemmas.List.{take-append-le, take-append-drop, places, same_lists, append-nil, append_assoc, reverse-append, length_push, length-append, length-take, length-drop, get_or-take, get_or-drop, get_or_append_left, get_or-append_right, get_or-reverse, drop_at, take_at}
+use Rattle.std.proofs.lemmas.List.Sums.{prefix_len_is, suffix_len_is, prefix_len_passes, suffix_len-le-length}
 use Rattle.mk_text.proofs.TestLemmas.{both}
 use Rattle.mk_text.specs.Columns.{columns, standing, is_space, are_blank, without_first_blanks, without_last_blanks, trimmed}
 

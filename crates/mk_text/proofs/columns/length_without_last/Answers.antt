@@ -1,7 +1,7 @@
 use Rattle.std.proofs.Common.{arith, rules}
 use Rattle.std.proofs.lemmas.List.{take_all}
 use Rattle.std.proofs.lemmas.List.Sums.{suffix_len-take_yes}
-use Rattle.mk_text.proofs.columns.length_without_last_blanks.Goals as goal
+use Rattle.mk_text.proofs.columns.length_without_last.Goals as goal
 
 pub loop-size-init : goal.loop-size-init
 loop-size-init c = search (rules, take_all)

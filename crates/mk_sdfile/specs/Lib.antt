@@ -1,0 +1,2 @@
+pub mod Sdfile
+pub mod SdfileReading
