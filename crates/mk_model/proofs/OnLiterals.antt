@@ -1,5 +1,5 @@
 -- The definitions on small queries, computed. A query is given as its tables, as docs/TESTING.md writes them, and its groups.
-use Rattle.std.proofs.Common.{◌≡◌, ℕ, Bool, true, false, pos, List, [], ◌∷◌, replicate, refl, arith}
+use Rattle.std.proofs.Common.{◌≡◌, ℕ, true, false, pos, List, [], ◌∷◌, replicate, refl, arith}
 use Rattle.mk_model.specs.declared.atom_test.AtomTest.{AtomTest}
 use Rattle.mk_model.specs.declared.atom_test.Kind.TheVariants.{Element, Anything}
 use Rattle.mk_model.specs.declared.group.Group.{Group}
@@ -207,3 +207,19 @@ star_choice = (omega arith, omega arith, tt, (omega arith, omega arith, tt))
 star_rest : draws_rest_hydrogens star_query (Site 1 1 2 0) ≡ false
 unfolding star_query plain_group group
 star_rest = refl
+
+-- ---- a site with two neighbours: `[C R# O | 1-2 2-3]`, group 1 and `[N | ]` with both points on its one atom
+
+unfoldable pub bridge : TemplateView
+bridge = record { atoms = atom 6 ∷ site_atom ∷ atom 8 ∷ []; bonds = bond 1 2 ∷ bond 2 3 ∷ []; slots = Site 2 1 1 3 ∷ []; points = [] }
+
+unfoldable pub bridge_query : QueryView
+bridge_query = record {
+  templates = bridge ∷ record { atoms = atom 7 ∷ []; bonds = []; slots = []; points = 1 ∷ 1 ∷ [] } ∷ [];
+  groups = plain_group (1 ∷ []) ∷ replicate 31 (plain_group []);
+}
+
+-- 2 plain atoms; for the site 1, and 2 for its own neighbours, since its member is smaller
+bridge_size : size_by bridge_query (λ _. 1) bridge ≡ 5
+unfolding bridge bridge_query hang_together bond plain_group group range
+bridge_size = refl
