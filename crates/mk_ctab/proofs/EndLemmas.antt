@@ -6,7 +6,7 @@ use Rattle.std.proofs.lemmas.Bool.{eqb-true}
 use Rattle.std.proofs.lemmas.List.{length-append, append-nil, get_or_append_left, get_or_at, replicate-append-replicate}
 use Rattle.std.proofs.lemmas.List.Elements.{recursion_from_All}
 use Rattle.mk_text.specs.Columns.{is_space, trimmed}
-use Rattle.mk_text.proofs.TrimLemmas.{trimmed_padded, trimmed_between, trimmed_is_between}
+use Rattle.mk_text.proofs.ForCallers.{trimmed_padded, trimmed_between, trimmed_is_between}
 use Rattle.mk_props.specs.declared.property.AtomList.{AtomList}
 use Rattle.mk_props.specs.declared.property.LogicLine.{LogicLine}
 use Rattle.mk_props.specs.Lists.{flag_text}

@@ -1,7 +1,6 @@
 pub mod PlainLemmas
 pub mod PlainFactLemmas
 pub mod SeenLemmas
-pub mod LineLemmas
 pub mod BlockLemmas
 pub mod TableLemmas
 pub mod FaultLemmas

@@ -2,7 +2,7 @@
 use Rattle.std.proofs.Common.{ℕ, ◌≤◌, All, List, ◌++◌, length, refl, arith, lit≤}
 use Rattle.std.specs.Prelude.{ℤ, codes, decimal}
 use Rattle.std.specs.List.{flat_map}
-use Rattle.mk_text.proofs.SpellingLemmas.{decimal_digits}
+use Rattle.mk_text.proofs.ForCallers.{decimal_digits}
 use Rattle.mk_props.specs.Lists.{flag_text}
 use Rattle.mk_props.specs.declared.property.Pair.{Pair}
 use Rattle.mk_props.specs.declared.property.LinkEntry.{LinkEntry}

@@ -9,8 +9,7 @@ use Rattle.std.proofs.lemmas.List.{append-nil}
 use Rattle.std.proofs.lemmas.List.Folds.{list_all-append}
 use Rattle.mk_text.specs.Columns.{is_space, trimmed}
 use Rattle.mk_text.specs.Spelling.{signed_decimal}
-use Rattle.mk_text.proofs.SpellingLemmas.{decimal_digits}
-use Rattle.mk_text.proofs.TestLemmas.{both, and_true}
+use Rattle.mk_text.proofs.ForCallers.{decimal_digits, both, and_true}
 use Rattle.mk_props.specs.Lists.{flag_text}
 use Rattle.mk_ctab.specs.TableLines.{Line}
 use Rattle.mk_ctab.specs.TableSpelling.{three, count_text, at_left, FitsThree}

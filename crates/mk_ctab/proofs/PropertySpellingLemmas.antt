@@ -6,7 +6,7 @@ use Rattle.std.proofs.lemmas.List.{length-append, drop_at, drop_all}
 use Rattle.std.proofs.lemmas.List.Elements.{recursion_from_All}
 use Rattle.mk_text.specs.Columns.{columns, is_space, trimmed}
 use Rattle.mk_text.specs.Fields.{IsField, digits_number}
-use Rattle.mk_text.proofs.FieldLemmas.{law}
+use Rattle.mk_text.proofs.ForCallers.{fields_are_read}
 use Rattle.mk_props.specs.declared.property.AtomList.{AtomList}
 use Rattle.mk_props.specs.declared.property.LogicLine.{LogicLine}
 use Rattle.mk_props.specs.declared.property.Property.{Property}
@@ -127,7 +127,7 @@ record IsWideLogic (line : Line) (logic : LogicLine) : Type 0 where
 -- the number 1 in three columns
 one_is_field : IsField (codes "  1") (pos 1)
 unfolding digits_number
-one_is_field = (law (codes "  1") (pos 1)).0 refl
+one_is_field = (fields_are_read (codes "  1") (pos 1)).0 refl
 
 wide_logic_is_read : (logic : LogicLine) → LogicFits logic → IsWideLogic (wide_logic_line logic) logic
 wide_logic_is_read logic fits =

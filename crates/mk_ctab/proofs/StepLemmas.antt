@@ -20,18 +20,18 @@ unfolding table_at
 whole_left lines = refl
 
 -- the blocks of a table, from the line of index `at` on
-module _ (lines : List Line) (at : ℕ) (n : Counts) (counted : TakesLines lines (at + 1) n ((counts_line is_v3000 counts_of).read (drop at lines))) where
+module _ (lines : List Line) (at : ℕ) {first : ℕ} (n : Counts) (counted : TakesLines lines first n ((counts_line is_v3000 counts_of).read (drop at lines))) where
   abbrev from : List Line
   from = drop at lines
 
   -- behind the counts line
-  pub atoms_left : table_at from ≡ (after_counts n).read (drop (at + 1) lines)
-  atoms_left = block_read (counts_line is_v3000 counts_of) after_counts lines at (whole_left from) (at + 1) n counted
+  pub atoms_left : table_at from ≡ (after_counts n).read (drop first lines)
+  atoms_left = block_read (counts_line is_v3000 counts_of) after_counts lines at (whole_left from) first n counted
 
-  module _ (atoms : List RawAtom) (i : ℕ) (atoms_read : TakesLines lines i atoms ((rows n.atoms (line raw_atom_of)).read (drop (at + 1) lines))) where
+  module _ (atoms : List RawAtom) (i : ℕ) (atoms_read : TakesLines lines i atoms ((rows n.atoms (line raw_atom_of)).read (drop first lines))) where
     -- behind the atom lines
     pub bonds_left : table_at from ≡ (after_atoms n atoms).read (drop i lines)
-    bonds_left = block_read (rows n.atoms (line raw_atom_of)) (after_atoms n) lines (at + 1) atoms_left i atoms atoms_read
+    bonds_left = block_read (rows n.atoms (line raw_atom_of)) (after_atoms n) lines first atoms_left i atoms atoms_read
 
     module _ (bonds : List RawBond) (j : ℕ) (bonds_read : TakesLines lines j bonds ((rows n.bonds (line raw_bond_of)).read (drop i lines))) where
       -- behind the bond lines

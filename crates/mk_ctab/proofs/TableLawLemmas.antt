@@ -4,8 +4,7 @@ use Rattle.std.proofs.lemmas.List.{take-append-drop}
 use Rattle.std.proofs.lemmas.List.Folds.{list_all-append}
 use Rattle.mk_form.proofs.Stops.{one_part_from, bad_from_is_no_part, one_bad_line_from}
 use Rattle.mk_text.specs.Columns.{standing, is_space, are_blank}
-use Rattle.mk_text.proofs.TestLemmas.{both}
-use Rattle.mk_text.proofs.TrimLemmas.{trimmed-columns, trimmed_blank}
+use Rattle.mk_text.proofs.ForCallers.{both, trimmed-columns, trimmed_blank}
 use Rattle.mk_ctab.specs.TableLaws.{OneTable, BadWhereNoTable, OneBadLine, BlankIsNoCountsLine, table_form}
 use Rattle.mk_ctab.specs.TableLines.{Line, word_of, is_v3000, counts_of}
 use Rattle.mk_ctab.proofs.TableLemmas.{exact-table}

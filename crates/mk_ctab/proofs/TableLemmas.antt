@@ -12,7 +12,7 @@ use Rattle.mk_form.proofs.Seen.{exact-seen_as}
 use Rattle.mk_form.proofs.Sequence.{exact-sequence}
 use Rattle.mk_text.specs.Columns.{columns}
 use Rattle.mk_text.specs.Fields.{field_of, digits_number}
-use Rattle.mk_props.specs.Reading.{when}
+use Rattle.mk_text.specs.Options.{when}
 use Rattle.mk_ctab.specs.declared.raw.RawAtom.{RawAtom}
 use Rattle.mk_ctab.specs.declared.raw.RawTable.{RawTable}
 use Rattle.mk_ctab.specs.declared.table_lines.Counts.{Counts}

@@ -6,9 +6,7 @@ use Rattle.std.proofs.lemmas.Bool.{eq-eqb}
 use Rattle.std.proofs.lemmas.List.{length-append, get_or_at}
 use Rattle.mk_text.specs.Columns.{columns}
 use Rattle.mk_text.specs.Lines.{pieces, without_cr, lines_of}
-use Rattle.mk_text.proofs.PieceLemmas.{pieces_at, without_cr-at_other}
-use Rattle.mk_text.proofs.TestLemmas.{not_true}
-use Rattle.mk_text.proofs.TrimLemmas.{list_all_at}
+use Rattle.mk_text.proofs.ForCallers.{pieces_at, without_cr-at_other, not_true, list_all_at}
 use Rattle.mk_form.specs.Rows.{Series}
 use Rattle.mk_props.specs.declared.property.Property.{Property}
 use Rattle.mk_props.specs.declared.property.Property.TheVariants as kinds

@@ -10,3 +10,4 @@ pub mod TableFaults
 pub mod TableLaws
 pub mod TableSpelling
 pub mod Molfile
+pub mod TableWalk

@@ -13,7 +13,8 @@ use Rattle.mk_form.specs.Sequence.{sequence}
 use Rattle.mk_form.specs.Until.{until}
 use Rattle.mk_props.specs.declared.property.Property.{Property}
 use Rattle.mk_props.specs.declared.property.Property.TheVariants as kinds
-use Rattle.mk_props.specs.Reading.{◌>>=◌, property_of}
+use Rattle.mk_text.specs.Options.{◌>>=◌}
+use Rattle.mk_props.specs.Reading.{property_of}
 use Rattle.mk_ctab.specs.declared.fault.TableFault.{TableFault}
 use Rattle.mk_ctab.specs.declared.fault.TableFault.TheVariants.{Bad, V3000, Memory}
 use Rattle.mk_ctab.specs.declared.raw.RawAtom.{RawAtom}

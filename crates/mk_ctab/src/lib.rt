@@ -24,6 +24,7 @@ mod plain_table;
 mod raw;
 mod table_lines;
 mod table_reading;
+mod table_walk;
 #[cfg(test)]
 mod table_tests;
 #[cfg(test)]

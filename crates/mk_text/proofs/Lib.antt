@@ -12,3 +12,4 @@ pub mod RisingLemmas
 pub mod JoinedLemmas
 pub mod ChoiceLemmas
 pub mod ForCallers
+pub mod LineStartLemmas

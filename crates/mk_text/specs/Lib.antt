@@ -8,3 +8,4 @@ pub mod Fields
 pub mod Spelling
 pub mod Rising
 pub mod Choices
+pub mod LineStart

@@ -36,7 +36,7 @@ pub fn lines(alloc: Global, text: &[u8]) -> Result<Vec<Span>, Memory>
 }
 
 // Where the line ends whose piece is `from` to `to`: before its CR, where it has one.
-fn end_of_line(text: &[u8], from: usize, to: usize) -> usize
+pub fn end_of_line(text: &[u8], from: usize, to: usize) -> usize
     requires order { from ≤ to }
     requires within { to ≤ length text.now }
     ensures line { slice_range text.now from result ≡ without_cr (slice_range text.now from to) }

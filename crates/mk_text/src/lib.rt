@@ -15,6 +15,7 @@ mod decimals;
 mod fields;
 mod kept;
 mod laws;
+mod line_start;
 mod lists;
 #[cfg(test)]
 mod tests;
@@ -30,6 +31,7 @@ pub use laws::{
     lines_are_read, one_rising_list, right_justified_is_read, rising_from_place,
     signed_right_justified_is_read,
 };
+pub use line_start::{LineStart, first_line, line_from};
 pub use lists::{Bytes, Listed, Numbers, Place};
 pub use std::alloc::AllocError as Memory;
 pub use texts::Text;

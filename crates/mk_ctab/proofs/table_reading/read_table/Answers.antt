@@ -2,7 +2,7 @@ use Rattle.std.proofs.Common.{◌≤◌, List, length, drop, ap, subst, arith}
 use Rattle.mk_text.specs.Lines.{lines_of}
 use Rattle.mk_ctab.specs.TableLines.{Line}
 use Rattle.mk_ctab.specs.TableReading.{Answers, table_at}
-use Rattle.mk_ctab.proofs.LineLemmas.{parts_length}
+use Rattle.mk_text.proofs.ForCallers.{parts_length}
 use Rattle.mk_ctab.proofs.FaultLemmas.{part_by, bad_from_by, unnamed_from_by, v3000_from_by, named_from_by}
 use Rattle.mk_ctab.proofs.TableFactLemmas.{keeps_by, fewer_by}
 use Rattle.mk_ctab.proofs.TableLemmas.{exact-table}
