@@ -4,6 +4,7 @@ pub mod LeftLemmas
 pub mod ListTestLemmas
 pub mod BondCountLemmas
 pub mod BegunLemmas
+pub mod CountLemmas
 pub mod TableLemmas
 pub mod OutlookLemmas
 pub mod WalkLemmas

@@ -9,11 +9,13 @@
 #![tactic(auto)]
 
 mod candidates;
+mod counts;
 mod earlier_bonds;
 mod laws;
 mod maps;
 mod order;
 mod outlook;
+mod search;
 mod table;
 #[cfg(test)]
 mod tests;

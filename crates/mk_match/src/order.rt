@@ -41,6 +41,17 @@ impl Order {
         })
     }
 
+    pub fn at_rest(alloc: Global) -> Order {
+        Order {
+            atoms: Vec::new(alloc),
+            ranks: Vec::new(alloc),
+            placed: Vec::new(alloc),
+            edge: Vec::new(alloc),
+            choices: Vec::new(alloc),
+            first: 0,
+        }
+    }
+
     /// Puts the atoms behind the first ones in order. The neighbours of the last of the first come before all others.
     pub fn arrange(&mut self, graph: &Graph, first: u32) {
         if self.first == first {

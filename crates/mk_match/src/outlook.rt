@@ -33,6 +33,16 @@ impl Outlook {
         })
     }
 
+    /// What is needed where nothing is looked for.
+    pub fn at_rest(alloc: Global) -> Outlook {
+        Outlook {
+            order: Order::at_rest(alloc),
+            chosen: Vec::new(alloc),
+            levels: Vec::new(alloc),
+            witness: Vec::new(alloc),
+        }
+    }
+
     /// Tells that no hit begins with these atoms; where it doesn't, there may be one or none.
     pub fn is_dead(
         &mut self,

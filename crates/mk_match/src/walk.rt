@@ -46,6 +46,18 @@ impl Walk {
         })
     }
 
+    /// A walk that doesn't go on.
+    pub fn at_rest(alloc: Global) -> Walk
+        ensures { result.images.items ≡ [] }
+    {
+        Walk {
+            images: Vec::new(alloc),
+            levels: Vec::new(alloc),
+            depth: 0,
+            above: 0,
+        }
+    }
+
     /// Goes to the lists from a front on.
     pub fn seek(&mut self, graph: &Graph, mol: &Mol, fits: &[bool], front: &[u32])
         requires table { IsTable graph.now mol.now fits.now }
