@@ -4,4 +4,6 @@ pub mod Counts
 pub mod Walk
 pub mod Outlook
 pub mod Searches
+pub mod Left
+pub mod Lending
 pub mod Plain

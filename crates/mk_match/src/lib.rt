@@ -22,4 +22,4 @@ mod tests;
 mod walk;
 
 pub use laws::hits_are_listed;
-pub use maps::least_map;
+pub use maps::{Maps, least_map};
