@@ -11,7 +11,8 @@ use Rattle.mk_model.specs.declared.graph.GraphBond.{GraphBond}
 use Rattle.mk_model.specs.declared.molecule.MolBond.{MolBond}
 use Rattle.mk_model.specs.Molecules.{Molecule, IsBondOf, edge_of}
 use Rattle.mk_model.specs.Graphs.{GraphView}
-use Rattle.mk_model.specs.Fitting.{FitsAtom, LiesOn, other_end}
+use Rattle.mk_model.specs.Fitting.{FitsAtom, LiesOn}
+use Rattle.mk_model.specs.Edges.{other_end}
 use Rattle.mk_model.specs.Hits.{image, IsHit}
 use Rattle.mk_match.specs.Table.{MayLie}
 
