@@ -18,7 +18,7 @@ use Rattle.mk_model.specs.Fitting.{LiesOn, other_end}
 use Rattle.mk_model.specs.Hits.{image, IsHit}
 use Rattle.mk_model.proofs.ForCallers.{IsNumberOf, numbers_at-each}
 use Rattle.mk_model.proofs.PlaceLemmas.{at_place}
-use Rattle.mk_match.specs.Search.{AreBonded, end_numbered}
+use Rattle.mk_match.specs.Candidates.{AreBonded, end_numbered}
 use Rattle.mk_match.specs.Table.{MayLie}
 use Rattle.mk_match.proofs.CandidateLemmas.{bonded_end, ends_by}
 use Rattle.mk_match.proofs.ListTestLemmas.{all_cons, any_found, any_given}

@@ -21,5 +21,5 @@ mod table;
 mod tests;
 mod walk;
 
-pub use laws::hits_are_listed;
+pub use laws::{hits_are_listed, hits_are_taken_in_order};
 pub use maps::{Maps, least_map};

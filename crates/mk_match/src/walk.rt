@@ -3,7 +3,7 @@ ghost use Rattle.std.specs.Prelude.{◌≡◌, ◌<◌, ◌≤◌, ◌+◌, ◌-
 ghost use Rattle.mk_model.specs.Graphs.{IsGraph};
 ghost use Rattle.mk_model.specs.Hits.{IsHit};
 ghost use Rattle.mk_text.specs.Rising.{IsLeastFrom};
-ghost use Rattle.mk_match.specs.Search.{MayStand};
+ghost use Rattle.mk_match.specs.Begun.{MayStand};
 ghost use Rattle.mk_match.specs.Table.{IsTable};
 ghost use Rattle.mk_match.specs.Walk.{IsWalk, SameFrom, lists_from, place_of};
 

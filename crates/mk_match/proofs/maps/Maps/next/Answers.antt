@@ -1,6 +1,6 @@
 use Rattle.std.proofs.Common.{◌≡◌, ◌+◌, ◌-◌, ◌≤◌, ◌∷◌, ◌++◌, [], ℕ, List, length, take, refl, sym, subst, ap, ◌∙◌, arith, length-append}
 use Rattle.std.proofs.lemmas.List.{length-take-le, take-take, take_at}
-use Rattle.mk_match.specs.Left.{MapsLeft, IsNext}
+use Rattle.mk_match.specs.Maps.{MapsLeft, IsNext}
 use Rattle.mk_match.proofs.maps.Maps.next.Goals as goal
 
 -- a list without its last number
