@@ -128,7 +128,13 @@ impl Walk {
             return Turn::Moved;
         }
         self.put(atom);
-        if outlook.is_dead(graph, mol, fits, &self.images[..self.depth + 1], &self.levels) {
+        if outlook.is_dead(
+            graph,
+            mol,
+            fits,
+            &self.images[..self.depth + 1],
+            &self.levels,
+        ) {
             self.above = atom;
             return Turn::Moved;
         }
