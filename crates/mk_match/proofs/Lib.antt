@@ -1,6 +1,6 @@
 pub mod CandidateLemmas
 pub mod PassedLemmas
-pub mod LeftLemmas
+pub mod ListsFromLemmas
 pub mod ListTestLemmas
 pub mod BondCountLemmas
 pub mod BegunLemmas
@@ -10,3 +10,4 @@ pub mod OutlookLemmas
 pub mod WalkLemmas
 pub mod EarlierBondsLemmas
 pub mod PlainLemmas
+pub mod MapsLemmas

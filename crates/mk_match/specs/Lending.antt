@@ -3,7 +3,7 @@ use Rattle.std.specs.Prelude.{[], ⊤}
 use Rattle.std.specs.Borrow.{Fml, MutBor, follows_so}
 use mathlib.Core.Option.{none}
 use mir.Syntax.{named}
-use Rattle.mk_match.specs.Left.{MapsLeft}
+use Rattle.mk_match.specs.Maps.{MapsLeft}
 use Rattle.mk_match.specs.contracts.maps.Maps.{the_row}
 
 -- the lender ends at a value of which P holds

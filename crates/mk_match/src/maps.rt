@@ -42,7 +42,7 @@ pub struct Maps<'a> {
 
 impl<'a> Model for Maps<'a> {
     ghost use Rattle.std.specs.Prelude.{◌≡◌, ◌≤◌, length, take};
-    ghost use Rattle.mk_match.specs.Left.{IsReady, MapsLeft};
+    ghost use Rattle.mk_match.specs.Maps.{IsReady, MapsLeft};
 
     ghost Value = { MapsLeft };
 
@@ -52,7 +52,7 @@ impl<'a> Model for Maps<'a> {
 }
 
 impl<'a> Maps<'a> {
-    ghost use Rattle.mk_match.specs.Left.{IsNextOf, IsTaken, MapsLeft};
+    ghost use Rattle.mk_match.specs.Maps.{IsNextOf, IsTaken, MapsLeft};
     ghost use Rattle.mk_match.specs.Lending.{Ends};
 
     /// The hits that aren't below the place. It takes the graph over, and ticks one begin.

@@ -8,6 +8,7 @@ use std::alloc::Global;
 
 // The rank of an atom that isn't in the order, and of one that waits at its edge.
 const NONE: u32 = u32::MAX;
+
 const EDGE: u32 = u32::MAX - 1;
 
 /// The atoms behind the first ones: each beside one that has its place, where there is such an atom, and the one that has

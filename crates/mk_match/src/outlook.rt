@@ -131,7 +131,18 @@ fn has_none(
             above = chosen[d];
             continue;
         };
-        if is_barred(graph, mol, fits, first, fixed, order, ranks, &chosen[..d], levels, a) {
+        if is_barred(
+            graph,
+            mol,
+            fits,
+            first,
+            fixed,
+            order,
+            ranks,
+            &chosen[..d],
+            levels,
+            a,
+        ) {
             above = a;
             continue;
         }
@@ -314,13 +325,7 @@ fn image_of(
     Some(a)
 }
 
-fn number_put(
-    first: &[u32],
-    order: &[u32],
-    ranks: &[u32],
-    chosen: &[u32],
-    y: u32,
-) -> Option<u32>
+fn number_put(first: &[u32], order: &[u32], ranks: &[u32], chosen: &[u32], y: u32) -> Option<u32>
     requires { length chosen.now ≤ length order.now }
     ensures { IfSome result (IsPut first.now order.now chosen.now y) }
 {

@@ -29,7 +29,7 @@ pub struct Search {
 
 impl Search {
     ghost use Rattle.std.specs.Prelude.{◌∷◌, ◌++◌, [], None, List, ℕ, false};
-    ghost use Rattle.mk_match.specs.Searches.{IsLeft, IsSearch};
+    ghost use Rattle.mk_match.specs.Search.{IsLeft, IsSearch};
 
     /// A search for the hits that aren't below the front.
     pub fn of(alloc: Global, graph: &Graph, mol: &Mol, front: &[u32]) -> Result<Search, Memory>

@@ -3,7 +3,7 @@ ghost use Rattle.std.specs.Prelude.{◌≡◌, ◌<◌, ◌≤◌, ◌+◌, ◌-
 ghost use Rattle.mk_model.specs.Graphs.{IsGraph};
 ghost use Rattle.mk_model.specs.Hits.{IsHit};
 ghost use Rattle.mk_text.specs.Rising.{IsLeastFrom};
-ghost use Rattle.mk_match.specs.Search.{MayStand};
+ghost use Rattle.mk_match.specs.Begun.{MayStand};
 ghost use Rattle.mk_match.specs.Table.{IsTable};
 ghost use Rattle.mk_match.specs.Walk.{IsWalk, SameFrom, lists_from, place_of};
 
@@ -128,7 +128,13 @@ impl Walk {
             return Turn::Moved;
         }
         self.put(atom);
-        if outlook.is_dead(graph, mol, fits, &self.images[..self.depth + 1], &self.levels) {
+        if outlook.is_dead(
+            graph,
+            mol,
+            fits,
+            &self.images[..self.depth + 1],
+            &self.levels,
+        ) {
             self.above = atom;
             return Turn::Moved;
         }

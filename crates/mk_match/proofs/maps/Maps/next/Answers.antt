@@ -1,6 +1,6 @@
 use Rattle.std.proofs.Common.{◌≡◌, ◌+◌, ◌-◌, ◌≤◌, ◌∷◌, ◌++◌, [], ℕ, List, length, take, refl, sym, subst, ap, ◌∙◌, arith, length-append}
 use Rattle.std.proofs.lemmas.List.{length-take-le, take-take, take_at}
-use Rattle.mk_match.specs.Left.{MapsLeft, IsNext}
+use Rattle.mk_match.specs.Maps.{MapsLeft, IsNext}
 use Rattle.mk_match.proofs.maps.Maps.next.Goals as goal
 
 -- a list without its last number
@@ -16,6 +16,6 @@ returns c =
     let taken = c.if-not-advance.ensures in
     let inside = c.self.inside in
     let next : IsNext c.args.self.now (record { graph = inside.graph; mol = inside.mol.now; place = take inside.len inside.place.items }) taken.0 =
-        subst (λ (left : MapsLeft). IsNext c.args.self.now left taken.0) (sym c.self.view_is) taken.1 in
+    subst (λ (left : MapsLeft). IsNext c.args.self.now left taken.0) (sym c.self.view_is) taken.1 in
     let is = before_last inside.place.items taken.0 inside.len c.self.invariant.within next.place in
     ((refl, λ _. tt, rw (c.deref.ensures.value, is) next), record { lends = tt })

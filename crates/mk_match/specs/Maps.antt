@@ -9,7 +9,7 @@ use Rattle.mk_model.specs.Molecules.{Molecule}
 use Rattle.mk_model.specs.Graphs.{GraphView}
 use Rattle.mk_model.specs.Hits.{IsHit}
 use Rattle.mk_match.specs.declared.search.Search.{Search}
-use Rattle.mk_match.specs.Searches.{IsLeft, IsSearch}
+use Rattle.mk_match.specs.Search.{IsLeft, IsSearch}
 
 -- what is seen of a `Maps`: its graph, its molecule, and the place from which hits are left
 pub record MapsLeft : Type 0 where
