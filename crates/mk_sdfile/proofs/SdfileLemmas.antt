@@ -109,7 +109,7 @@ steps-limit : IsLimit steps sdfile_part
 steps-limit = limit_of_steps grows
 
 -- and are read exactly
-exact-sdfile_part : Exact is_v3000 NoLines sdfile_part
+pub exact-sdfile_part : Exact is_v3000 NoLines sdfile_part
 exact-sdfile_part = exact-limit exact-steps steps-limit
 
 -- reading one is reading blank lines, or a block and then an SDfile
@@ -259,15 +259,17 @@ due_from_at (b ∷ bs) lines block_lines header_lines whole each three =
     let one : lines ≡ each.0 ++ back = whole ∙ ap (λ (x : List Line). x ++ header_lines) each.2 ∙ append_assoc each.0 each.1 header_lines in
     let two : lines ≡ block.record_lines ++ block.separator ∷ back = one ∙ ap (λ (x : List Line). x ++ back) block.whole ∙ append_assoc block.record_lines (block.separator ∷ []) back in
     let all : lines ≡ is.molfile_lines ++ (is.data_lines ++ block.separator ∷ back) = two ∙ ap (λ (x : List Line). x ++ block.separator ∷ back) is.whole ∙ append_assoc is.molfile_lines is.data_lines (block.separator ∷ back) in
-    let others = due_from_at bs back each.1 header_lines refl each.4 three in
-    (suc others.0, inr (record {
-      front = is.molfile_lines;
-      back = is.data_lines ++ block.separator ∷ back;
-      middle = (b.table, is.molfile_lines);
-      whole = all;
-      first = record { is = is.molfile; lines_are = refl };
-      second = record { before = is.data_lines; separator = block.separator; back = back; whole = refl; none = is.no_separator; separates = block.separates; here = others.1 };
-    }))
+    let others = due_from_at bs back each.1 header_lines refl each.4 three in (
+      suc others.0,
+      inr (record {
+        front = is.molfile_lines;
+        back = is.data_lines ++ block.separator ∷ back;
+        middle = (b.table, is.molfile_lines);
+        whole = all;
+        first = record { is = is.molfile; lines_are = refl };
+        second = record { before = is.data_lines; separator = block.separator; back = back; whole = refl; none = is.no_separator; separates = block.separates; here = others.1 };
+      }),
+    )
 
 -- The form of SDfiles.
 abbrev pub sdfile : Part Line (List RawRecord)

@@ -10,9 +10,13 @@
 #![tactic(auto)]
 
 mod raw_record;
+mod sdfile;
 mod sdfile_laws;
+#[cfg(test)]
+mod sdfile_tests;
 
 pub use mk_ctab::{RawTable, TableFault};
 pub use mk_text::{Bytes, Memory};
 pub use raw_record::{RawRecord, RawRecords};
+pub use sdfile::read_sdfile;
 pub use sdfile_laws::sdfile_is_exact;
