@@ -11,3 +11,6 @@ pub mod CodesLemmas
 pub mod CodeLengthLemmas
 pub mod SizesLemmas
 pub mod BlockLemmas
+pub mod LogicLemmas
+pub mod PlainCodesLemmas
+pub mod OnLiterals
