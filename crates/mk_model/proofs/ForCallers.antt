@@ -1,12 +1,19 @@
--- What the crates above need of the numbers of an atom's bonds.
+-- What the crates above need: the numbers of an atom's bonds, items by their places, ends of bonds.
 --     IsNumberOf bonds n k        k numbers a bond of atom n
 --     numbers_at-each             each number in the list of an atom is one
 --     numbers_at-all              and each such number is in the list
+--     length-numbers_from         an atom has as many numbers as bonds
+--     slice_get-rows_of           the list of an atom among those of all
+--     at_place, place_within, place_is, all_at, all_mapped     items of a list by their places
+--     touches-ends, touches-second     a bond touches its ends
+--     few_bonds                   a graph has fewer than 2^32 bonds
 use Rattle.std.proofs.Common.{◌≡◌, ◌≤◌, ◌<◌, ◌+◌, ◌-◌, ℕ, zero, suc, Bool, true, false, cond, List, [], ◌∷◌, refl, length, get_or, take, arith}
 use Rattle.mk_model.specs.declared.edge.Edge.{Edge}
-use Rattle.mk_model.specs.Edges.{numbers_from, numbers_at, touches}
-use Rattle.mk_model.specs.Filling.{degree}
-use Rattle.mk_model.proofs.DegreeLemmas.{length-numbers_from, get_or-numbers_from, degree_within}
+use Rattle.mk_model.specs.Edges.{degree, numbers_from, numbers_at, touches}
+use Rattle.mk_model.proofs.DegreeLemmas.{get_or-numbers_from, degree_within}
+pub use Rattle.mk_model.proofs.DegreeLemmas.{length-numbers_from, length-rows_of, slice_get-rows_of, touches-first, touches-second, touches-ends, touches-other}
+pub use Rattle.mk_model.proofs.PlaceLemmas.{at_place, place_within, place_is, all_at, all_mapped, drawn_between, drawn_first, drawn_second, bonds_between, bond_first, bond_second}
+pub use Rattle.mk_model.proofs.GraphsLemmas.{few_bonds}
 
 -- among bonds that are numbered from j on, k numbers one of atom n
 pub record IsNumberFrom (j : ℕ) (bonds : List Edge) (n k : ℕ) : Type 0 where

@@ -4,3 +4,13 @@ pub mod FillLemmas
 pub mod ForCallers
 pub mod MoleculeLemmas
 pub mod PlaceLemmas
+pub mod GraphsLemmas
+pub mod BondOrderLemmas
+pub mod OpenSlotsLemmas
+pub mod CodesLemmas
+pub mod CodeLengthLemmas
+pub mod SizesLemmas
+pub mod BlockLemmas
+pub mod LogicLemmas
+pub mod PlainCodesLemmas
+pub mod OnLiterals

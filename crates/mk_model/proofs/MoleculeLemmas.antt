@@ -1,13 +1,13 @@
 -- The bond between two atoms of a molecule is the one that is found among the bonds of one of them.
-use Rattle.std.proofs.Common.{◌≡◌, ◌≤◌, ◌<◌, ◌-◌, ℕ, zero, suc, true, List, [], ◌∷◌, Option, Some, None, refl, ap, sym, subst, ◌∙◌, length, get_or, arith, ⊎_elim}
+use Rattle.std.proofs.Common.{◌≡◌, ◌≤◌, ◌<◌, ◌-◌, ℕ, zero, suc, true, List, [], ◌∷◌, Option, Some, None, refl, ap, sym, subst, ◌∙◌, length, get_or, arith}
 use Rattle.std.specs.Prelude.{All, map, slice_get, ◌↔◌}
 use Rattle.std.proofs.lemmas.List.{length-map, get_or-map, get_or_default}
 use Rattle.std.proofs.lemmas.List.Elements.{All-from_get_or}
 use Rattle.mk_model.specs.declared.edge.Edge.{Edge}
 use Rattle.mk_model.specs.declared.molecule.MolBond.{MolBond}
-use Rattle.mk_model.specs.Edges.{Joins, HasEnds, numbers_at, touches}
+use Rattle.mk_model.specs.Edges.{Joins, numbers_at, touches}
 use Rattle.mk_model.specs.Molecules.{Molecule, IsMolecule, IsBondOf, BondAmong, edge_of, edges}
-use Rattle.mk_model.proofs.DegreeLemmas.{touches-first, touches-second}
+pub use Rattle.mk_model.proofs.DegreeLemmas.{touches-ends}
 use Rattle.mk_model.proofs.ForCallers.{numbers_at-each, numbers_at-all}
 
 -- what stands at a place, as `slice_get` has it
@@ -21,14 +21,6 @@ slice_get-edges : (xs : List MolBond) (k : ℕ) (d : MolBond) → k < length xs 
 slice_get-edges [] k d below = absurd (omega arith)
 slice_get-edges (x ∷ xs) zero d below = refl
 slice_get-edges (x ∷ xs) (suc k) d below = slice_get-edges xs k d (omega arith)
-
--- a bond that has an end a touches it
-pub touches-ends : (edge : Edge) (a b : ℕ) → HasEnds edge a b → touches a edge ≡ true
-touches-ends edge a b ends =
-    ⊎_elim
-    (λ e. let P : ℕ → Type 0 = λ n. touches n edge ≡ true in subst P e.0 (touches-first edge))
-    (λ e. let P : ℕ → Type 0 = λ n. touches n edge ≡ true in subst P e.1 (touches-second edge))
-    ends
 
 -- a bond of the molecule joins its ends
 joins : (mol : Molecule) (a b : ℕ) (bond : MolBond) (is : IsBondOf mol a b bond) → Joins (edges mol.bonds) is.0.0 a b

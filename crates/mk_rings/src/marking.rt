@@ -1,6 +1,6 @@
 // Marks of ring bonds by a spanning forest.
 ghost use Rattle.std.specs.Prelude.{◌≡◌, ◌≢◌, ◌≤◌, ◌<◌, ◌-◌, ◌↔◌, ◌⊎◌, ℕ, IfOk, IsTrue, length};
-ghost use Rattle.mk_model.specs.Edges.{AreBetween, IsSimple, Joins};
+ghost use Rattle.mk_model.specs.Edges.{AreBetween, IsSimple, Joins, rows_of};
 ghost use Rattle.mk_model.specs.Rings.{IsRingBond};
 ghost use Rattle.mk_rings.specs.Forests.{HangsBy, IsForest, node};
 ghost use Rattle.mk_rings.specs.Marks.{IsMarked, Marks, MarksWay};
@@ -16,7 +16,21 @@ pub fn ring_bonds(alloc: Global, atoms: u32, bonds: &[Edge]) -> Result<Vec<bool>
     ensures { IfOk result (λ marks. Marks (IsRingBond bonds.now) bonds.now marks.items) }
 {
     let near = Neighbours::of(alloc, atoms, bonds)?;
-    let nodes = forest_of(alloc, &near, atoms, bonds)?;
+    ring_bonds_over(alloc, &near, atoms, bonds)
+}
+
+/// Marks the ring bonds, where the neighbours are made already.
+pub fn ring_bonds_over(
+    alloc: Global,
+    near: &Neighbours,
+    atoms: u32,
+    bonds: &[Edge],
+) -> Result<Vec<bool>, Memory>
+    requires simple { IsSimple atoms bonds.now }
+    requires rows { near.now ≡ rows_of atoms bonds.now }
+    ensures { IfOk result (λ marks. Marks (IsRingBond bonds.now) bonds.now marks.items) }
+{
+    let nodes = forest_of(alloc, near, atoms, bonds)?;
     let mut marks = vec![in alloc; false; bonds.len()]?;
     mark_rings(&nodes, bonds, &mut marks);
     Ok(marks)
