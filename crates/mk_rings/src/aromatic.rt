@@ -6,7 +6,7 @@ ghost use Rattle.mk_model.specs.Rings.{IsRingBond};
 ghost use Rattle.mk_rings.specs.Marks.{IsMarked, Marks};
 ghost use Rattle.mk_rings.specs.SixRings.{AllBelow, ClosesRing, set_of, StayWithin, unmarked};
 
-use crate::marking::ring_bonds_over;
+use crate::marking::{neighbours_of, ring_bonds_over};
 use crate::six_rings::closes_ring;
 use crate::spreading::spread;
 use mk_model::{Edge, Memory, Neighbours};
@@ -17,7 +17,7 @@ pub fn aromatic_bonds(alloc: Global, atoms: u32, bonds: &[Edge]) -> Result<Vec<b
     requires { IsSimple atoms bonds.now }
     ensures { IfOk result (λ marks. Marks (IsAromatic bonds.now) bonds.now marks.items) }
 {
-    let near = Neighbours::of(alloc, atoms, bonds)?;
+    let near = neighbours_of(alloc, atoms, bonds)?;
     let rings = ring_bonds_over(alloc, &near, atoms, bonds)?;
     aromatic_bonds_over(alloc, &near, atoms, bonds, &rings)
 }
