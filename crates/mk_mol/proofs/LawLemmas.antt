@@ -147,9 +147,12 @@ no_text_ends (kinds.Isotope pairs) is = tt
 no_text_ends other is = absurd is
 
 pub keeps_text : PassingTablesKeepTheirText
-keeps_text table atoms properties = (record {
-  symbols = λ k d below ends.
-      let known = all_of IsKnownAtom table.atoms atoms k d below in
-      no_end (get_or table.atoms k d).symbol ends.0 (named-no_cr _ known.symbol.element known.symbol.names) ends.1;
-  properties = λ k d below. no_text_ends (get_or table.props k d) (all_of IsOfMolecules table.props (λ item. (properties item).1) k d below);
-}, λ k d below. no_text (get_or table.props k d) (all_of IsOfMolecules table.props (λ item. (properties item).1) k d below))
+keeps_text table atoms properties = (
+  record {
+    symbols = λ k d below ends.
+        let known = all_of IsKnownAtom table.atoms atoms k d below in
+        no_end (get_or table.atoms k d).symbol ends.0 (named-no_cr _ known.symbol.element known.symbol.names) ends.1;
+    properties = λ k d below. no_text_ends (get_or table.props k d) (all_of IsOfMolecules table.props (λ item. (properties item).1) k d below);
+  },
+  λ k d below. no_text (get_or table.props k d) (all_of IsOfMolecules table.props (λ item. (properties item).1) k d below),
+)
