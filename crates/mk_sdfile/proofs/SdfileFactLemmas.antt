@@ -1,5 +1,5 @@
 -- What the records of every SDfile keep.
-use Rattle.std.proofs.Common.{◌≡◌, ℕ, ◌+◌, ◌≤◌, ◌<◌, true, All, Option, Some, None, Result, Ok, Err, List, [], ◌∷◌, ◌++◌, length, sym, ap, subst, arith}
+use Rattle.std.proofs.Common.{ℕ, ◌≤◌, ◌<◌, true, All, Option, Some, None, Result, Ok, Err, List, [], ◌∷◌, ◌++◌, length, sym, ap, subst, arith}
 use Rattle.std.specs.List.{AllByRecursion}
 use Rattle.std.specs.Prelude.{IfOk, MatchOption, option_to_list}
 use Rattle.std.proofs.lemmas.List.{length-append}
@@ -7,7 +7,6 @@ use Rattle.std.proofs.lemmas.List.Elements.{All-from_recursion}
 use Rattle.mk_form.specs.Rows.{Series}
 use Rattle.mk_form.specs.ToEnd.{EachIs}
 use Rattle.mk_text.specs.Columns.{are_blank}
-use Rattle.mk_ctab.specs.declared.fault.TableFault.{TableFault}
 use Rattle.mk_ctab.specs.TableFacts.{IsRawTable}
 use Rattle.mk_ctab.specs.TableLines.{Line}
 use Rattle.mk_ctab.proofs.ForCallers.{keeps, few_properties}

@@ -1,7 +1,7 @@
 -- SDfiles are read exactly, and so the laws of forms hold of them.
-use Rattle.std.proofs.Common.{◌≡◌, ℕ, zero, suc, ◌+◌, ◌≤◌, ◌<◌, true, false, Option, Some, None, List, [], ◌∷◌, ◌++◌, length, refl, sym, ap, subst, ◌∙◌, append_assoc, inl, inr, arith}
+use Rattle.std.proofs.Common.{◌≡◌, ℕ, zero, suc, ◌≤◌, ◌<◌, true, false, Option, Some, None, List, [], ◌∷◌, ◌++◌, length, refl, sym, ap, subst, ◌∙◌, append_assoc, inl, inr, arith}
 use Rattle.std.specs.Prelude.{MatchOption, option_to_list}
-use Rattle.std.proofs.lemmas.List.{append-nil, length-append}
+use Rattle.std.proofs.lemmas.List.{length-append}
 use Rattle.mk_form.specs.Either.{farther}
 use Rattle.mk_form.specs.Exact.{Part, Exact, Completes, NeverDue, NoLines}
 use Rattle.mk_form.specs.InWords.{form}
@@ -9,7 +9,7 @@ use Rattle.mk_form.specs.Limit.{IsBelow, Grows, IsLimit}
 use Rattle.mk_form.specs.Reading.{Reading, Took, and_then}
 use Rattle.mk_form.specs.Rows.{Series}
 use Rattle.mk_form.specs.Seen.{with_lines}
-use Rattle.mk_form.specs.ToEnd.{EachIs, UpTo, EndsBehind, read_up_to}
+use Rattle.mk_form.specs.ToEnd.{EachIs, UpTo, read_up_to}
 use Rattle.mk_form.proofs.Below.{below-sequence, below-seen_as, below-up_to, below-either, below-first}
 use Rattle.mk_form.proofs.Either.{exact-either}
 use Rattle.mk_form.proofs.Fronts.{exact-form, completes-form, completes-either, completes-lines_to_end, completes-seen_as, completes-sequence, completes-up_to, completes-with_lines}

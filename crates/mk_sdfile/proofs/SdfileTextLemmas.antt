@@ -1,5 +1,5 @@
 -- The text of a record is an SDfile of that one record.
-use Rattle.std.proofs.Common.{◌≡◌, ℕ, zero, suc, ◌-◌, ◌≤◌, Bool, true, false, cond, eqb, ◌&&◌, All, Some, List, [], ◌∷◌, ◌++◌, length, take, map, refl, sym, ap, subst, ◌∙◌}
+use Rattle.std.proofs.Common.{◌≡◌, ℕ, zero, suc, ◌-◌, Bool, true, false, eqb, All, Some, List, [], ◌∷◌, length, take, map, refl, sym, ap, subst, ◌∙◌}
 use Rattle.std.specs.List.{AllByRecursion, starts_with, suffix_len}
 use Rattle.std.specs.Prelude.{Contains, codes, nat_eq}
 use Rattle.std.proofs.lemmas.List.{length-map, map-append}
