@@ -1,5 +1,5 @@
 -- The marks determine the bonds.
-use Rattle.std.proofs.Common.{◌≡◌, ◌<◌, ℕ, Bool, true, false, List, refl, ap, sym, subst, ◌∙◌, length, get_or, arith, IsTrue}
+use Rattle.std.proofs.Common.{◌≡◌, ◌<◌, Bool, true, false, List, refl, ap, sym, subst, ◌∙◌, length, get_or, arith, IsTrue}
 use Rattle.std.specs.Prelude.{◌↔◌}
 use Rattle.std.proofs.lemmas.List.{same_lists, length-map, get_or-map}
 use Rattle.mk_model.specs.declared.edge.Edge.{Edge}
