@@ -15,7 +15,7 @@ use Rattle.mk_model.specs.Edges.{HasEnds, IsSimple, Joins}
 use Rattle.mk_model.specs.Graphs.{graph_edge, graph_edges, IsUnmarked}
 use Rattle.mk_model.specs.Molecules.{HasMarks, edge_of, edges, IsElement, IsMolecule}
 use Rattle.mk_model.specs.Tests.{IsBondInRange, IsTestInRange}
-use Rattle.mk_model.proofs.PlaceLemmas.{all_mapped}
+use Rattle.mk_model.proofs.ForCallers.{all_mapped}
 use Rattle.mk_fixtures.specs.Fixtures.{AreInOrder, IsEdgeOf, IsEdgeBefore}
 
 -- ---- bonds in order
@@ -69,7 +69,7 @@ molecule-built count atoms drawn bonds is_count few few_bonds elements order sam
 }
 
 -- a sketch of atoms and bonds whose tests are in range
-pub sketch-built : (atoms : List GraphAtom) (bonds : List GraphBond) → length atoms ≤ 512 → All (λ atom. IsTestInRange atom.test) atoms → All IsBondInRange bonds → AreInOrder (length atoms) (graph_edges bonds) → IsUnmarked (record { atoms = atoms; bonds = bonds })
+pub sketch-built : (atoms : List GraphAtom) (bonds : List GraphBond) → length atoms ≤ 512 → All (λ atom. IsTestInRange atom.test) atoms → All (λ bond. IsBondInRange bond.kind bond.topology) bonds → AreInOrder (length atoms) (graph_edges bonds) → IsUnmarked (record { atoms = atoms; bonds = bonds })
 sketch-built atoms bonds few tests bond_tests order = record {
   few = few;
   tests = tests;

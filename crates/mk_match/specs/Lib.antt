@@ -1,2 +1,9 @@
 pub mod Search
+pub mod Table
+pub mod Counts
+pub mod Walk
+pub mod Outlook
+pub mod Searches
+pub mod Left
+pub mod Lending
 pub mod Plain

@@ -9,12 +9,17 @@
 #![tactic(auto)]
 
 mod candidates;
-mod fronts;
+mod counts;
+mod earlier_bonds;
 mod laws;
-mod searching;
-mod standing;
+mod maps;
+mod order;
+mod outlook;
+mod search;
+mod table;
 #[cfg(test)]
 mod tests;
+mod walk;
 
 pub use laws::hits_are_listed;
-pub use searching::least_map;
+pub use maps::{Maps, least_map};

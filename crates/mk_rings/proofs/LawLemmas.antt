@@ -7,7 +7,7 @@ use Rattle.mk_model.specs.declared.molecule.MolBond.{MolBond}
 use Rattle.mk_model.specs.declared.graph.GraphBond.{GraphBond}
 use Rattle.mk_model.specs.Graphs.{HasGraphMarks, graph_edges}
 use Rattle.mk_model.specs.Molecules.{HasMarks, edge_of, edges}
-use Rattle.mk_model.proofs.PlaceLemmas.{at_place}
+use Rattle.mk_model.proofs.ForCallers.{at_place}
 use Rattle.mk_rings.specs.Bare.{bare_bond}
 use Rattle.mk_rings.specs.Laws.{OneListOfGraphBonds, OneListOfMolBonds}
 use Rattle.mk_rings.proofs.ForCallers.{same_at, same_edges, same_length}

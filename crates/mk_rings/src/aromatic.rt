@@ -7,7 +7,7 @@ ghost use Rattle.mk_rings.specs.Marks.{IsMarked, Marks};
 ghost use Rattle.mk_rings.specs.SixRings.{AllBelow};
 ghost use Rattle.mk_rings.specs.Bridges.{AreWithoutBridges, label_if};
 
-use crate::marking::ring_bonds_over;
+use crate::marking::{neighbours_of, ring_bonds_over};
 use crate::ring_search::Spot;
 use crate::rounds::mark_round;
 use crate::spreading::{NOWHERE, spread};
@@ -19,7 +19,7 @@ pub fn aromatic_bonds(alloc: Global, atoms: u32, bonds: &[Edge]) -> Result<Vec<b
     requires { IsSimple atoms bonds.now }
     ensures { IfOk result (λ marks. Marks (IsAromatic bonds.now) bonds.now marks.items) }
 {
-    let near = Neighbours::of(alloc, atoms, bonds)?;
+    let near = neighbours_of(alloc, atoms, bonds)?;
     let rings = ring_bonds_over(alloc, &near, atoms, bonds)?;
     aromatic_bonds_over(alloc, &near, atoms, bonds, &rings)
 }

@@ -2,7 +2,7 @@ use Rattle.std.proofs.Common.{◌≡◌, ◌∙◌, ◌++◌, ℕ, Bool, List, a
 use Rattle.std.proofs.Math.Seq.{take-append_seam}
 use Rattle.mk_model.specs.declared.edge.Edge.{Edge}
 use Rattle.mk_model.specs.Edges.{AreBetween, rows_of}
-use Rattle.mk_model.proofs.DegreeLemmas.{length-rows_of}
+use Rattle.mk_model.proofs.ForCallers.{length-rows_of}
 use Rattle.mk_model.specs.Aromatic.{IsAromatic}
 use Rattle.mk_rings.specs.Marks.{Marks}
 use Rattle.mk_rings.specs.Bridges.{AreWithoutBridges}

@@ -1,0 +1,33 @@
+-- What a search keeps, and what is left of the hits from a place on. This file serves the code alone.
+--     IsSearch graph mol search          the search is one for the hits of the graph in the molecule
+--     IsLeft graph mol place search      the hits that it still has to give are those from the place on
+use Rattle.std.specs.Prelude.{◌≡◌, ℕ, Bool, List, [], None, length}
+use Rattle.mk_text.specs.Rising.{IsLeastFrom}
+use Rattle.mk_model.specs.Molecules.{Molecule}
+use Rattle.mk_model.specs.Graphs.{GraphView, IsGraph}
+use Rattle.mk_model.specs.Hits.{IsHit}
+use Rattle.mk_match.specs.declared.search.Search.{Search}
+use Rattle.mk_match.specs.declared.search.Stage.{Stage}
+use Rattle.mk_match.specs.declared.search.Stage.TheVariants.{Walking, Once, Ended}
+use Rattle.mk_match.specs.Table.{IsTable}
+use Rattle.mk_match.specs.Walk.{IsWalk, SameFrom, place_of}
+
+-- the table and the walk are those of the graph and the molecule; a hit is given once only for a graph without atoms
+abbrev pub IsStage : GraphView → Molecule → Stage → List Bool → List ℕ → List ℕ → ℕ → ℕ → Type 0
+IsStage graph mol Walking fits images levels depth above = IsTable graph mol fits × IsWalk graph mol images levels depth above
+IsStage graph mol Once fits images levels depth above = IsGraph graph × (length graph.atoms ≡ 0) × (images ≡ [])
+IsStage graph mol Ended fits images levels depth above = Unit {0}
+
+-- the search is one for the hits of the graph in the molecule
+abbrev pub IsSearch : GraphView → Molecule → Search → Type 0
+IsSearch graph mol search = IsStage graph mol search.stage search.fits.items search.walk.images.items search.walk.levels.items search.walk.depth search.walk.above
+
+-- the hits from the place on are those from where the walk stands; or the empty one; or there are none
+abbrev pub IsLeftAt : GraphView → Molecule → List ℕ → Stage → List ℕ → ℕ → ℕ → Type 0
+IsLeftAt graph mol place Walking images depth above = SameFrom (IsHit graph mol) place (place_of images depth above)
+IsLeftAt graph mol place Once images depth above = place ≡ []
+IsLeftAt graph mol place Ended images depth above = IsLeastFrom place (IsHit graph mol) None
+
+-- the hits that the search still has to give are those from the place on
+abbrev pub IsLeft : GraphView → Molecule → List ℕ → Search → Type 0
+IsLeft graph mol place search = IsLeftAt graph mol place search.stage search.walk.images.items search.walk.depth search.walk.above
