@@ -4,8 +4,8 @@ use Rattle.mk_model.specs.Molecules.{Molecule, edges}
 use Rattle.mk_fixtures.proofs.FixtureLemmas.{graph-in_order, molecule-built}
 use Rattle.mk_fixtures.proofs.building.mol_of.Goals as goal
 
-pub of-requires : goal.of-requires
-of-requires c = (graph-in_order _ _ (c.are_in_order.ensures c.if-not-are_in_order.false)).ends
+pub of-requires-clause-ends : goal.of-requires-clause-ends
+of-requires-clause-ends c = (graph-in_order _ _ (c.are_in_order.ensures c.if-not-are_in_order.false)).ends
 
 pub marked_bonds-requires-clause-simple : goal.marked_bonds-requires-clause-simple
 marked_bonds-requires-clause-simple c = graph-in_order _ _ (c.are_in_order.ensures c.if-not-are_in_order.false)
