@@ -7,7 +7,7 @@ ghost use Rattle.mk_model.specs.Graphs.{graph_edge, graph_edges};
 ghost use Rattle.mk_tests.specs.Numbered.{passes_at};
 
 use crate::ends::leads_to_drawn_hydrogen;
-use crate::numbered::drawn_bond_numbered;
+use crate::numbered::graph_bond_numbered;
 use mk_model::{Graph, GraphAtom, GraphBond};
 
 /// The bonds of atom x that lead to a drawn hydrogen.
@@ -59,7 +59,7 @@ fn drawn_rings_among(bonds: &[GraphBond], numbers: &[u32]) -> usize
 {
     let mut count = 0;
     for number in numbers {
-        if drawn_bond_numbered(bonds, *number).ring {
+        if graph_bond_numbered(bonds, *number).ring {
             count += 1;
         }
     }
