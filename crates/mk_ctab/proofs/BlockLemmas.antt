@@ -16,8 +16,9 @@ use Rattle.mk_form.proofs.Fronts.{completes-give, completes-line, completes-line
 use Rattle.mk_props.specs.declared.property.Property.{Property}
 use Rattle.mk_props.specs.declared.property.Property.TheVariants as kinds
 use Rattle.mk_props.specs.Property.{IsProperty}
-use Rattle.mk_props.specs.Reading.{◌>>=◌, cell_of, property_of, letter_line_of, m_line_of}
-use Rattle.mk_props.proofs.PropertyLemmas.{law}
+use Rattle.mk_text.specs.Options.{◌>>=◌}
+use Rattle.mk_props.specs.Reading.{cell_of, property_of, letter_line_of, m_line_of}
+use Rattle.mk_props.proofs.ForCallers.{properties_are_read}
 use Rattle.mk_ctab.specs.TableLines.{Line, is_v3000}
 use Rattle.mk_ctab.specs.Table.{IsKept, IsKeptLine, IsPassedOver, IsBlock}
 use Rattle.mk_ctab.specs.TableReading.{is_end, is_some_end, is_end_line, before_end, property_before_end, after_property, block, kept_in, properties_part}
@@ -150,7 +151,7 @@ to_kept p lines front back v kept whole one after =
     let made : IsKeptLine lines p = record {
       line = one.line;
       whole = whole ∙ ap (λ (x : List Line). x ++ back) one.whole ∙ ap (λ (x : List Line). one.line ∷ x) after.0;
-      is = (law one.line p).0 (before_is (property_of one.line) p one.spells);
+      is = (properties_are_read one.line p).0 (before_is (property_of one.line) p one.spells);
       kept = kept;
     } in
     subst (IsBlock lines) (sym after.1) made
@@ -162,7 +163,7 @@ to_block_by (kinds.Passed n) lines front back v whole one after =
       line = one.line;
       after = back;
       whole = whole ∙ ap (λ (x : List Line). x ++ back) one.whole;
-      is = (law one.line (kinds.Passed (length back))).0 (before_is (property_of one.line) (kinds.Passed n) one.spells ∙ ap (λ (k : ℕ). Some (kinds.Passed k)) (sym after.is));
+      is = (properties_are_read one.line (kinds.Passed (length back))).0 (before_is (property_of one.line) (kinds.Passed n) one.spells ∙ ap (λ (k : ℕ). Some (kinds.Passed k)) (sym after.is));
     } in
     subst (IsBlock lines) (sym after.seen) made
 to_block_by kinds.End lines front back v whole one after = absurd (before_never (property_of one.line) one.spells)
@@ -174,7 +175,7 @@ to_block lines v h = to_block_by h.middle lines h.front h.back v h.whole h.first
 
 -- what a line that is a property says
 line_says : (l : Line) (p q : Property) → IsProperty l p → before_end p ≡ Some q → property_before_end l ≡ Some q
-line_says l p q is before = rw ((law l p).1 is) before
+line_says l p q is before = rw ((properties_are_read l p).1 is) before
 
 -- what stands behind a property that is kept
 nothing_behind : (p : Property) → IsKept p → (after_property p).is [] (Some p)
@@ -216,8 +217,8 @@ from_blocks = series_map IsBlock block.is from_block
 
 -- a line that passes the test of the end is the end
 pub end_found : (l : Line) → is_end_line l ≡ true → IsProperty l kinds.End
-end_found l h = (law l kinds.End).0 (shows_is (property_of l) h)
+end_found l h = (properties_are_read l kinds.End).0 (shows_is (property_of l) h)
 
 -- and the end passes it
 pub end_given : (l : Line) → IsProperty l kinds.End → is_end_line l ≡ true
-end_given l is = rw ((law l kinds.End).1 is) refl
+end_given l is = rw ((properties_are_read l kinds.End).1 is) refl

@@ -9,10 +9,9 @@ use Rattle.std.proofs.lemmas.List.Elements.{recursion_from_All}
 use Rattle.mk_text.specs.Columns.{columns, trimmed}
 use Rattle.mk_text.specs.Fields.{field_of, field_in, digits_number}
 use Rattle.mk_text.specs.Spelling.{right_in}
-use Rattle.mk_text.proofs.SpellingLemmas.{columns_between, read_again}
-use Rattle.mk_text.proofs.TrimLemmas.{trimmed_padded}
+use Rattle.mk_text.proofs.ForCallers.{columns_between, right_justified_is_read, trimmed_padded}
 use Rattle.mk_props.specs.Lists.{flag_text}
-use Rattle.mk_props.specs.Reading.{◌>>=◌, count_in, not_negative, entries_of}
+use Rattle.mk_text.specs.Options.{◌>>=◌, count_in, not_negative, entries_of}
 use Rattle.mk_ctab.specs.declared.raw.RawAtom.{RawAtom}
 use Rattle.mk_ctab.specs.declared.raw.RawBond.{RawBond}
 use Rattle.mk_ctab.specs.declared.raw.RawList.{RawList}
@@ -187,7 +186,7 @@ digit_is_read n small =
     let digit : decimal n ≡ (48 + n) ∷ [] = decimal_digit n small in
     let one : length (decimal n) ≡ 1 = ap length digit in
     let plain : right_in 1 n ≡ decimal n = ap (λ (k : ℕ). replicate (1 - k) 32 ++ decimal n) one in
-    ap field_in (sym plain ∙ sym (columns_between [] (right_in 1 n) [] 1 1 refl (omega (arith, ap length plain)))) ∙ read_again [] [] 1 n (omega arith) (omega arith)
+    ap field_in (sym plain ∙ sym (columns_between [] (right_in 1 n) [] 1 1 refl (omega (arith, ap length plain)))) ∙ right_justified_is_read [] [] 1 n (omega arith) (omega arith)
 
 -- a count from 1 to most passes
 count_passes : (most n : ℕ) → 1 ≤ n → n ≤ most → count_in most (pos n) ≡ Some n

@@ -6,7 +6,7 @@ use Rattle.std.proofs.lemmas.List.Sums.{sum_by-append}
 use Rattle.std.proofs.lemmas.Bool.{leb-true, ltb-true}
 use Rattle.std.proofs.lemmas.Bool.Decides.{nat_tests}
 use Rattle.std.proofs.lemmas.List.{append-nil}
-use Rattle.mk_text.proofs.TestLemmas.{both, neither, not_true}
+use Rattle.mk_text.proofs.ForCallers.{both, neither, not_true}
 use Rattle.mk_ctab.specs.declared.plain_table.PlainBond.{PlainBond}
 use Rattle.mk_ctab.specs.declared.plain_table.PlainTable.{PlainTable}
 use Rattle.mk_ctab.specs.declared.plain_lines.PlainCounts.{PlainCounts}

@@ -4,7 +4,7 @@ use Rattle.std.specs.Option.{option_and_then}
 use Rattle.std.specs.List.{AllZip}
 use Rattle.std.proofs.lemmas.Bool.{lt-ltb, ltb-true, ltb-false, le-ltb}
 use Rattle.std.proofs.lemmas.List.{take-append-drop, drop_more, take_at, drop_at, append_assoc, length-append, length-take, length-drop, append-nil, get_or_at, drop-drop}
-use Rattle.mk_text.proofs.TestLemmas.{both, not_false}
+use Rattle.mk_text.proofs.ForCallers.{both, not_false}
 use Rattle.mk_ctab.specs.declared.plain_table.PlainBond.{PlainBond}
 use Rattle.mk_ctab.specs.declared.plain_table.PlainTable.{PlainTable}
 use Rattle.mk_ctab.specs.declared.plain_lines.PlainCounts.{PlainCounts}

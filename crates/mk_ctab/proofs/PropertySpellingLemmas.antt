@@ -6,7 +6,7 @@ use Rattle.std.proofs.lemmas.List.{length-append, drop_at, drop_all}
 use Rattle.std.proofs.lemmas.List.Elements.{recursion_from_All}
 use Rattle.mk_text.specs.Columns.{columns, is_space, trimmed}
 use Rattle.mk_text.specs.Fields.{IsField, digits_number}
-use Rattle.mk_text.proofs.FieldLemmas.{law}
+use Rattle.mk_text.proofs.ForCallers.{fields_are_read}
 use Rattle.mk_props.specs.declared.property.AtomList.{AtomList}
 use Rattle.mk_props.specs.declared.property.LogicLine.{LogicLine}
 use Rattle.mk_props.specs.declared.property.Property.{Property}
@@ -21,7 +21,7 @@ use Rattle.mk_ctab.specs.TableSpelling.{spaced, count_text, at_left, wide_symbol
 use Rattle.mk_ctab.proofs.ThreeLemmas.{length-three, count_fits, end_behind}
 use Rattle.mk_ctab.proofs.StandingLemmas.{columns_padded, StandsBehind, first, alone, behind, within, text_at, field_at, length-spaced, spaced_at, entry_at}
 use Rattle.mk_ctab.proofs.LineSpellingLemmas.{at_place, each_of, length-flag, length-at_left, trimmed-at_left}
-use Rattle.mk_ctab.proofs.EndLemmas.{Empty, Last, ending_of, plain_last, IsPadded, trimmed_is_core, trimmed_ended, length-trimmed, padded_symbols, before_range, range_behind, padded_logic}
+use Rattle.mk_ctab.proofs.EndLemmas.{Empty, Last, ending_of, last_ends, IsPadded, trimmed_is_core, trimmed_ended, length-trimmed, padded_symbols, before_range, range_behind, padded_logic}
 use Rattle.mk_ctab.proofs.EntrySpellingLemmas.{pairs_are_read, links_are_read, order_is_read}
 
 -- ---- lines without the blanks at their ends
@@ -127,7 +127,7 @@ record IsWideLogic (line : Line) (logic : LogicLine) : Type 0 where
 -- the number 1 in three columns
 one_is_field : IsField (codes "  1") (pos 1)
 unfolding digits_number
-one_is_field = (law (codes "  1") (pos 1)).0 refl
+one_is_field = (fields_are_read (codes "  1") (pos 1)).0 refl
 
 wide_logic_is_read : (logic : LogicLine) → LogicFits logic → IsWideLogic (wide_logic_line logic) logic
 wide_logic_is_read logic fits =
@@ -179,7 +179,7 @@ range_left logic fits range =
           let short : length (trimmed line) ≤ 22 = omega (arith, length-trimmed line, ap length (sym whole), length-append before logic.range, ap length none) in
           drop_all 22 (trimmed line) short ∙ sym none
       | Last front last is ↦
-          let kept : trimmed line ≡ before ++ logic.range = trimmed_ended line (before ++ logic.range) (sym whole) (end_behind before logic.range (plain_last logic.range front last is range.no_blank range.no_cr)) refl in
+          let kept : trimmed line ≡ before ++ logic.range = trimmed_ended line (before ++ logic.range) (sym whole) (end_behind before logic.range (last_ends logic.range front last is range.no_blank range.no_cr)) refl in
           ap (drop 22) kept ∙ drop_at before logic.range 22 size
     ]
 

@@ -1,13 +1,11 @@
 -- What the readers of a table know that go through its lines by an index.
 use Rattle.std.proofs.Common.{◌≡◌, ℕ, ◌+◌, ◌≤◌, ◌<◌, true, false, Option, Some, None, Err, List, [], ◌∷◌, ◌++◌, length, get_or, drop, refl, sym, ap, subst, ◌∙◌}
-use Rattle.mk_form.specs.Exact.{Part}
 use Rattle.mk_form.specs.Lines.{line_where, passing, read_line}
 use Rattle.mk_form.specs.Reading.{Reading, Took, and_then, TakesLines, StopsAtLine}
-use Rattle.mk_form.specs.Rows.{rows, any_lines}
+use Rattle.mk_form.specs.Rows.{any_lines}
 use Rattle.mk_form.proofs.ByIndex.{line_yes, line_no, stops_first, takes_first}
 use Rattle.mk_form.proofs.Lines.{does_pass}
-use Rattle.mk_form.proofs.RowLoops.{RowsLeft, rows_left_stop}
-use Rattle.mk_form.proofs.UntilLoops.{UntilLeft, until_left_start, until_left_item, until_left_stop, until_left_past, until_left_end}
+use Rattle.mk_form.proofs.UntilLoops.{UntilLeft, until_left_start, until_left_item, until_left_past, until_left_end}
 use Rattle.mk_props.specs.declared.property.Property.{Property}
 use Rattle.mk_props.specs.declared.property.Property.TheVariants as kinds
 use Rattle.mk_props.specs.Reading.{property_of}
@@ -16,25 +14,8 @@ use Rattle.mk_ctab.specs.declared.fault.TableFault.TheVariants.{Bad, V3000, Memo
 use Rattle.mk_ctab.specs.Table.{IsKept, values_of}
 use Rattle.mk_ctab.specs.TableLines.{Line}
 use Rattle.mk_ctab.specs.TableReading.{AnswersProperty, Fails, is_end_line, property_before_end, after_property, block, blocks_part, kept_in, properties_part}
+use Rattle.mk_ctab.proofs.FaultLemmas.{fails_first, fails_second, until_fails}
 use Rattle.mk_ctab.proofs.BlockLemmas.{before_kept, kept_is_no_end, exact-block, exact-end, shows-block, shows-end}
-
--- ---- a fault of a part
-
--- where the first of two parts fails, both do
-pub fails_first : {X V : Type 0} (lines : List Line) (e : TableFault) (reading : Reading Line X) (f : X → List Line → Reading Line V) → Fails lines e reading → Fails lines e (and_then reading f)
-fails_first lines (Bad k) reading f h = stops_first lines false k reading f h
-fails_first lines (V3000 k) reading f h = stops_first lines true k reading f h
-fails_first lines Memory reading f h = tt
-
--- where the first takes lines, both fail where the second does
-pub fails_second : {X V : Type 0} (lines : List Line) (e : TableFault) (count : ℕ) (x : X) (reading : Reading Line X) (f : X → List Line → Reading Line V) → TakesLines lines count x reading → Fails lines e (f x (drop count lines)) → Fails lines e (and_then reading f)
-fails_second lines e count x reading f takes h = subst (Fails lines e) (sym (takes_first lines count x reading f takes)) h
-
--- where a row fails, the rows do
-pub rows_fail : {X : Type 0} (p : Part Line X) (lines : List Line) (from count : ℕ) (front : List X) (i at : ℕ) (e : TableFault) → i < count → RowsLeft p lines from count front i at → Fails lines e (p.read (drop at lines)) → Fails lines e ((rows count p).read (drop from lines))
-rows_fail p lines from count front i at (Bad k) lt left h = rows_left_stop p lines from count front i at k false lt left h
-rows_fail p lines from count front i at (V3000 k) lt left h = rows_left_stop p lines from count front i at k true lt left h
-rows_fail p lines from count front i at Memory lt left h = tt
 
 -- ---- property lines
 
@@ -142,9 +123,7 @@ module _ (lines : List Line) (from : ℕ) where
 
       -- a block that fails
       properties_stop : (e : TableFault) → is_end_line (get_or lines at []) ≡ false → Fails lines e (block.read (drop at lines)) → Fails lines e (properties_part.read (drop from lines))
-      properties_stop (Bad k) goes h = stops_first lines false k (blocks_part.read (drop from lines)) (λ v. Took (kept_in v)) (until_left_stop exact-block exact-end shows-block shows-end lines from so_far.blocks at k [] false lt goes so_far.left h)
-      properties_stop (V3000 k) goes h = stops_first lines true k (blocks_part.read (drop from lines)) (λ v. Took (kept_in v)) (until_left_stop exact-block exact-end shows-block shows-end lines from so_far.blocks at k [] true lt goes so_far.left h)
-      properties_stop Memory goes h = tt
+      properties_stop e goes h = fails_first lines e (blocks_part.read (drop from lines)) (λ v. Took (kept_in v)) (until_fails exact-block exact-end shows-block shows-end lines from so_far.blocks at [] e lt goes so_far.left h)
 
       -- a line that is passed over, and not the lines after it
       pub properties_cut : (n : ℕ) (e : TableFault) → property_of (get_or lines at []) ≡ Some (kinds.Passed n) → Fails lines e ((any_lines n).read (drop (at + 1) lines)) → Fails lines e (properties_part.read (drop from lines))

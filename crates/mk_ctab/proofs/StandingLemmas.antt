@@ -5,7 +5,7 @@ use Rattle.std.specs.List.{flat_map, AllByRecursion}
 use Rattle.std.proofs.lemmas.List.{take-append-le, drop-append-le, drop-drop, drop_at, length-append, length-drop, length-replicate, replicate-append-replicate, append-nil}
 use Rattle.mk_text.specs.Columns.{columns, standing}
 use Rattle.mk_text.specs.Fields.{IsField, field_of, field_in}
-use Rattle.mk_text.proofs.SpellingLemmas.{columns_between}
+use Rattle.mk_text.proofs.ForCallers.{columns_between}
 use Rattle.mk_props.specs.Entries.{IsSpacedNumber}
 use Rattle.mk_ctab.specs.TableSpelling.{three, spaced, FitsThree}
 use Rattle.mk_ctab.proofs.ThreeLemmas.{length-three, three_is_read, three_is_field}

@@ -11,13 +11,11 @@ use Rattle.mk_form.specs.Lines.{OneLine}
 use Rattle.mk_form.specs.Rows.{Series}
 use Rattle.mk_text.specs.Columns.{columns}
 use Rattle.mk_text.specs.Fields.{Sign, NoSign, Plus, Minus, signed, sign_text, IsField, field_of}
-use Rattle.mk_text.proofs.DigitLemmas.{all_digits}
+use Rattle.mk_text.proofs.ForCallers.{both, all_digits, both_read, test_passed, field_found}
 use Rattle.mk_props.specs.declared.property.Property.{Property}
 use Rattle.mk_props.specs.declared.property.Property.TheVariants as kinds
 use Rattle.mk_props.specs.Property.{IsProperty}
-use Rattle.mk_props.specs.Reading.{◌>>=◌, count_in, not_negative, entries_of}
-use Rattle.mk_props.proofs.ColumnLemmas.{and_true}
-use Rattle.mk_props.proofs.EntryLemmas.{both_read, test_passed, field_found}
+use Rattle.mk_text.specs.Options.{◌>>=◌, count_in, not_negative, entries_of}
 use Rattle.mk_ctab.specs.declared.fault.TableFault.{TableFault}
 use Rattle.mk_ctab.specs.declared.raw.RawList.{RawList}
 use Rattle.mk_ctab.specs.declared.raw.RawTable.{RawTable}
@@ -96,9 +94,9 @@ counts_few line n read =
 count_between : (most n : ℕ) (z : ℤ) → count_in most z ≡ Some n → (1 ≤ n) × (n ≤ most)
 count_between most n (pos m) read =
     let passed = test_passed (leb 1 m && leb m most) (Some m) n read in
-    let both = and_true (leb 1 m) (leb m most) passed.0 in
+    let h = both (leb 1 m) (leb m most) passed.0 in
     let same : m ≡ n = (let e = passed.1 in cc) in
-    (omega (arith, leb-true 1 m both.0, same), omega (arith, leb-true m most both.1, same))
+    (omega (arith, leb-true 1 m h.0, same), omega (arith, leb-true m most h.1, same))
 count_between most n (negsuc m) read = absurd cc
 
 -- as many entries as were asked for
@@ -188,7 +186,7 @@ keeps lines t table =
     }
 
 -- it has fewer properties than lines
-few_properties : (lines : List Line) (t : RawTable) → IsTable lines t → length t.props < length lines
+pub few_properties : (lines : List Line) (t : RawTable) → IsTable lines t → length t.props < length lines
 few_properties lines t table =
     let properties = table.properties in
     let end = table.property_lines ++ table.last_line ∷ [] in

@@ -2,8 +2,7 @@
 use Rattle.std.proofs.Common.{◌≡◌, ℕ, ◌*◌, Bool, true, false, eqb, not, ◌&&◌, ◌||◌, Option, Some, None, List, [], ◌∷◌, ◌++◌, length, refl, sym, ap, subst, ◌∙◌, inl}
 use Rattle.std.specs.Prelude.{codes, pos, bytes_eq}
 use Rattle.std.proofs.lemmas.Slice.Eq.{bytes_eq-Decides}
-use Rattle.mk_form.specs.Exact.{Part, Exact, Completes, NeverDue, Anything, AtOnce}
-use Rattle.mk_form.specs.InWords.{form}
+use Rattle.mk_form.specs.Exact.{Exact, Completes, NeverDue, Anything}
 use Rattle.mk_form.specs.Lines.{counts_line}
 use Rattle.mk_form.proofs.Fronts.{exact-form, completes-line, completes-counts_line, completes-sequence, completes-seen_as, completes-rows, completes-any_lines}
 use Rattle.mk_form.proofs.Lines.{exact-line, exact-counts_line, passes, does_pass}
@@ -13,12 +12,13 @@ use Rattle.mk_form.proofs.Seen.{exact-seen_as}
 use Rattle.mk_form.proofs.Sequence.{exact-sequence}
 use Rattle.mk_text.specs.Columns.{columns}
 use Rattle.mk_text.specs.Fields.{field_of, digits_number}
-use Rattle.mk_props.specs.Reading.{when}
+use Rattle.mk_text.specs.Options.{when}
 use Rattle.mk_ctab.specs.declared.raw.RawAtom.{RawAtom}
 use Rattle.mk_ctab.specs.declared.raw.RawTable.{RawTable}
 use Rattle.mk_ctab.specs.declared.table_lines.Counts.{Counts}
 use Rattle.mk_ctab.specs.TableLines.{Line, word_of, natural_of, is_v3000, is_v2000_or_none, counts_of, atom_numbers_of, raw_atom_of, raw_bond_of, list_flag_of, list_count_of, list_numbers_of, list_of}
 use Rattle.mk_ctab.specs.Table.{IsTable}
+use Rattle.mk_ctab.specs.TableLaws.{table_form}
 use Rattle.mk_ctab.specs.TableReading.{is_end_line, table_with, after_counts, table_part, table_at}
 use Rattle.mk_ctab.proofs.BlockLemmas.{exact-properties, never-properties, completes-properties, to_blocks, from_blocks, end_found, end_given}
 
@@ -192,12 +192,8 @@ from_table lines t h =
       };
     }
 
--- The form of tables: a line may say V3000 where a counts line is due, and that is before any line.
-abbrev pub table : Part Line RawTable
-table = form IsTable AtOnce table_at
-
 -- tables are read exactly
-pub exact-table : Exact is_v3000 Anything table
+pub exact-table : Exact is_v3000 Anything table_form
 unfolding table_at
 exact-table =
     exact-form exact-table_part completes-table_part

@@ -11,9 +11,7 @@ use mir.Val.{SFits, to_z, of_z}
 use Rattle.mk_text.specs.Columns.{is_space, are_blank, trimmed}
 use Rattle.mk_text.specs.Fields.{IsField, field_in, field_of}
 use Rattle.mk_text.specs.Spelling.{at_right, right_in, signed_decimal, signed_right_in, HasNineDigits}
-use Rattle.mk_text.proofs.FieldLemmas.{law}
-use Rattle.mk_text.proofs.SpellingLemmas.{columns_between, signed_read_again}
-use Rattle.mk_text.proofs.TrimLemmas.{trimmed_is_between}
+use Rattle.mk_text.proofs.ForCallers.{fields_are_read, columns_between, signed_right_justified_is_read, trimmed_is_between}
 use Rattle.mk_ctab.specs.TableSpelling.{three, FitsThree}
 
 -- ---- how wide the digits are
@@ -94,11 +92,11 @@ pub three_is_read : (z : ℤ) → FitsThree z → field_in (three z) ≡ Some z
 unfolding three field_of
 three_is_read z fits =
     let wide : length (three z) ≡ 3 = length-three z fits in
-    ap field_in (sym (columns_between [] (signed_right_in 3 z) [] 1 3 refl (omega arith))) ∙ signed_read_again [] [] 3 z (nine_digits z fits) (signed_narrow z fits)
+    ap field_in (sym (columns_between [] (signed_right_in 3 z) [] 1 3 refl (omega arith))) ∙ signed_right_justified_is_read [] [] 3 z (nine_digits z fits) (signed_narrow z fits)
 
 -- so they are a field with it
 pub three_is_field : (z : ℤ) → FitsThree z → IsField (three z) z
-three_is_field z fits = (law (three z) z).0 (three_is_read z fits)
+three_is_field z fits = (fields_are_read (three z) z).0 (three_is_read z fits)
 
 -- ---- ends
 

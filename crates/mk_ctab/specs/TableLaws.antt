@@ -1,10 +1,15 @@
--- What holds of the tables in a text: the statements that a function of `src/laws.rt` ensures.
-use Rattle.std.specs.Prelude.{◌≡◌, ◌↔◌, ℕ, ◌≤◌, List, length}
-use Rattle.mk_form.specs.Exact.{AtOnce}
+-- What holds of the tables in a text: the statements that functions of `src/laws.rt` ensure.
+use Rattle.std.specs.Prelude.{◌≡◌, ◌↔◌, ℕ, ◌≤◌, true, None, List, length}
+use Rattle.mk_form.specs.Exact.{Part, Exact, Anything, AtOnce}
 use Rattle.mk_form.specs.Fronts.{IsPartFrom, IsBadLineFrom, IsNamedFrom}
+use Rattle.mk_form.specs.InWords.{form}
+use Rattle.mk_text.specs.Columns.{are_blank}
 use Rattle.mk_ctab.specs.declared.raw.RawTable.{RawTable}
 use Rattle.mk_ctab.specs.Table.{IsTable}
-use Rattle.mk_ctab.specs.TableLines.{Line, is_v3000}
+use Rattle.mk_ctab.specs.TableLines.{Line, is_v3000, counts_of}
+use Rattle.mk_ctab.specs.TableReading.{table_at}
+
+-- ---- tables among the lines of a text
 
 -- the lines behind the first `at` and up to the first `next` are this table
 abbrev pub IsTableFrom : ℕ → List Line → ℕ → RawTable → Type 0
@@ -29,3 +34,18 @@ BadWhereNoTable = (at : ℕ) (lines : List Line) → at ≤ length lines → ((k
 -- and only one
 abbrev pub OneBadLine : Type 0
 OneBadLine = (at : ℕ) (lines : List Line) (j k : ℕ) → IsBadFrom at lines j → IsBadFrom at lines k → j ≡ k
+
+-- ---- tables in other forms
+
+-- The form of tables: a line may say V3000 where a counts line is due, and that is before any line. A form that holds tables
+-- is made of this part.
+abbrev pub table_form : Part Line RawTable
+table_form = form IsTable AtOnce table_at
+
+-- tables are read exactly, whatever follows them
+abbrev pub TablesAreExact : Type 0
+TablesAreExact = Exact is_v3000 Anything table_form
+
+-- a blank line is no counts line, and doesn't say V3000
+abbrev pub BlankIsNoCountsLine : Type 0
+BlankIsNoCountsLine = (line : Line) → are_blank line ≡ true → (counts_of line ≡ None) × ¬ (is_v3000 line ≡ true)

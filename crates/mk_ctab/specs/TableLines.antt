@@ -9,7 +9,7 @@ use Rattle.std.specs.List.{list_all}
 use Rattle.std.specs.Char.{is_ascii_digit}
 use Rattle.mk_text.specs.Columns.{columns, standing, trimmed}
 use Rattle.mk_text.specs.Fields.{field_of}
-use Rattle.mk_props.specs.Reading.{◌>>=◌, when, count_in, not_negative, entries_of}
+use Rattle.mk_text.specs.Options.{◌>>=◌, when, count_in, not_negative, entries_of}
 use Rattle.mk_ctab.specs.declared.raw.RawAtom.{RawAtom}
 use Rattle.mk_ctab.specs.declared.raw.RawBond.{RawBond}
 use Rattle.mk_ctab.specs.declared.raw.RawList.{RawList}

@@ -2,17 +2,19 @@
 --     table_part                      the composed part: what stands behind one line depends on what it says
 --     table_at lines                  what reading a table from the first of the lines on gives
 --     Answers lines answer reading    a reader that goes by an index answered what the reading gives
-use Rattle.std.specs.Prelude.{◌≡◌, ℕ, ◌+◌, ◌*◌, Bool, true, false, List, Option, Some, None, Result, Ok, Err}
+--     AnswersText lines answer reading     and so did one that reads the lines to the last
+use Rattle.std.specs.Prelude.{◌≡◌, ℕ, ◌+◌, ◌*◌, Bool, true, false, List, [], Option, Some, None, Result, Ok, Err}
 use Rattle.mk_form.specs.Exact.{Part}
 use Rattle.mk_form.specs.Lines.{give, line, counts_line, line_where}
-use Rattle.mk_form.specs.Reading.{Reading, TakesLines, StopsAtLine}
+use Rattle.mk_form.specs.Reading.{Reading, Took, TakesLines, StopsAtLine}
 use Rattle.mk_form.specs.Rows.{rows, any_lines}
 use Rattle.mk_form.specs.Seen.{seen_as}
 use Rattle.mk_form.specs.Sequence.{sequence}
 use Rattle.mk_form.specs.Until.{until}
 use Rattle.mk_props.specs.declared.property.Property.{Property}
 use Rattle.mk_props.specs.declared.property.Property.TheVariants as kinds
-use Rattle.mk_props.specs.Reading.{◌>>=◌, property_of}
+use Rattle.mk_text.specs.Options.{◌>>=◌}
+use Rattle.mk_props.specs.Reading.{property_of}
 use Rattle.mk_ctab.specs.declared.fault.TableFault.{TableFault}
 use Rattle.mk_ctab.specs.declared.fault.TableFault.TheVariants.{Bad, V3000, Memory}
 use Rattle.mk_ctab.specs.declared.raw.RawAtom.{RawAtom}
@@ -110,6 +112,11 @@ Fails lines Memory reading = Unit {0}
 abbrev pub Answers : {V : Type 0} → List Line → Result (V × ℕ) TableFault → Reading Line V → Type 0
 Answers lines (Ok answer) reading = TakesLines lines answer.1 answer.0 reading
 Answers lines (Err fault) reading = Fails lines fault reading
+
+-- the reading gave this value and took all lines
+abbrev pub AnswersText : {V : Type 0} → List Line → Result V TableFault → Reading Line V → Type 0
+AnswersText lines (Ok value) reading = reading ≡ Took value []
+AnswersText lines (Err fault) reading = Fails lines fault reading
 
 -- the same of one line, that of index `at`
 abbrev pub AnswersLine : {V : Type 0} → List Line → ℕ → Result V TableFault → Reading Line V → Type 0

@@ -1,6 +1,6 @@
 // Laws over the definitions alone, each carried by a function that does nothing.
 ghost use Rattle.mk_ctab.specs.PlainReading.{PlainFilesAreRead};
-ghost use Rattle.mk_ctab.specs.TableLaws.{OneTable, BadWhereNoTable, OneBadLine};
+ghost use Rattle.mk_ctab.specs.TableLaws.{OneTable, BadWhereNoTable, OneBadLine, TablesAreExact, BlankIsNoCountsLine};
 
 /// Lines are a plain file with a table exactly where reading them gives that table. So a text is at most one plain file,
 /// with one table.
@@ -8,9 +8,16 @@ pub fn plain_file_is_exact()
     ensures { PlainFilesAreRead }
 {}
 
-/// A text is at most one table at a line of it, with one end, and it has one bad line exactly where it has no table there.
+/// A text is at most one table at a line of it, with one end, and it has one bad line exactly where it has no table there. As
+/// a part of other forms a table is read exactly, so that the laws of mk_form hold of each form that is made of it.
 pub fn table_is_exact()
     ensures one { OneTable }
     ensures bad { BadWhereNoTable }
     ensures one_bad { OneBadLine }
+    ensures exact { TablesAreExact }
+{}
+
+/// A blank line is no counts line, and doesn't say V3000.
+pub fn blank_line_is_no_counts_line()
+    ensures { BlankIsNoCountsLine }
 {}

@@ -64,7 +64,7 @@ fn atom_at(alloc: Global, text: &[u8], lines: &[Span], at: usize) -> Result<RawA
 }
 
 // So many atom lines.
-#[tactic(auto, using(crate::proofs::LineLemmas::parts_length))]
+#[tactic(auto, using(mk_text::proofs::ForCallers::parts_length))]
 fn atoms_from(
     alloc: Global,
     text: &[u8],
@@ -101,7 +101,7 @@ fn bond_at(text: &[u8], lines: &[Span], at: usize) -> Result<RawBond, TableFault
 }
 
 // So many bond lines.
-#[tactic(auto, using(crate::proofs::LineLemmas::parts_length))]
+#[tactic(auto, using(mk_text::proofs::ForCallers::parts_length))]
 fn bonds_from(
     alloc: Global,
     text: &[u8],
@@ -139,7 +139,7 @@ fn list_at(alloc: Global, text: &[u8], lines: &[Span], at: usize) -> Result<RawL
 }
 
 // So many atom-list lines.
-#[tactic(auto, using(crate::proofs::LineLemmas::parts_length))]
+#[tactic(auto, using(mk_text::proofs::ForCallers::parts_length))]
 fn lists_from(
     alloc: Global,
     text: &[u8],
@@ -193,7 +193,7 @@ fn property_at(
 }
 
 // Property lines up to `M  END`.
-#[tactic(auto, using(crate::proofs::LineLemmas::parts_length))]
+#[tactic(auto, using(mk_text::proofs::ForCallers::parts_length))]
 fn properties_from(
     alloc: Global,
     text: &[u8],
@@ -221,7 +221,7 @@ fn properties_from(
     Err(TableFault::Bad { line: at + 1 })
 }
 
-#[tactic(auto, using(crate::proofs::LineLemmas::parts_length))]
+#[tactic(auto, using(mk_text::proofs::ForCallers::parts_length))]
 fn table_from(
     alloc: Global,
     text: &[u8],

@@ -1,6 +1,7 @@
--- Where no line of a part may say its name.
-use Rattle.std.proofs.Common.{ℕ, zero, suc, Bool, Option, List, inl, inr}
-use Rattle.mk_form.specs.Exact.{Part, NeverDue}
+-- Where no line of a part may say its name, and where one may behind lines that aren't looked at.
+use Rattle.std.proofs.Common.{◌≡◌, ℕ, zero, suc, Bool, Option, List, [], length, sym, ap, inl, inr, arith}
+use Rattle.std.proofs.lemmas.List.{append-nil, length-append}
+use Rattle.mk_form.specs.Exact.{Part, NeverDue, AtOnce}
 use Rattle.mk_form.specs.Lines.{give, line}
 use Rattle.mk_form.specs.Sequence.{sequence}
 use Rattle.mk_form.specs.Seen.{seen_as, with_lines}
@@ -71,3 +72,14 @@ never-either p second = record { never = second.never }
 -- in the same part in other words
 pub never-in_words : {L V : Type 0} {p q : Part L V} → InWords p q → NeverDue p → NeverDue q
 never-in_words w none = record { never = λ lines d. none.never lines (w.due_from lines d) }
+
+-- a name due behind n lines, in a part where it is due at once, is due behind exactly n lines
+pub due_behind_any : {L V : Type 0} (n : ℕ) (p : Unit {0} → Part L V) → ((u : Unit {0}) (lines : List L) → (p u).due lines → AtOnce lines) → (lines : List L) → (sequence (any_lines n) p).due lines → length lines ≡ n
+due_behind_any n p at_once lines d = elim d [
+  | inl d ↦ absurd d
+  | inr d ↦ omega (arith, ap length d.whole, length-append d.front d.back, ap length (at_once d.middle d.back d.second), d.first)
+]
+
+-- and there it is
+pub due_behind_exactly : {L V : Type 0} (n : ℕ) (p : Unit {0} → Part L V) → (p tt).due [] → (lines : List L) → length lines ≡ n → (sequence (any_lines n) p).due lines
+due_behind_exactly n p due lines many = inr (record { front = lines; back = []; middle = tt; whole = sym (append-nil lines); first = many; second = due })

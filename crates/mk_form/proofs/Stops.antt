@@ -3,10 +3,10 @@ use Rattle.std.proofs.Common.{◌≡◌, ℕ, ◌+◌, ◌-◌, ◌≤◌, ◌<�
 use Rattle.std.specs.Prelude.{◌⊎◌}
 use Rattle.std.proofs.lemmas.List.{append-nil, length-append, length-drop, drop-drop, drop_at, take-append-le, take_at, take-append-drop, append_cancel_right}
 use Rattle.std.proofs.lemmas.Bool.{cases_lt}
-use Rattle.mk_form.specs.Fronts.{IsStop, IsBadLineWhere, IsPart, IsBadLineOfPartWhere}
+use Rattle.mk_form.specs.Fronts.{IsStop, IsBadLineWhere, IsPart, IsPartFrom, IsBadLineOfPartWhere, IsBadLineFromWhere}
 use Rattle.mk_form.specs.Reading.{Reading, Took, Stop, TakesLines, StopsAtLine}
 use Rattle.mk_form.specs.Exact.{Part, Exact, Anything, NoLines}
-use Rattle.mk_form.specs.StopLaws.{HasOneStop, HasOneValue, TextIsTaken, BadLineIsStop, IsTextOrBad, BadIsNoText, HasOneBadLine, HasOnePart, PartIsTaken, BadLineOfPartIsStop, IsPartOrBad, PartFromIsTaken, BadLineFromIsStop, NamedIsDue, NamedFromIsDue, StopIsNamed, StopFromIsNamed}
+use Rattle.mk_form.specs.StopLaws.{HasOneStop, HasOneValue, TextIsTaken, BadLineIsStop, IsTextOrBad, BadIsNoText, HasOneBadLine, HasOnePart, PartIsTaken, BadLineOfPartIsStop, IsPartOrBad, PartFromIsTaken, BadLineFromIsStop, HasOnePartFrom, BadFromIsNoPart, HasOneBadLineFrom, NamedIsDue, NamedFromIsDue, StopIsNamed, StopFromIsNamed}
 
 -- ---- the first line with which the lines are no longer live
 
@@ -155,6 +155,22 @@ module _ {L V : Type 0} {says : L → Bool} {Follows : List L → Type 0} {p : P
     λ i. let a = ((named_from_is_due at lines k inside).0 i).1.stop in let b = h.stop in cc,
   )
 
+  -- ---- behind the first lines of a longer text
+
+  -- a stop lies behind the line where the reading begins
+  pub stop_behind : (at : ℕ) (lines : List L) (k : ℕ) (named : Bool) → at ≤ length lines → StopsAtLine lines named k (p.read (drop at lines)) → at < k
+  stop_behind at lines k named inside stops =
+      let front = e.fits (drop at lines) (drop (k - 1) lines) named stops.stop in
+      let counted = stops.counted in
+      omega (arith, counted.0, counted.1, ap length front.whole, length-append front.front (drop (k - 1) lines), length-drop at lines, length-drop (k - 1) lines)
+
+  -- and so do the lines that are taken
+  pub taken_behind : (at : ℕ) (lines : List L) (next : ℕ) (v : V) → at ≤ length lines → TakesLines lines next v (p.read (drop at lines)) → at ≤ next
+  taken_behind at lines next v inside takes =
+      let text = e.took (drop at lines) (drop next lines) v takes.took in
+      let within = takes.within in
+      omega (arith, ap length text.whole, length-append text.front (drop next lines), length-drop at lines, length-drop next lines)
+
 -- ---- whole texts
 
 module _ {L V : Type 0} {says : L → Bool} {p : Part L V} (e : Exact says NoLines p) where
@@ -292,3 +308,52 @@ module _ {L V : Type 0} {says : L → Bool} {p : Part L V} (e : Exact says Anyth
     λ h. let s = stop_of_bad_part (drop at lines) (k - at) (p.read (drop at lines)) refl h.bad in (h.from, s.0, stop_in_text at k lines s.0 (p.read (drop at lines)) inside h.from s.1),
     λ h. record { from = h.0; bad = bad_part_of_stop (drop at lines) (k - at) h.1 (stop_in_part at k lines h.1 (p.read (drop at lines)) inside h.0 h.2) },
   )
+
+  -- a text of the form that was read behind the first lines is one
+  pub part_found : (at : ℕ) (lines : List L) (next : ℕ) (v : V) → at ≤ length lines → TakesLines lines next v (p.read (drop at lines)) → IsPartFrom p.is at lines next v
+  part_found at lines next v inside takes = (part_from_is_taken at lines next v inside).1 (taken_behind e at lines next v inside takes, takes)
+
+  -- and where the reading stopped is the bad line
+  pub bad_line_found : (at : ℕ) (lines : List L) (k : ℕ) (named : Bool) → at ≤ length lines → StopsAtLine lines named k (p.read (drop at lines)) → IsBadLineFromWhere p.live p.is at lines k
+  bad_line_found at lines k named inside stops = (bad_line_from_is_stop at lines k inside).1 (stop_behind e at lines k named inside stops, named, stops)
+
+  -- at most one begins there, with one end and one value
+  pub one_part_from : HasOnePartFrom p
+  one_part_from at lines m n v w h k =
+      let same = one_part (drop at lines) (m - at) (n - at) v w h.part k.part in
+      let from_m = h.from in
+      let from_n = k.from in
+      (omega (arith, same.0), same.1)
+
+  -- the part with which the lines from one on begin, in the whole text
+  part_in_text : (at n : ℕ) (lines : List L) (v : V) → IsPart p.is (drop at lines) n v → IsPartFrom p.is at lines (at + n) v
+  part_in_text at n lines v part =
+      let same : n ≡ (at + n) - at = omega arith in
+      record { from = omega arith; part = subst (λ (k : ℕ). IsPart p.is (drop at lines) k v) same part }
+
+  -- the bad line of the lines from one on, in the whole text
+  bad_in_text : (at k : ℕ) (lines : List L) → IsBadLineOfPartWhere p.live p.is (drop at lines) k → IsBadLineFromWhere p.live p.is at lines (at + k)
+  bad_in_text at k lines bad =
+      let counted = bad.stop.counted in
+      let same : k ≡ (at + k) - at = omega arith in
+      record { from = omega (arith, counted.0); bad = subst (IsBadLineOfPartWhere p.live p.is (drop at lines)) same bad }
+
+  -- there is a bad line exactly where none begins
+  pub bad_from_is_no_part : BadFromIsNoPart p
+  bad_from_is_no_part at lines inside = (
+    λ bad next v part. bad.1.bad.no_text (next - at) v part.part,
+    λ none. elim (part_or_bad (drop at lines)) [
+      | inl part ↦ absurd (none (at + part.0) part.1 (part_in_text at part.0 lines part.1 part.2))
+      | inr bad ↦ (at + bad.0, bad_in_text at bad.0 lines bad.1)
+    ],
+  )
+
+-- ---- one bad line behind the first lines
+
+-- at most one line is bad there
+pub one_bad_line_from : {L V : Type 0} (p : Part L V) → HasOneBadLineFrom p
+one_bad_line_from p at lines j k first second =
+    let same = one_stop p.live (drop at lines) (j - at) (k - at) first.bad.stop second.bad.stop in
+    let from_j = first.from in
+    let from_k = second.from in
+    omega (arith, same)

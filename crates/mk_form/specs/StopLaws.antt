@@ -68,6 +68,19 @@ abbrev pub BadLineFromIsStop : {L V : Type 0} → Part L V → Type 0
 BadLineFromIsStop {L} p =
     (at : ℕ) (lines : List L) (k : ℕ) → at ≤ length lines → IsBadLineFromWhere p.live p.is at lines k ↔ ((at < k) × (named : Bool) × StopsAtLine lines named k (p.read (drop at lines)))
 
+-- at most one text of the form begins behind the first lines of a longer text, with one end and one value
+abbrev pub HasOnePartFrom : {L V : Type 0} → Part L V → Type 0
+HasOnePartFrom {L} {V} p = (at : ℕ) (lines : List L) (m n : ℕ) (v w : V) → IsPartFrom p.is at lines m v → IsPartFrom p.is at lines n w → (m ≡ n) × (v ≡ w)
+
+-- there is a bad line behind the first lines exactly where no text of the form begins there
+abbrev pub BadFromIsNoPart : {L V : Type 0} → Part L V → Type 0
+BadFromIsNoPart {L} {V} p =
+    (at : ℕ) (lines : List L) → at ≤ length lines → ((k : ℕ) × IsBadLineFromWhere p.live p.is at lines k) ↔ ((next : ℕ) (v : V) → ¬ (IsPartFrom p.is at lines next v))
+
+-- and only one
+abbrev pub HasOneBadLineFrom : {L V : Type 0} → Part L V → Type 0
+HasOneBadLineFrom {L} p = (at : ℕ) (lines : List L) (j k : ℕ) → IsBadLineFromWhere p.live p.is at lines j → IsBadLineFromWhere p.live p.is at lines k → j ≡ k
+
 -- ---- the name of a line
 
 -- the reader names its stop exactly where a line is due that may say its name, and the line says it

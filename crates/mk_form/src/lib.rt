@@ -1,4 +1,5 @@
-//! Forms of text: what a front is, which line is bad, and what it is to read a form exactly.
+//! Forms of text, to be proved with; nothing of this crate runs. It says what a front is, which line is bad, and what it is to
+//! read a form exactly.
 //!
 //! A form is a relation between a whole list of lines and a value. A front is what some further lines, or none, make a text of
 //! the form. The bad line of lines that are no text is the least k for which lines 1 to k are no front, or the number of lines

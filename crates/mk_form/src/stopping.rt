@@ -2,7 +2,7 @@
 
 ghost use Rattle.std.specs.Prelude.{List};
 ghost use Rattle.mk_form.specs.Exact.{Exact, Completes, Anything, NoLines};
-ghost use Rattle.mk_form.specs.StopLaws.{HasOneStop, LivesAreFronts, HasOneValue, TextIsTaken, BadLineIsStop, IsTextOrBad, BadIsNoText, HasOneBadLine, HasOnePart, PartIsTaken, BadLineOfPartIsStop, IsPartOrBad, PartFromIsTaken, BadLineFromIsStop, NamedIsDue, NamedFromIsDue, StopIsNamed, StopFromIsNamed};
+ghost use Rattle.mk_form.specs.StopLaws.{HasOneStop, LivesAreFronts, HasOneValue, TextIsTaken, BadLineIsStop, IsTextOrBad, BadIsNoText, HasOneBadLine, HasOnePart, PartIsTaken, BadLineOfPartIsStop, IsPartOrBad, PartFromIsTaken, BadLineFromIsStop, HasOnePartFrom, BadFromIsNoPart, HasOneBadLineFrom, NamedIsDue, NamedFromIsDue, StopIsNamed, StopFromIsNamed};
 
 use crate::any::{AnyPart, AnyText};
 
@@ -44,13 +44,15 @@ pub fn bad_line_where_no_text<L, V, T: AnyText<L>, P: AnyPart<L, V>>()
 pub fn one_bad_line<L, V, P: AnyPart<L, V>>()
     ensures stop { HasOneStop P.part.live }
     ensures bad { HasOneBadLine P.part }
+    ensures behind { HasOneBadLineFrom P.part }
 {}
 
 // ---- parts of a longer text
 
 /// At most one text of the form begins with the lines, with one value.
 pub fn one_part<L, V, T: AnyText<L>, P: AnyPart<L, V>>()
-    ensures { Exact T.says Anything P.part → HasOnePart P.part }
+    ensures here { Exact T.says Anything P.part → HasOnePart P.part }
+    ensures behind { Exact T.says Anything P.part → HasOnePartFrom P.part }
 {}
 
 /// A text of the form with which the lines begin is what its reader takes.
@@ -67,7 +69,8 @@ pub fn bad_line_of_part_is_stop<L, V, T: AnyText<L>, P: AnyPart<L, V>>()
 
 /// A text of the form begins with the lines, or they have a bad line.
 pub fn part_or_bad_line<L, V, T: AnyText<L>, P: AnyPart<L, V>>()
-    ensures { Exact T.says Anything P.part → IsPartOrBad P.part }
+    ensures here { Exact T.says Anything P.part → IsPartOrBad P.part }
+    ensures behind { Exact T.says Anything P.part → BadFromIsNoPart P.part }
 {}
 
 // ---- the name of a line

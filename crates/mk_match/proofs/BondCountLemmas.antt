@@ -14,7 +14,8 @@ use Rattle.mk_model.specs.declared.graph.GraphBond.{GraphBond}
 use Rattle.mk_model.specs.Edges.{HasEnds, IsBetween, Joins, numbers_at, numbers_from, touches}
 use Rattle.mk_model.specs.Molecules.{IsMolecule, Molecule, edge_of, edges}
 use Rattle.mk_model.specs.Graphs.{GraphView, IsGraph, graph_edge, graph_edges}
-use Rattle.mk_model.specs.Fitting.{LiesOn, other_end}
+use Rattle.mk_model.specs.Fitting.{LiesOn}
+use Rattle.mk_model.specs.Edges.{other_end}
 use Rattle.mk_model.specs.Hits.{image, IsHit}
 use Rattle.mk_model.proofs.ForCallers.{IsNumberOf, numbers_at-each}
 use Rattle.mk_model.proofs.PlaceLemmas.{at_place}

@@ -7,8 +7,8 @@ use Rattle.std.proofs.lemmas.Bool.Decides.{nat_tests}
 use Rattle.std.proofs.lemmas.List.{get_or-map, length-map}
 use Rattle.std.proofs.lemmas.List.Kept.{AllPairs-cons}
 use Rattle.std.proofs.lemmas.List.Sums.{sum_by-cons}
-use Rattle.mk_model.specs.declared.asking.Kind.{Kind}
-use Rattle.mk_model.specs.declared.asking.Kind.TheVariants.{Element, OneOf, NoneOf, NotHydrogen, Hetero, Anything}
+use Rattle.mk_model.specs.declared.atom_test.Kind.{Kind}
+use Rattle.mk_model.specs.declared.atom_test.Kind.TheVariants.{Element, OneOf, NoneOf, NotHydrogen, Hetero, Anything}
 use Rattle.mk_model.specs.declared.graph.GraphAtom.{GraphAtom}
 use Rattle.mk_model.specs.declared.molecule.Atom.{Atom}
 use Rattle.mk_model.specs.Molecules.{Molecule}

@@ -5,7 +5,7 @@
 use Rattle.std.specs.Prelude.{◌≡◌, ◌<◌, ◌≤◌, ◌-◌, nat_le, min, ℕ, List, Option, Some, None, slice_get, All, if◌then◌else◌}
 use Rattle.mk_model.specs.declared.molecule.MolBond.{MolBond}
 use Rattle.mk_model.specs.Molecules.{Molecule, IsBondOf, edge_of}
-use Rattle.mk_model.specs.Fitting.{other_end}
+use Rattle.mk_model.specs.Edges.{other_end}
 
 -- some bond of the molecule joins the two atoms
 abbrev pub AreBonded : Molecule → ℕ → ℕ → Type 0

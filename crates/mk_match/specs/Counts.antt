@@ -2,8 +2,8 @@
 --     asks_for z atom, is_of z atom      the atom asks for this element alone; the atom is of this element
 --     HasNoHit graph mol                 there is no hit
 use Rattle.std.specs.Prelude.{◌==◌, ℕ, Bool, false, List}
-use Rattle.mk_model.specs.declared.asking.Kind.{Kind}
-use Rattle.mk_model.specs.declared.asking.Kind.TheVariants.{Element}
+use Rattle.mk_model.specs.declared.atom_test.Kind.{Kind}
+use Rattle.mk_model.specs.declared.atom_test.Kind.TheVariants.{Element}
 use Rattle.mk_model.specs.declared.graph.GraphAtom.{GraphAtom}
 use Rattle.mk_model.specs.declared.molecule.Atom.{Atom}
 use Rattle.mk_model.specs.Molecules.{Molecule}

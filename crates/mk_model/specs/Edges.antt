@@ -3,16 +3,27 @@
 --     Joins bonds b x y         the bond at place b joins x and y
 --     HasKind bonds b kind      the bond at place b has this type
 --     AreBetween atoms bonds    ends are atoms and differ
---     IsSimple atoms bonds       ends are atoms and differ, and no two bonds join one pair
+--     IsEdgeBefore edge later   the order of bonds: by their first ends, then by their second ends
+--     other_end n edge          the end that isn't atom n
+--     IsSimple atoms bonds      ends are atoms and differ, and no two bonds join one pair
 --     touches n edge            the bond ends at atom n
+--     degree bonds n            how many bonds end at atom n
 --     numbers_at bonds n        the numbers of the bonds of atom n, rising
 --     rows_of atoms bonds       the lists of all atoms
-use Rattle.std.specs.Prelude.{◌≡◌, ◌≢◌, ◌≤◌, ◌+◌, ◌==◌, ◌||◌, ◌⊎◌, Bool, ℕ, zero, suc, List, [], ◌∷◌, ◌++◌, Some, All, slice_get, if◌then◌else◌}
+use Rattle.std.specs.Prelude.{◌≡◌, ◌≢◌, ◌≤◌, ◌<◌, ◌+◌, ◌==◌, ◌||◌, ◌⊎◌, Bool, ℕ, zero, suc, List, [], ◌∷◌, ◌++◌, Some, All, count_by, slice_get, if◌then◌else◌}
 use Rattle.mk_model.specs.declared.edge.Edge.{Edge}
 
 -- the bond's ends are x and y, in either order
 abbrev pub HasEnds : Edge → ℕ → ℕ → Type 0
 HasEnds edge x y = ((edge.first ≡ x) × (edge.second ≡ y)) ⊎ ((edge.first ≡ y) × (edge.second ≡ x))
+
+-- a bond stands before another whose first end is higher, or the same and its second end higher
+abbrev pub IsEdgeBefore : Edge → Edge → Type 0
+IsEdgeBefore edge later = (edge.first < later.first) ⊎ ((edge.first ≡ later.first) × (edge.second < later.second))
+
+-- the end of a bond that isn't atom n
+abbrev pub other_end : ℕ → Edge → ℕ
+other_end n edge = if edge.first == n then edge.second else edge.first
 
 -- the bond at place b joins x and y
 pub record Joins (bonds : List Edge) (b x y : ℕ) : Type 0 where
@@ -44,6 +55,10 @@ pub record IsSimple (atoms : ℕ) (bonds : List Edge) : Type 0 where
 -- the bond ends at atom n
 abbrev pub touches : ℕ → Edge → Bool
 touches n edge = edge.first == n || edge.second == n
+
+-- how many bonds end at atom n
+abbrev pub degree : List Edge → ℕ → ℕ
+degree bonds n = count_by (touches n) bonds
 
 -- the numbers of the bonds of atom n, rising, where the first bond of the list has the number k
 abbrev pub numbers_from : ℕ → List Edge → ℕ → List ℕ

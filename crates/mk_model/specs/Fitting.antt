@@ -3,23 +3,18 @@
 --     drawn_hydrogens graph x, drawn_others graph x, drawn_rings graph x     the same of atom x of a graph
 --     FitsAtom graph mol x m       atom x of the graph accepts atom m of the molecule
 --     LiesOn mol asked a b         a bond of the molecule joins a and b and meets the test of a bond of the graph
-use Rattle.std.specs.Prelude.{◌≡◌, ◌==◌, ◌&&◌, ◌-◌, ℕ, Bool, false, not, List, Option, Some, None, slice_get, count_by, IsTrue, if◌then◌else◌}
+use Rattle.std.specs.Prelude.{◌≡◌, ◌==◌, ◌&&◌, ◌-◌, ℕ, Bool, false, not, List, Option, Some, None, slice_get, count_by, IsTrue}
 use Rattle.std.specs.List.{list_any}
-use Rattle.mk_model.specs.declared.edge.Edge.{Edge}
-use Rattle.mk_model.specs.declared.asking.Kind.{Kind}
-use Rattle.mk_model.specs.declared.asking.Kind.TheVariants.{Element}
+use Rattle.mk_model.specs.declared.atom_test.Kind.{Kind}
+use Rattle.mk_model.specs.declared.atom_test.Kind.TheVariants.{Element}
 use Rattle.mk_model.specs.declared.graph.GraphAtom.{GraphAtom}
 use Rattle.mk_model.specs.declared.graph.GraphBond.{GraphBond}
 use Rattle.mk_model.specs.declared.molecule.Atom.{Atom}
 use Rattle.mk_model.specs.declared.molecule.MolBond.{MolBond}
-use Rattle.mk_model.specs.Edges.{touches}
+use Rattle.mk_model.specs.Edges.{other_end, touches}
 use Rattle.mk_model.specs.Molecules.{Molecule, IsBondOf, edge_of}
 use Rattle.mk_model.specs.Graphs.{GraphView, graph_edge}
 use Rattle.mk_model.specs.Tests.{accepts, charge_fits, radical_fits, hydrogens_fit, ring_bonds_fit, substitution_fits, unsaturation_fits, is_unsaturated, meets}
-
--- the end of a bond that isn't atom n
-abbrev pub other_end : ℕ → Edge → ℕ
-other_end n edge = if edge.first == n then edge.second else edge.first
 
 -- ---- around an atom of a molecule
 

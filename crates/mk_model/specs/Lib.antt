@@ -6,5 +6,15 @@ pub mod Aromatic
 pub mod Molecules
 pub mod Tests
 pub mod Graphs
+pub mod BondOrder
 pub mod Fitting
 pub mod Hits
+pub mod Templates
+pub mod Queries
+pub mod Labels
+pub mod Sizes
+pub mod QueryFits
+pub mod Codes
+pub mod Logic
+pub mod OpenSlots
+pub mod PlainCodes

@@ -1,14 +1,15 @@
 -- What the atoms and the bonds of a query ask, each test over the numbers that it compares.
 --     IsTestInRange test            the numbers of an atom's test are those that a query may have
+--     IsBondInRange k t             a type and a topology are those that a bond of a query may have
 --     accepts kind element          the kind takes the element
 --     charge_fits .. unsaturation_fits      the other tests of an atom
 --     meets asked bond              a bond of a molecule meets the test of a bond of a graph
 use Rattle.std.specs.Prelude.{◌≡◌, ◌≤◌, ◌+◌, ◌-◌, ◌==◌, ◌&&◌, ◌||◌, ◌≤ℤ◌, ℕ, ℤ, pos, negsuc, Bool, true, not, nat_le, List, length, All, if◌then◌else◌}
 use Rattle.std.specs.List.{list_any}
 use Rattle.std.specs.Ordering.{int_eq}
-use Rattle.mk_model.specs.declared.asking.Kind.{Kind}
-use Rattle.mk_model.specs.declared.asking.Kind.TheVariants.{Element, OneOf, NoneOf, NotHydrogen, Hetero, Anything}
-use Rattle.mk_model.specs.declared.asking.AtomTest.{AtomTest}
+use Rattle.mk_model.specs.declared.atom_test.Kind.{Kind}
+use Rattle.mk_model.specs.declared.atom_test.Kind.TheVariants.{Element, OneOf, NoneOf, NotHydrogen, Hetero, Anything}
+use Rattle.mk_model.specs.declared.atom_test.AtomTest.{AtomTest}
 use Rattle.mk_model.specs.declared.graph.GraphBond.{GraphBond}
 use Rattle.mk_model.specs.declared.molecule.MolBond.{MolBond}
 use Rattle.mk_model.specs.Molecules.{IsElement}
@@ -40,10 +41,10 @@ pub record IsTestInRange (test : AtomTest) : Type 0 where
   pub no_single_ring_bond : test.ring_bonds ≡ pos 1 → ⊥
   pub substitution : (negsuc 1 ≤ℤ test.substitution) × (test.substitution ≤ℤ pos 6)
 
--- bond type 1 to 8, topology 0 to 2
-pub record IsBondInRange (bond : GraphBond) : Type 0 where
-  pub kind : (1 ≤ bond.kind) × (bond.kind ≤ 8)
-  pub topology : bond.topology ≤ 2
+-- a bond of this type and this topology may stand in a query: type 1 to 8, topology 0 to 2
+pub record IsBondInRange (k t : ℕ) : Type 0 where
+  pub kind : (1 ≤ k) × (k ≤ 8)
+  pub topology : t ≤ 2
 
 -- ---- an atom
 

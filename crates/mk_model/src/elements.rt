@@ -1,5 +1,5 @@
 // Short lists of elements.
-ghost use Rattle.std.specs.Prelude.{◌≡◌, ◌++◌, ◌∷◌, [], OnOk, OnErr};
+ghost use Rattle.std.specs.Prelude.{◌≡◌, ◌++◌, ◌∷◌, [], IfOk, OnOk, OnErr};
 
 use mk_text::Memory;
 use smallvec::SmallVec;
@@ -28,6 +28,15 @@ impl Elements {
         Elements {
             items: SmallVec::new(alloc),
         }
+    }
+
+    /// A copy. Up to sixteen elements take no memory.
+    pub fn copied(&self, alloc: Global) -> Result<Elements, Memory>
+        ensures { IfOk result (λ copy. copy ≡ self.now) }
+    {
+        Ok(Elements {
+            items: SmallVec::from_slice(alloc, self.items.as_slice())?,
+        })
     }
 
     pub fn as_slice(&self) -> &[u8]

@@ -1,8 +1,9 @@
 // Graphs of queries that keep their conditions in their type.
-ghost use Rattle.std.specs.Prelude.{◌≡◌, ◌≤◌, All, IfOk, length};
+ghost use Rattle.std.specs.Prelude.{◌≡◌, ◌≤◌, ◌<◌, ◌-◌, All, IfOk, Some, length, slice_get};
 
-use crate::asking::AtomTest;
-use crate::finding::edges_of_graph;
+use crate::atom_test::AtomTest;
+use crate::edge::Edge;
+use crate::edges::edges_of_graph;
 use crate::neighbours::Neighbours;
 use mk_text::Memory;
 use std::alloc::Global;
@@ -26,6 +27,21 @@ pub struct GraphBond {
     pub aromatic: bool,
 }
 
+impl GraphBond {
+    ghost use Rattle.mk_model.specs.Graphs.{graph_edge};
+
+    /// Gives the bond without its test and marks.
+    pub fn edge(self) -> Edge
+        ensures { result ≡ graph_edge self }
+    {
+        Edge {
+            first: self.first,
+            second: self.second,
+            kind: self.kind,
+        }
+    }
+}
+
 /// What is looked for in a molecule: atoms with their tests, and bonds. Atoms and bonds count from 1.
 #[derive(Debug, Drop)]
 pub struct Graph {
@@ -45,8 +61,8 @@ impl Model for Graph {
 }
 
 impl Graph {
-    ghost use Rattle.mk_model.specs.Edges.{numbers_at};
-    ghost use Rattle.mk_model.specs.Graphs.{GraphView, IsGraph, graph_edges};
+    ghost use Rattle.mk_model.specs.Edges.{IsBetween, numbers_at, rows_of};
+    ghost use Rattle.mk_model.specs.Graphs.{GraphView, IsGraph, graph_edge, graph_edges};
 
     /// Takes the lists over and adds the neighbour lists.
     pub fn of(alloc: Global, atoms: Vec<GraphAtom>, bonds: Vec<GraphBond>) -> Result<Graph, Memory>
@@ -55,11 +71,20 @@ impl Graph {
     {
         let edges = edges_of_graph(alloc, bonds.as_slice())?;
         let neighbours = Neighbours::of(alloc, atoms.len() as u32, edges.as_slice())?;
-        Ok(Graph {
+        Ok(Graph::over(atoms, bonds, neighbours))
+    }
+
+    /// Takes the lists over, with the neighbour lists that were made of them. It takes no memory.
+    pub fn over(atoms: Vec<GraphAtom>, bonds: Vec<GraphBond>, neighbours: Neighbours) -> Graph
+        requires graph { IsGraph (record { atoms = atoms.items; bonds = bonds.items }) }
+        requires rows { neighbours ≡ rows_of (length atoms.items) (graph_edges bonds.items) }
+        ensures { result ≡ record { atoms = atoms.items; bonds = bonds.items } }
+    {
+        Graph {
             atoms,
             bonds,
             neighbours,
-        })
+        }
     }
 
     pub fn atom_count(&self) -> u32
@@ -82,6 +107,17 @@ impl Graph {
         ensures kept { IsGraph self.now }
     {
         self.bonds.as_slice()
+    }
+
+    /// Gives the bond of number n.
+    pub fn bond(&self, n: u32) -> GraphBond
+        requires least { 1 ≤ n }
+        requires most { n ≤ length self.now.bonds }
+        ensures bond { slice_get self.now.bonds (n - 1) ≡ Some result }
+        ensures ends { IsBetween (length self.now.atoms) (graph_edge result) }
+        ensures order { result.first < result.second }
+    {
+        self.bonds()[n as usize - 1]
     }
 
     /// Gives the numbers of the bonds of atom x, rising.

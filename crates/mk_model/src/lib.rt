@@ -8,26 +8,45 @@
 //! How the marks are found is left to mk_rings, and how a table becomes a molecule to the crates above.
 #![tactic(auto)]
 
-mod asking;
+mod atom_test;
+mod bond_order;
+mod code_laws;
 mod edge;
+mod edges;
 mod elements;
-mod finding;
 mod graph;
+mod group;
 mod molecule;
 mod neighbours;
+mod query;
 mod steps;
+mod template;
 #[cfg(test)]
 mod tests;
 
-pub use asking::{AtomTest, Kind};
+pub use atom_test::{AtomTest, Kind};
+pub use bond_order::put_in_order;
+pub use code_laws::{codes_are_read_one_way, no_code_begins_another, valid_codes_are_listed};
 pub use edge::Edge;
+pub use edges::edges_of_graph;
 pub use elements::Elements;
-pub use finding::edges_of_graph;
 pub use graph::{Graph, GraphAtom, GraphBond};
-pub use mk_text::{Bytes, Memory, Numbers, Place, Text};
+pub use group::{Group, Interval, Range};
+pub use mk_text::{Bytes, Listed, Memory, Numbers, Place, Text};
 pub use molecule::{Atom, Mol, MolBond};
 pub use neighbours::Neighbours;
+pub use query::{Count, Query};
 pub use steps::Steps;
+pub use template::{QueryBond, Slot, Template};
+
+/// What a query chooses at its slots: lengths and numbers of members.
+pub type Code = Numbers;
 
 /// The atoms of a molecule on which those of a graph lie, in order.
 pub type Map = Numbers;
+
+/// A record's number, a code and a map, one behind the other.
+pub type Key = Numbers;
+
+/// Keys, in order.
+pub type Keys = Listed<Key>;

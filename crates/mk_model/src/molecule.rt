@@ -1,7 +1,8 @@
 // Molecules that keep their conditions in their type.
 ghost use Rattle.std.specs.Prelude.{◌≡◌, ◌≤◌, ◌-◌, ◌↔◌, All, IfOk, Some, length, slice_get};
 
-use crate::finding::{edges_of, find_bond};
+use crate::edge::Edge;
+use crate::edges::{edges_of, find_bond};
 use crate::neighbours::Neighbours;
 use mk_text::Memory;
 use std::alloc::Global;
@@ -25,6 +26,21 @@ pub struct MolBond {
     pub aromatic: bool,
 }
 
+impl MolBond {
+    ghost use Rattle.mk_model.specs.Molecules.{edge_of};
+
+    /// Gives the bond without its marks.
+    pub fn edge(self) -> Edge
+        ensures { result ≡ edge_of self }
+    {
+        Edge {
+            first: self.first,
+            second: self.second,
+            kind: self.kind,
+        }
+    }
+}
+
 /// A molecule: the written atoms first, then those that were added, and the bonds. Atoms and bonds count from 1.
 #[derive(Debug, Drop)]
 pub struct Mol {
@@ -45,8 +61,8 @@ impl Model for Mol {
 }
 
 impl Mol {
-    ghost use Rattle.mk_model.specs.Edges.{numbers_at};
-    ghost use Rattle.mk_model.specs.Molecules.{IsBondOf, IsElement, IsMolecule, Molecule, edges};
+    ghost use Rattle.mk_model.specs.Edges.{IsBetween, numbers_at, rows_of};
+    ghost use Rattle.mk_model.specs.Molecules.{IsBondOf, IsElement, IsMolecule, Molecule, edge_of, edges};
 
     /// Takes the lists over and adds the neighbour lists.
     pub fn of(
@@ -60,12 +76,21 @@ impl Mol {
     {
         let edges = edges_of(alloc, bonds.as_slice())?;
         let neighbours = Neighbours::of(alloc, atoms.len() as u32, edges.as_slice())?;
-        Ok(Mol {
+        Ok(Mol::over(written, atoms, bonds, neighbours))
+    }
+
+    /// Takes the lists over, with the neighbour lists that were made of them. It takes no memory.
+    pub fn over(written: u32, atoms: Vec<Atom>, bonds: Vec<MolBond>, neighbours: Neighbours) -> Mol
+        requires molecule { IsMolecule (record { written = written; atoms = atoms.items; bonds = bonds.items }) }
+        requires rows { neighbours ≡ rows_of (length atoms.items) (edges bonds.items) }
+        ensures { result ≡ record { written = written; atoms = atoms.items; bonds = bonds.items } }
+    {
+        Mol {
             atoms,
             bonds,
             neighbours,
             written,
-        })
+        }
     }
 
     pub fn atom_count(&self) -> u32
@@ -102,6 +127,16 @@ impl Mol {
         ensures kept { IsMolecule self.now }
     {
         self.bonds.as_slice()
+    }
+
+    /// Gives the bond of number n.
+    pub fn bond(&self, n: u32) -> MolBond
+        requires least { 1 ≤ n }
+        requires most { n ≤ length self.now.bonds }
+        ensures bond { slice_get self.now.bonds (n - 1) ≡ Some result }
+        ensures ends { IsBetween (length self.now.atoms) (edge_of result) }
+    {
+        self.bonds()[n as usize - 1]
     }
 
     /// Gives the numbers of the bonds of atom n, rising.

@@ -1,3 +1,12 @@
 pub mod Counts
 pub mod Told
-pub mod Memory
+pub mod Calls
+pub mod Sinks
+pub mod Sources
+pub mod Files
+pub mod Rows
+pub mod Tables
+pub mod Keepers
+pub mod Store
+pub mod Causes
+pub mod Streams

@@ -2,13 +2,20 @@
 --     Puts old new piece result           what `put` makes of the bytes so far
 --     Reads found most out result         what `read` answers on a name under which this is found
 --     Fills most out result               what is in the buffer after `read`, whether the files are told or not
+--     committed batch t result            the tables after `commit`
+-- What `read` of a source does stands in std's words (`ReadConsumes`), which the readers of std have too.
 use Rattle.std.specs.Prelude.{◌≡◌, ℕ, ◌<◌, ◌≤◌, List, [], ◌++◌, length, Option, Some, None, Result, Ok, Err, ⊤, Bool, true, false}
 use Rattle.mk_outside.specs.declared.answers.PutFail.{PutFail}
 use Rattle.mk_outside.specs.declared.answers.PutFail.TheVariants as put
 use Rattle.mk_outside.specs.declared.answers.FileFail.{FileFail}
 use Rattle.mk_outside.specs.declared.answers.FileFail.TheVariants as file
+use Rattle.mk_outside.specs.declared.answers.KeepFail.{KeepFail}
+use Rattle.mk_outside.specs.declared.answers.KeepFail.TheVariants as keep
 use Rattle.mk_outside.specs.declared.answers.ReadEnd.{ReadEnd}
 use Rattle.mk_outside.specs.declared.answers.ReadEnd.TheVariants.{Whole, TooLong}
+use Rattle.mk_outside.specs.declared.tables.Tables.{Tables}
+use Rattle.mk_outside.specs.declared.tables.Change.{Change}
+use Rattle.mk_outside.specs.Tables.{after_batch}
 
 -- ---- sinks
 
@@ -56,3 +63,15 @@ is_failed_read (Err file.Memory) = false
 abbrev pub is_absence : {A : Type 0} → Option (List ℕ) → Result A FileFail → Bool
 is_absence None (Err file.Failed) = true
 is_absence found result = false
+
+-- ---- keepers
+
+abbrev pub is_failed_keep : {A : Type 0} → Result A KeepFail → Bool
+is_failed_keep (Ok done) = false
+is_failed_keep (Err keep.Failed) = true
+is_failed_keep (Err keep.Memory) = false
+
+-- the tables after a commit: with the whole batch, or after any failure with nothing of it
+abbrev pub committed : {A E : Type 0} → List Change → Tables → Result A E → Tables
+committed batch t (Ok done) = after_batch batch t
+committed batch t (Err fail) = t

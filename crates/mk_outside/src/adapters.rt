@@ -1,14 +1,53 @@
-// The real output and the real files. They tell nothing of what they hold.
-ghost use Rattle.std.specs.Prelude.{◌≡◌, ◌≤◌, [], None, length};
+// The real input, the real output and the real files. They tell what their std parts tell, and those of the system tell
+// nothing.
+ghost use Rattle.std.specs.Prelude.{◌≡◌, ◌≤◌, [], length, None};
 
-use crate::{FileFail, Files, PutFail, ReadEnd, Sink};
+use crate::causes::{Cause, cause_of};
+use crate::streams::{put_whole, read_some, read_up_to};
+use crate::{Failed, FileFail, Files, PutFail, ReadEnd, Sink, Source};
 use std::alloc::Global;
 use std::fs::File;
-use std::io::{ErrorKind, Read, Stdout, Write};
+use std::io::{Read, Stdin, Stdout, Write};
 use std::rt;
 
-// How many bytes are asked for at once.
-const CHUNK: usize = 16_384;
+/// A reader of std, standard input where none is named.
+#[derive(Drop)]
+pub struct StdSource<R: Read = Stdin> {
+    reader: R,
+    faults: u64,
+}
+
+impl StdSource {
+    /// Standard input.
+    pub fn new(rt: &HostRuntime) -> StdSource
+        ensures { result.faults ≡ 0 }
+    {
+        StdSource::over(rt.stdin())
+    }
+}
+
+impl<R: Read> StdSource<R> {
+    pub fn over(reader: R) -> StdSource<R>
+        ensures reader { result.reader ≡ reader }
+        ensures faults { result.faults ≡ 0 }
+    {
+        StdSource { reader, faults: 0 }
+    }
+}
+
+impl<R: Read> Source for StdSource<R> {
+    ghost left = { λ s. R.remaining s.reader };
+
+    ghost faults = { λ s. s.faults };
+
+    fn read(&mut self, buf: &mut [u8]) -> Result<usize, Failed> {
+        let read = read_some(&mut self.reader, buf);
+        if read.is_err() {
+            self.faults = self.faults.saturating_add(1);
+        }
+        read
+    }
+}
 
 /// A writer of std, standard output where none is named.
 #[derive(Drop)]
@@ -28,43 +67,24 @@ impl StdSink {
 
 impl<W: Write> StdSink<W> {
     pub fn over(writer: W) -> StdSink<W>
-        ensures { result.faults ≡ 0 }
+        ensures writer { result.writer ≡ writer }
+        ensures faults { result.faults ≡ 0 }
     {
         StdSink { writer, faults: 0 }
     }
 }
 
-// Writes the whole piece, and says whether that went well. A write that takes nothing doesn't.
-fn write_whole<W: Write>(writer: &mut W, piece: &[u8]) -> bool {
-    let mut rest = piece;
-    for _ in 0..u64::MAX {
-        if rest.is_empty() {
-            return writer.flush().is_ok();
-        }
-        match writer.write(rest) {
-            Ok(0) => return false,
-            Ok(count) => rest = &rest[count..],
-            Err(error) => {
-                if error.kind() != ErrorKind::Interrupted {
-                    return false;
-                }
-            }
-        }
-    }
-    false
-}
-
 impl<W: Write> Sink for StdSink<W> {
-    ghost so_far = { λ _. None };
+    ghost so_far = { λ s. W.contents s.writer };
 
     ghost faults = { λ s. s.faults };
 
     fn put(&mut self, piece: &[u8]) -> Result<(), PutFail> {
-        if write_whole(&mut self.writer, piece) {
-            return Ok(());
+        let put = put_whole(&mut self.writer, piece);
+        if let Err(PutFail::Failed) = put {
+            self.faults = self.faults.saturating_add(1);
         }
-        self.faults = self.faults.saturating_add(1);
-        Err(PutFail::Failed)
+        put
     }
 }
 
@@ -92,12 +112,11 @@ impl<R: rt::Files> DiskFiles<R> {
 // Why a file wasn't read.
 enum Miss {
     Absent,
-    Failed,
-    Memory,
+    Fail(FileFail),
 }
 
-// Reads a file to its end, or until it has more than `most` bytes.
-fn read_up_to<R: rt::Files>(
+// Opens the file and reads it.
+fn read_file<R: rt::Files>(
     rt: &R,
     name: &str,
     most: usize,
@@ -106,38 +125,14 @@ fn read_up_to<R: rt::Files>(
     requires { out.old.items ≡ [] }
     ensures { length out.new.items ≤ most }
 {
-    let mut file = match File::open(rt, name) {
-        Ok(file) => file,
-        Err(error) => {
-            return Err(match error.kind() {
-                ErrorKind::NotFound => Miss::Absent,
-                ErrorKind::OutOfMemory => Miss::Memory,
-                _ => Miss::Failed,
-            });
-        }
-    };
-    let mut chunk = [0u8; CHUNK];
-    for _ in 0..u64::MAX {
-        let count = match file.read(&mut chunk) {
-            Ok(count) => count,
-            Err(error) => {
-                if error.kind() == ErrorKind::Interrupted {
-                    continue;
-                }
-                return Err(Miss::Failed);
-            }
-        };
-        if count == 0 {
-            return Ok(ReadEnd::Whole);
-        }
-        if count > most - out.len() {
-            return Ok(ReadEnd::TooLong);
-        }
-        if out.extend_from_slice(&chunk[..count]).is_err() {
-            return Err(Miss::Memory);
-        }
+    match File::open(rt, name) {
+        Ok(mut file) => read_up_to(&mut file, most, out).map_err(Miss::Fail),
+        Err(error) => Err(match cause_of(&error) {
+            Cause::Absent => Miss::Absent,
+            Cause::Memory => Miss::Fail(FileFail::Memory),
+            _ => Miss::Fail(FileFail::Failed),
+        }),
     }
-    Err(Miss::Failed)
 }
 
 impl<R: rt::Files> Files for DiskFiles<R> {
@@ -155,16 +150,16 @@ impl<R: rt::Files> Files for DiskFiles<R> {
         out: &mut Vec<u8>,
     ) -> Result<ReadEnd, FileFail> {
         out.clear();
-        let end = read_up_to(&self.rt, name, most, out);
+        let end = read_file(&self.rt, name, most, out);
         if let Ok(ReadEnd::Whole) = end {
             return Ok(ReadEnd::Whole);
         }
         out.clear();
         match end {
             Ok(_) => return Ok(ReadEnd::TooLong),
-            Err(Miss::Memory) => return Err(FileFail::Memory),
+            Err(Miss::Fail(FileFail::Memory)) => return Err(FileFail::Memory),
             Err(Miss::Absent) => self.absences = self.absences.saturating_add(1),
-            Err(Miss::Failed) => {}
+            Err(Miss::Fail(FileFail::Failed)) => {}
         }
         self.faults = self.faults.saturating_add(1);
         Err(FileFail::Failed)

@@ -1,10 +1,13 @@
 // Calls that are counted, some of which fail.
 ghost use Rattle.std.specs.Prelude.{◌≡◌};
 ghost use Rattle.mk_outside.specs.Counts.{Rose};
-ghost use Rattle.mk_outside.specs.Memory.{fails_next, after_call, after_fault};
+ghost use Rattle.mk_outside.specs.Calls.{before_calls, fails_next, after_call, after_fault};
 
-use crate::CallNumbers;
+use mk_text::Listed;
 use std::marker::Model;
+
+/// The numbers of the calls that fail, counted from 1.
+pub type CallNumbers = Listed<u64>;
 
 /// How many calls were made, how many of them failed, and which ones are to fail.
 #[derive(Debug, Drop)]
@@ -15,7 +18,7 @@ pub struct Calls {
 }
 
 impl Model for Calls {
-    ghost use Rattle.mk_outside.specs.Memory.{CallState};
+    ghost use Rattle.mk_outside.specs.Calls.{CallState};
 
     ghost Value = { CallState };
 
@@ -24,7 +27,7 @@ impl Model for Calls {
 
 impl Calls {
     pub fn new(failing: CallNumbers) -> Calls
-        ensures { result ≡ record { failing = failing; made = 0; faults = 0 } }
+        ensures { result ≡ before_calls failing }
     {
         Calls {
             failing,

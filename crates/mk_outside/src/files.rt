@@ -1,14 +1,51 @@
 // Files in memory.
-ghost use Rattle.std.specs.Prelude.{◌≡◌, ◌≤◌, ◌||◌, [], false, not, Some, is_some};
+ghost use Rattle.std.specs.Prelude.{◌≡◌, ◌≤◌, ◌||◌, [], false, not, Some, is_some, option_copied};
 ghost use Rattle.mk_outside.specs.Counts.{Counts};
 ghost use Rattle.mk_outside.specs.Told.{Reads, Fills, is_failed_read, is_absence};
-ghost use Rattle.mk_outside.specs.Memory.{fails_next, file_named, sure_file, files_after};
+ghost use Rattle.mk_outside.specs.Calls.{before_calls, fails_next};
+ghost use Rattle.mk_outside.specs.Files.{file_named, sure_file, files_after};
 
 use crate::calls::Calls;
-use crate::finding::{find, give};
-use crate::{CallNumbers, FileFail, FileRows, Files, ReadEnd};
+use crate::{CallNumbers, FileFail, Files, ReadEnd};
+use mk_text::{Bytes, Listed, Text};
 use std::alloc::Global;
 use std::marker::Model;
+
+/// A file in memory.
+#[derive(Debug, Drop)]
+pub struct FileRow {
+    pub name: Text,
+    pub bytes: Bytes,
+}
+
+/// Files in memory. Of several rows of one name the first holds.
+pub type FileRows = Listed<FileRow>;
+
+// The bytes of the first row of the name.
+fn find<'a>(rows: &'a [FileRow], name: &str) -> Option<&'a [u8]>
+    ensures { option_copied result ≡ file_named rows.now name.now }
+{
+    for row in rows {
+        if row.name.as_str() == name {
+            return Some(row.bytes.as_slice());
+        }
+    }
+    None
+}
+
+// Gives a file's bytes, where they are not too many.
+fn give(bytes: &[u8], most: usize, out: &mut Vec<u8>) -> Result<ReadEnd, FileFail>
+    requires { out.old.items ≡ [] }
+    ensures told { Reads (Some bytes.now) most out.new.items result }
+    ensures fills { Fills most out.new.items result }
+    ensures sure { is_failed_read result ≡ false }
+{
+    if bytes.len() > most {
+        return Ok(ReadEnd::TooLong);
+    }
+    out.extend_from_slice(bytes)?;
+    Ok(ReadEnd::Whole)
+}
 
 /// Files in memory, whose calls fail by their numbers, and at a name that isn't there.
 #[derive(Debug, Drop)]
@@ -19,7 +56,7 @@ pub struct MemFiles {
 }
 
 impl Model for MemFiles {
-    ghost use Rattle.mk_outside.specs.Memory.{FilesState};
+    ghost use Rattle.mk_outside.specs.Files.{FilesState};
 
     ghost Value = { FilesState };
 
@@ -28,7 +65,7 @@ impl Model for MemFiles {
 
 impl MemFiles {
     pub fn new(files: FileRows, failing: CallNumbers) -> MemFiles
-        ensures { result ≡ record { rows = files; calls = record { failing = failing; made = 0; faults = 0 }; absences = 0 } }
+        ensures { result ≡ record { rows = files; calls = before_calls failing; absences = 0 } }
     {
         MemFiles {
             rows: files,
@@ -84,7 +121,7 @@ pub struct SureFiles {
 
 impl Model for SureFiles {
     ghost use Rattle.std.specs.Prelude.{List};
-    ghost use Rattle.mk_outside.specs.declared.rows.FileRow.{FileRow};
+    ghost use Rattle.mk_outside.specs.declared.files.FileRow.{FileRow};
 
     ghost Value = { List FileRow };
 

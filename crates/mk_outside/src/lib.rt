@@ -1,28 +1,46 @@
-//! The outside: what files and the output are to the program, in memory and for real.
+//! The outside: what input, files, output and a store are to the program, in memory and for real.
 //!
-//! Callers use the traits `Sink` and `Files` alone. What an object holds is told or not told, and clauses on content hold
-//! where it is told (`specs/Told.antt`). Each object counts its faults: a call answers `Failed` only where the count rose
-//! in that call, and any other answer leaves the count as it was (`specs/Counts.antt`).
+//! Callers use the traits `Source`, `Files`, `Sink` and `Keeper` alone. What an object holds is told or not told, and
+//! clauses on content hold where it is told (`specs/Told.antt`). Each object counts its faults: a call answers `Failed`
+//! only where the count rose in that call, and any other answer leaves the count as it was (`specs/Counts.antt`). What a
+//! batch of changes makes of tables stands in `specs/Tables.antt`.
 //!
-//! The Mem kinds fail at the calls that they are given, the Sure kinds never do, and the adapters over the real files and
-//! the real output tell nothing of content. What a file's bytes mean isn't known here.
+//! The Mem kinds fail at the calls that they are given, and the Sure kinds never do. The adapters tell what their std
+//! parts tell, and so nothing of a real file, input or output. What bytes mean isn't known here.
 #![tactic(auto)]
 
+#[cfg(test)]
+mod adapter_tests;
 mod adapters;
 mod answers;
 mod calls;
+mod causes;
 mod files;
-mod finding;
+#[cfg(test)]
+mod keeper_tests;
+mod keepers;
+mod laws;
 mod rows;
 mod sinks;
+mod sources;
+mod store;
+mod streams;
+mod tables;
 #[cfg(test)]
 mod tests;
 mod traits;
 
-pub use adapters::{DiskFiles, StdSink};
-pub use answers::{Failed, FileFail, PutFail, ReadEnd};
-pub use files::{MemFiles, SureFiles};
+pub use adapters::{DiskFiles, StdSink, StdSource};
+pub use answers::{Failed, FileFail, KeepFail, PutFail, ReadEnd};
+pub use calls::CallNumbers;
+pub use causes::{Cause, cause_of};
+pub use files::{FileRow, FileRows, MemFiles, SureFiles};
+pub use keepers::{MemKeeper, SureKeeper};
+pub use laws::rising_tables_stay_rising;
 pub use mk_text::{Bytes, Listed, Memory, Place, Text};
-pub use rows::{CallNumbers, FileRow, FileRows};
 pub use sinks::{MemSink, SureSink};
-pub use traits::{Files, Sink};
+pub use sources::{MemSource, SureSource};
+pub use tables::{
+    Change, CursorRow, CursorRows, QueryRow, QueryRows, RecordRow, RecordRows, Tables,
+};
+pub use traits::{Files, Keeper, Sink, Source};

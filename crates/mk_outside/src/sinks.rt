@@ -2,7 +2,8 @@
 ghost use Rattle.std.specs.Prelude.{◌≡◌, ◌++◌, false, Some, OnErr, if◌then◌else◌, is_ok};
 ghost use Rattle.mk_outside.specs.Counts.{Counts};
 ghost use Rattle.mk_outside.specs.Told.{Puts, is_failed_put};
-ghost use Rattle.mk_outside.specs.Memory.{fails_next, sink_after};
+ghost use Rattle.mk_outside.specs.Calls.{before_calls, fails_next};
+ghost use Rattle.mk_outside.specs.Sinks.{sink_after};
 
 use crate::calls::Calls;
 use crate::{Bytes, CallNumbers, PutFail, Sink};
@@ -16,7 +17,7 @@ pub struct MemSink {
 }
 
 impl Model for MemSink {
-    ghost use Rattle.mk_outside.specs.Memory.{SinkState};
+    ghost use Rattle.mk_outside.specs.Sinks.{SinkState};
 
     ghost Value = { SinkState };
 
@@ -25,7 +26,7 @@ impl Model for MemSink {
 
 impl MemSink {
     pub fn new(so_far: Bytes, failing: CallNumbers) -> MemSink
-        ensures { result ≡ record { bytes = so_far; calls = record { failing = failing; made = 0; faults = 0 } } }
+        ensures { result ≡ record { bytes = so_far; calls = before_calls failing } }
     {
         MemSink {
             so_far: so_far.into_vec(),

@@ -1,9 +1,10 @@
 -- Columns are their single cells, and a word at a line's beginning is a test of each of its cells.
-use Rattle.std.proofs.Common.{◌≡◌, ℕ, suc, ◌+◌, ◌-◌, ◌<◌, ◌≤◌, inl, inr, Bool, true, false, ◌&&◌, eqb, List, [], ◌∷◌, ◌++◌, length, get_or, take, drop, replicate, refl, sym, ap, ◌∙◌, arith, lit≤}
+use Rattle.std.proofs.Common.{◌≡◌, ℕ, suc, ◌+◌, ◌-◌, ◌<◌, ◌≤◌, inl, inr, true, ◌&&◌, eqb, List, [], ◌∷◌, ◌++◌, length, get_or, take, drop, replicate, refl, sym, ap, ◌∙◌, arith, lit≤}
 use Rattle.std.proofs.lemmas.Bool.{eqb-true, eq-eqb, cases_lt}
 use Rattle.std.proofs.lemmas.List.{drop_more, get_or_append_left, get_or-append_right, get_or-replicate, get_or_past, length-append, length-replicate}
 use Rattle.std.specs.Prelude.{codes}
 use Rattle.mk_text.specs.Columns.{columns, is_space}
+use Rattle.mk_text.proofs.ForCallers.{both}
 use Rattle.mk_props.specs.Reading.{cell_of, spells}
 
 -- ---- cells
@@ -52,11 +53,6 @@ column_blank line at first blank = let cells = column-cell line at first in cc
 
 -- ---- words
 
--- both of two tests
-pub and_true : (a b : Bool) → (a && b) ≡ true → (a ≡ true) × (b ≡ true)
-and_true true b both = (refl, both)
-and_true false b both = absurd cc
-
 -- the columns that pass the test of a text hold it
 pub spells_found : (line : List ℕ) (at : ℕ) (text : List ℕ) → 1 ≤ at → spells line at text ≡ true
     → columns line at (at + length text - 1) ≡ text
@@ -67,12 +63,12 @@ spells_found line at (c ∷ []) first spelled =
     let one : at + 1 - 1 ≡ at = omega arith in
     ap (columns line at) one ∙ column-cell line at first ∙ ap (λ (cell : ℕ). cell ∷ []) (eqb-true (cell_of line at) c spelled)
 spells_found line at (c ∷ d ∷ text) first spelled =
-    let both = and_true (eqb (cell_of line at) c) (spells line (at + 1) (d ∷ text)) spelled in
+    let h = both (eqb (cell_of line at) c) (spells line (at + 1) (d ∷ text)) spelled in
     let same : at + suc (suc (length text)) - 1 ≡ at + 1 + suc (length text) - 1 = omega arith in
     columns_more line at (at + suc (suc (length text)) - 1) first (omega arith)
     ∙ ap (λ (b : ℕ). cell_of line at ∷ columns line (at + 1) b) same
-    ∙ ap (λ (cells : List ℕ). cell_of line at ∷ cells) (spells_found line (at + 1) (d ∷ text) (omega arith) both.1)
-    ∙ ap (λ (cell : ℕ). cell ∷ d ∷ text) (eqb-true (cell_of line at) c both.0)
+    ∙ ap (λ (cells : List ℕ). cell_of line at ∷ cells) (spells_found line (at + 1) (d ∷ text) (omega arith) h.1)
+    ∙ ap (λ (cell : ℕ). cell ∷ d ∷ text) (eqb-true (cell_of line at) c h.0)
 
 -- the cells of the columns 1 to 3
 cells_to_3 : (line : List ℕ) → columns line 1 3 ≡ cell_of line 1 ∷ cell_of line 2 ∷ cell_of line 3 ∷ []
@@ -98,12 +94,12 @@ joined line =
 pub letter_found : (line letter : List ℕ) → length letter ≡ 1 → spells line 1 letter ≡ true
     → (is_space (cell_of line 2) && is_space (cell_of line 3)) ≡ true → columns line 1 3 ≡ letter ++ codes "  "
 letter_found line letter one spelled blank =
-    let both = and_true (is_space (cell_of line 2)) (is_space (cell_of line 3)) blank in
+    let h = both (is_space (cell_of line 2)) (is_space (cell_of line 3)) blank in
     let end : 1 + length letter - 1 ≡ 1 = omega arith in
     let first : cell_of line 1 ∷ [] ≡ letter = sym (column-cell line 1 (lit≤ tt)) ∙ sym (ap (columns line 1) end) ∙ spells_found line 1 letter (lit≤ tt) spelled in
     cells_to_3 line ∙ ap (λ (cells : List ℕ). cells ++ (cell_of line 2 ∷ cell_of line 3 ∷ [])) first
-    ∙ ap (λ (c : ℕ). letter ++ (c ∷ cell_of line 3 ∷ [])) (eqb-true (cell_of line 2) 32 both.0)
-    ∙ ap (λ (c : ℕ). letter ++ (32 ∷ c ∷ [])) (eqb-true (cell_of line 3) 32 both.1)
+    ∙ ap (λ (c : ℕ). letter ++ (c ∷ cell_of line 3 ∷ [])) (eqb-true (cell_of line 2) 32 h.0)
+    ∙ ap (λ (c : ℕ). letter ++ (32 ∷ c ∷ [])) (eqb-true (cell_of line 3) 32 h.1)
 
 -- a line that begins with three columns and goes on with a word of three
 pub word_found : (line front word : List ℕ) → columns line 1 3 ≡ front → length word ≡ 3 → spells line 4 word ≡ true

@@ -1,42 +1,20 @@
 -- Numbers behind a blank, and entries behind their count: what is computed is what the columns hold.
-use Rattle.std.proofs.Common.{◌≡◌, ℕ, zero, suc, ◌+◌, ◌*◌, ◌≤◌, ◌&&◌, Bool, true, false, eqb, leb, List, [], ◌∷◌, length, Option, Some, None, refl, sym, ap, ◌∙◌, subst, arith}
+use Rattle.std.proofs.Common.{◌≡◌, ℕ, zero, suc, ◌+◌, ◌*◌, ◌≤◌, ◌&&◌, eqb, leb, List, [], ◌∷◌, length, Option, Some, refl, sym, ap, ◌∙◌, subst, arith}
 use Rattle.std.specs.Prelude.{ℤ, pos, negsuc, slice_get}
 use Rattle.std.proofs.lemmas.Bool.{leb-true, le-leb}
 use Rattle.mk_text.specs.Columns.{columns}
 use Rattle.mk_text.specs.Fields.{IsField, field_of}
-use Rattle.mk_text.proofs.FieldLemmas.{law}
+use Rattle.mk_text.proofs.ForCallers.{both, both_read, test_passed, field_found, field_given}
 use Rattle.mk_props.specs.declared.property.Pair.{Pair}
 use Rattle.mk_props.specs.declared.property.LinkEntry.{LinkEntry}
 use Rattle.mk_props.specs.Entries.{IsSpacedNumber, AreCounted, IsPairAt, ArePairs, IsLinkAt}
-use Rattle.mk_props.specs.Reading.{◌>>=◌, when, cell_of, number_of, count_in, count_of, entries_of, pair_of, pairs_of, link_of, links_of}
-use Rattle.mk_props.proofs.ColumnLemmas.{blank_column, column_blank, and_true}
-
--- ---- steps of a reading
-
--- what was read in two steps was read in each of them
-pub both_read : {A B : Type 0} (o : Option A) (f : A → Option B) (y : B) → (o >>= f) ≡ Some y
-    → (x : A) × (o ≡ Some x) × (f x ≡ Some y)
-both_read (Some x) f y read = (x, refl, read)
-both_read None f y read = absurd cc
-
--- what was read behind a test passed it
-pub test_passed : {X : Type 0} (test : Bool) (o : Option X) (x : X) → when test o ≡ Some x → (test ≡ true) × (o ≡ Some x)
-test_passed true o x read = (refl, read)
-test_passed false o x read = absurd cc
+use Rattle.mk_text.specs.Options.{◌>>=◌, count_in, entries_of}
+use Rattle.mk_props.specs.Reading.{cell_of, number_of, count_of, pair_of, pairs_of, link_of, links_of}
+use Rattle.mk_props.proofs.ColumnLemmas.{blank_column, column_blank}
 
 -- ---- numbers
 
--- a field that was read holds the number
-pub field_found : (line : List ℕ) (a b : ℕ) (n : ℤ) → field_of line a b ≡ Some n → IsField (columns line a b) n
-unfolding field_of
-field_found line a b n read = (law (columns line a b) n).0 read
-
--- and one that holds it is read
-pub field_given : (line : List ℕ) (a b : ℕ) (n : ℤ) → IsField (columns line a b) n → field_of line a b ≡ Some n
-unfolding field_of
-field_given line a b n is = (law (columns line a b) n).1 is
-
--- the same behind a blank
+-- a number behind a blank, as it was read
 pub number_found : (line : List ℕ) (at : ℕ) (n : ℤ) → 1 ≤ at → number_of line at ≡ Some n → IsSpacedNumber line at n
 unfolding number_of
 number_found line at n first read =
@@ -64,7 +42,7 @@ record IsCount (most : ℕ) (cells : List ℕ) (n : ℕ) : Type 0 where
 counted_in : (most : ℕ) (z : ℤ) (n : ℕ) → count_in most z ≡ Some n → (z ≡ pos n) × (1 ≤ n) × (n ≤ most)
 counted_in most (pos m) n read =
     let passed = test_passed (leb 1 m && leb m most) (Some m) n read in
-    let both = and_true (leb 1 m) (leb m most) passed.0 in
+    let both = both (leb 1 m) (leb m most) passed.0 in
     let same : m ≡ n = cc in
     (ap pos same, subst (λ (k : ℕ). 1 ≤ k) same (leb-true 1 m both.0), subst (λ (k : ℕ). k ≤ most) same (leb-true m most both.1))
 counted_in most (negsuc m) n read = absurd cc

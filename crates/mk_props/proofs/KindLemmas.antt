@@ -10,9 +10,11 @@ use Rattle.mk_props.specs.declared.property.LogicLine.{LogicLine}
 use Rattle.mk_props.specs.Entries.{IsBlankAt, AreCounted, IsOrderLine}
 use Rattle.mk_props.specs.Lists.{flag_text, symbol_of, IsListLine}
 use Rattle.mk_props.specs.Logic.{IsLogicLine}
-use Rattle.mk_props.specs.Reading.{◌>>=◌, cell_of, order_of, flag_of, symbols_of, list_of, logic_of, not_negative}
-use Rattle.mk_props.proofs.ColumnLemmas.{blank_column, column_blank, column-cell, and_true}
-use Rattle.mk_props.proofs.EntryLemmas.{both_read, test_passed, number_found, number_given, one_found, one_given, counted_found, counted_given, pairs_found, pairs_given, field_found, field_given}
+use Rattle.mk_text.specs.Options.{◌>>=◌, not_negative}
+use Rattle.mk_props.specs.Reading.{cell_of, order_of, flag_of, symbols_of, list_of, logic_of}
+use Rattle.mk_props.proofs.ColumnLemmas.{blank_column, column_blank, column-cell}
+use Rattle.mk_text.proofs.ForCallers.{both, both_read, test_passed, field_found, field_given}
+use Rattle.mk_props.proofs.EntryLemmas.{number_found, number_given, one_found, one_given, counted_found, counted_given, pairs_found, pairs_given}
 
 -- ---- orders of neighbours
 
@@ -60,7 +62,7 @@ flag_found : (line : List ℕ) (not : Bool) → flag_of line ≡ Some not → Is
 unfolding flag_of
 flag_found line not read =
     let passed = test_passed (eqb (cell_of line 14) 32 && eqb (cell_of line 16) 32) _ not read in
-    let both = and_true (eqb (cell_of line 14) 32) (eqb (cell_of line 16) 32) passed.0 in
+    let both = both (eqb (cell_of line 14) 32) (eqb (cell_of line 16) 32) passed.0 in
     record {
       before = blank_column line 14 (omega arith) both.0;
       letter = column-cell line 15 (omega arith) ∙ flag_letter (cell_of line 15) not _ _ refl refl passed.1;

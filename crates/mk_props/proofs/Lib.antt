@@ -1,5 +1,5 @@
-pub mod LoopLemmas
 pub mod ColumnLemmas
 pub mod EntryLemmas
 pub mod KindLemmas
 pub mod PropertyLemmas
+pub mod ForCallers

@@ -11,9 +11,11 @@ use Rattle.mk_props.specs.declared.property.Property.{Property}
 use Rattle.mk_props.specs.declared.property.Property.TheVariants as kinds
 use Rattle.mk_props.specs.Entries.{IsPairLine}
 use Rattle.mk_props.specs.Property.{known_words, IsOtherLine, IsSkipLine, IsPassed, IsProperty}
-use Rattle.mk_props.specs.Reading.{◌>>=◌, Gives, cell_of, spells, pairs_of, links_of, list_of, order_of, logic_of, m_line_of, not_negative, skip_of, letter_line_of, property_of, PropertiesAreRead}
+use Rattle.mk_text.specs.Options.{◌>>=◌, not_negative}
+use Rattle.mk_props.specs.Reading.{Gives, cell_of, spells, pairs_of, links_of, list_of, order_of, logic_of, m_line_of, skip_of, letter_line_of, property_of, PropertiesAreRead}
 use Rattle.mk_props.proofs.ColumnLemmas.{GoesOnWith, begins_from, begins_to, word_from, letter_found, word_found, word_spelled}
-use Rattle.mk_props.proofs.EntryLemmas.{test_passed, pairs_found, pairs_given, links_found, links_given}
+use Rattle.mk_text.proofs.ForCallers.{test_passed}
+use Rattle.mk_props.proofs.EntryLemmas.{pairs_found, pairs_given, links_found, links_given}
 use Rattle.mk_props.proofs.KindLemmas.{order_found, order_given, list_found, list_given, logic_found, logic_given, skip_found, skip_given}
 
 -- ---- what the computation finds
@@ -194,8 +196,8 @@ given line (kinds.Passed n) is = passed_given line n is
 given line kinds.End is = let word = with_word is in word.is_read ∙ rw (word.goes_on.at_4, word.goes_on.at_5, word.goes_on.at_6) refl
 
 -- so the reading is exact
-pub law : PropertiesAreRead
-law line property = (found line property, given line property)
+pub properties_are_read : PropertiesAreRead
+properties_are_read line property = (found line property, given line property)
 
 -- ---- for the answers of a reader
 

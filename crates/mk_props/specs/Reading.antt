@@ -2,7 +2,8 @@
 --     property_of line            the property that the line is, or None
 --     Gives answer read           a function answered what the line says
 --     PropertiesAreRead           the reading and `IsProperty` agree
-use Rattle.std.specs.Prelude.{◌≡◌, ℕ, zero, suc, ◌+◌, ◌-◌, ◌*◌, ◌↔◌, ◌==◌, nat_le, ◌&&◌, ◌||◌, Bool, true, false, if◌then◌else◌, List, [], ◌∷◌, slice_index_or, drop, Option, Some, None, Result, Ok, Err, ℤ, pos, negsuc, option_map, codes}
+use Rattle.std.specs.Prelude.{◌≡◌, ℕ, ◌+◌, ◌-◌, ◌*◌, ◌↔◌, ◌==◌, ◌&&◌, ◌||◌, Bool, true, false, if◌then◌else◌, List, [], ◌∷◌, slice_index_or, drop, Option, Some, None, Result, Ok, Err, ℤ, option_map, codes}
+use Rattle.mk_text.specs.Options.{◌>>=◌, when, entries_of, count_in, not_negative}
 use Rattle.mk_text.specs.Columns.{is_space}
 use Rattle.mk_text.specs.Fields.{field_of}
 use Rattle.mk_props.specs.declared.fault.LineFault.{LineFault}
@@ -23,16 +24,6 @@ Gives (Ok x) read = read ≡ Some x
 Gives (Err Bad) read = read ≡ None
 Gives (Err Memory) read = Unit {0}
 
--- first one and then another that depends on it
-infixl 10 ◌>>=◌
-abbrev pub ◌>>=◌ : {A B : Type 0} → Option A → (A → Option B) → Option B
-(Some x) >>= f = f x
-None >>= f = None
-
--- the value where the test holds
-abbrev pub when : {X : Type 0} → Bool → Option X → Option X
-when test value = if test then value else None
-
 -- ---- columns and numbers
 
 -- the byte in a column, a blank past the line's end
@@ -49,21 +40,11 @@ spells line at (c ∷ d ∷ text) = (cell_of line at == c) && spells line (at + 
 unfoldable pub number_of : List ℕ → ℕ → Option ℤ
 number_of line at = when (is_space (cell_of line at)) (field_of line (at + 1) (at + 3))
 
--- a number from 1 to most
-abbrev pub count_in : ℕ → ℤ → Option ℕ
-count_in most (pos n) = when (nat_le 1 n && nat_le n most) (Some n)
-count_in most (negsuc n) = None
-
 -- the number from 1 to most in the three columns from this one on
 unfoldable pub count_of : ℕ → List ℕ → ℕ → Option ℕ
 count_of most line at = field_of line at (at + 2) >>= count_in most
 
 -- ---- entries
-
--- so many entries, from the one of this number on
-abbrev pub entries_of : {X : Type 0} → (ℕ → Option X) → ℕ → ℕ → Option (List X)
-entries_of entry zero i = Some []
-entries_of entry (suc n) i = entry i >>= λ x. entries_of entry n (i + 1) >>= λ xs. Some (x ∷ xs)
 
 unfoldable pub pair_of : List ℕ → ℕ → Option Pair
 pair_of line at = number_of line at >>= λ atom. number_of line (at + 4) >>= λ value. Some (record { atom = atom; value = value })
@@ -125,10 +106,6 @@ m_line_of line =
     else (if spells line 4 (codes "AAL") then option_map kinds.Order (order_of line)
     else (if spells line 4 (codes "LOG") then option_map kinds.Logic (logic_of line)
     else Some (kinds.Passed 0)))))))))))))
-
-abbrev pub not_negative : ℤ → Option ℕ
-not_negative (pos n) = Some n
-not_negative (negsuc n) = None
 
 -- how many lines `S  SKP` passes over
 unfoldable pub skip_of : List ℕ → Option ℕ

@@ -3,12 +3,15 @@ ghost use Rattle.std.specs.Prelude.{◌≡◌};
 ghost use Rattle.mk_props.specs.declared.fault.LineFault.TheVariants.{Memory};
 
 use std::alloc::{AllocError, AllocFailed};
+use thiserror::Error;
 
-#[derive(Clone, Copy, Debug, PartialEq, Eq)]
+#[derive(Clone, Copy, Debug, PartialEq, Eq, Error)]
 pub enum LineFault {
     /// The line is no property line.
+    #[error("the line is no property line")]
     Bad,
     /// There is no memory for the lists that the line holds.
+    #[error("no memory for the lists that the line holds")]
     Memory,
 }
 

@@ -19,6 +19,7 @@ use Rattle.mk_model.specs.Graphs.{GraphView, HasGraphMarks, IsBefore, IsGraph, I
 use Rattle.mk_model.proofs.PlaceLemmas.{all_mapped, place_is, place_within}
 use Rattle.mk_rings.specs.Bare.{bare_bond, bare_bonds}
 use Rattle.mk_rings.specs.Marks.{Marks}
+use Rattle.mk_rings.proofs.ForCallers.{same_at, same_edges, same_length}
 
 -- ---- putting the marks
 
@@ -57,24 +58,6 @@ all_bare P old new to from same all =
     let moved : All P (bare_bonds new) = rw same (All-map P bare_bond old bare) in
     λ k d below. to (get_or new k d) (all_mapped bare_bond P new moved k d below)
 
--- how many there are
-pub same_length : (old new : List GraphBond) → bare_bonds new ≡ bare_bonds old → length new ≡ length old
-same_length old new same = sym (length-map new bare_bond) ∙ ap length same ∙ length-map old bare_bond
-
--- each without its marks
-pub same_at : (old new : List GraphBond) (k : ℕ) (d : GraphBond) → bare_bonds new ≡ bare_bonds old → k < length new → bare_bond (get_or new k d) ≡ bare_bond (get_or old k d)
-same_at old new k d same below =
-    sym (get_or-map bare_bond new k d (bare_bond d) below) ∙ ap (λ (xs : List GraphBond). get_or xs k (bare_bond d)) same
-    ∙ get_or-map bare_bond old k d (bare_bond d) (let long = same_length old new same in omega arith)
-
--- the edges
-edges_bare : (bonds : List GraphBond) → graph_edges (bare_bonds bonds) ≡ graph_edges bonds
-edges_bare [] = refl
-edges_bare (bond ∷ bonds) = ap (λ (edges : List Edge). graph_edge bond ∷ edges) (edges_bare bonds)
-
-pub same_edges : (old new : List GraphBond) → bare_bonds new ≡ bare_bonds old → graph_edges new ≡ graph_edges old
-same_edges old new same = sym (edges_bare new) ∙ ap graph_edges same ∙ edges_bare old
-
 -- the order
 before_bare : (b c b' c' : GraphBond) → bare_bond b' ≡ bare_bond b → bare_bond c' ≡ bare_bond c → IsBefore b c → IsBefore b' c'
 before_bare b c b' c' first second before =
@@ -92,7 +75,7 @@ pub marked_sketch : (atoms : List GraphAtom) (old new : List GraphBond) → bare
 marked_sketch atoms old new same is = record {
   few = is.few;
   tests = is.tests;
-  bond_tests = all_bare IsBondInRange old new (λ bond r. record { kind = r.kind; topology = r.topology }) (λ bond r. record { kind = r.kind; topology = r.topology }) same is.bond_tests;
+  bond_tests = all_bare (λ bond. IsBondInRange bond.kind bond.topology) old new (λ bond r. record { kind = r.kind; topology = r.topology }) (λ bond r. record { kind = r.kind; topology = r.topology }) same is.bond_tests;
   graph = subst (IsSimple (length atoms)) (sym (same_edges old new same)) is.graph;
   lower_first = all_bare (λ bond. bond.first < bond.second) old new (λ bond h. h) (λ bond h. h) same is.lower_first;
   order = λ i j d below within.

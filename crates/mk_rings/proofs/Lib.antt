@@ -1,3 +1,4 @@
+pub mod ForCallers
 pub mod WayLemmas
 pub mod ForestLemmas
 pub mod WalkLemmas
@@ -8,3 +9,5 @@ pub mod SixLemmas
 pub mod RoundLemmas
 pub mod SearchLemmas
 pub mod GraphLemmas
+pub mod LawLemmas
+pub mod MoleculeLemmas

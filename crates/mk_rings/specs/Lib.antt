@@ -3,3 +3,4 @@ pub mod Growing
 pub mod Marks
 pub mod SixRings
 pub mod Bare
+pub mod Laws

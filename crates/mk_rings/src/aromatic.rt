@@ -2,9 +2,11 @@
 ghost use Rattle.std.specs.Prelude.{◌≡◌, ◌≤◌, ◌<◌, ◌↔◌, ◌⊎◌, ℕ, Bool, false, IfOk, IsTrue, MatchBool, length};
 ghost use Rattle.mk_model.specs.Edges.{AreBetween, HasKind, IsSimple, rows_of};
 ghost use Rattle.mk_model.specs.Aromatic.{IsAromatic};
+ghost use Rattle.mk_model.specs.Rings.{IsRingBond};
 ghost use Rattle.mk_rings.specs.Marks.{IsMarked, Marks};
 ghost use Rattle.mk_rings.specs.SixRings.{AllBelow, ClosesRing, set_of, StayWithin, unmarked};
 
+use crate::marking::{neighbours_of, ring_bonds_over};
 use crate::six_rings::closes_ring;
 use crate::spreading::spread;
 use mk_model::{Edge, Memory, Neighbours};
@@ -15,10 +17,27 @@ pub fn aromatic_bonds(alloc: Global, atoms: u32, bonds: &[Edge]) -> Result<Vec<b
     requires { IsSimple atoms bonds.now }
     ensures { IfOk result (λ marks. Marks (IsAromatic bonds.now) bonds.now marks.items) }
 {
-    let near = Neighbours::of(alloc, atoms, bonds)?;
+    let near = neighbours_of(alloc, atoms, bonds)?;
+    let rings = ring_bonds_over(alloc, &near, atoms, bonds)?;
+    aromatic_bonds_over(alloc, &near, atoms, bonds, &rings)
+}
+
+/// Marks the bonds of the aromatic set, where the neighbours are made and the ring bonds found already.
+pub fn aromatic_bonds_over(
+    alloc: Global,
+    near: &Neighbours,
+    atoms: u32,
+    bonds: &[Edge],
+    rings: &[bool],
+) -> Result<Vec<bool>, Memory>
+    requires simple { IsSimple atoms bonds.now }
+    requires rows { near.now ≡ rows_of atoms bonds.now }
+    requires rings { Marks (IsRingBond bonds.now) bonds.now rings.now }
+    ensures { IfOk result (λ marks. Marks (IsAromatic bonds.now) bonds.now marks.items) }
+{
     let mut marks = vec![in alloc; false; bonds.len()]?;
     let mut queue = vec![in alloc; 0usize; bonds.len()]?;
-    mark_aromatic(&near, bonds, &mut marks, &mut queue);
+    mark_aromatic(near, bonds, &mut marks, &mut queue);
     Ok(marks)
 }
 

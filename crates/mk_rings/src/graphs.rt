@@ -4,8 +4,8 @@ ghost use Rattle.mk_model.specs.declared.graph.GraphBond.{GraphBond as Drawn};
 ghost use Rattle.mk_model.specs.Graphs.{IsUnmarked};
 ghost use Rattle.mk_rings.specs.Bare.{bare_bonds};
 
-use crate::aromatic::aromatic_bonds;
-use crate::marking::ring_bonds;
+use crate::aromatic::aromatic_bonds_over;
+use crate::marking::{neighbours_of, ring_bonds_over};
 use mk_model::{Graph, GraphAtom, GraphBond, Memory, edges_of_graph};
 use std::alloc::Global;
 
@@ -21,11 +21,12 @@ pub fn marked_graph(
 {
     let count = atoms.len() as u32;
     let edges = edges_of_graph(alloc, &bonds)?;
-    let rings = ring_bonds(alloc, count, &edges)?;
-    let aromatics = aromatic_bonds(alloc, count, &edges)?;
+    let near = neighbours_of(alloc, count, &edges)?;
+    let rings = ring_bonds_over(alloc, &near, count, &edges)?;
+    let aromatics = aromatic_bonds_over(alloc, &near, count, &edges, &rings)?;
     let mut marked = bonds;
     put_marks(&mut marked, &rings, &aromatics);
-    Graph::of(alloc, atoms, marked)
+    Ok(Graph::over(atoms, marked, near))
 }
 
 // Puts the marks.

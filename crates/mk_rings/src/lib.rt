@@ -13,7 +13,9 @@ mod aromatic;
 mod checks;
 mod forest;
 mod graphs;
+mod laws;
 mod marking;
+mod molecules;
 mod node;
 mod six_rings;
 mod spreading;
@@ -22,4 +24,6 @@ mod tests;
 
 pub use aromatic::aromatic_bonds;
 pub use graphs::marked_graph;
+pub use laws::marks_determine_bonds;
 pub use marking::ring_bonds;
+pub use molecules::marked_bonds;

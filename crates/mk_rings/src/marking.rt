@@ -1,6 +1,6 @@
 // Marks of ring bonds by a spanning forest.
 ghost use Rattle.std.specs.Prelude.{◌≡◌, ◌≢◌, ◌≤◌, ◌<◌, ◌-◌, ◌↔◌, ◌⊎◌, ℕ, IfOk, IsTrue, length};
-ghost use Rattle.mk_model.specs.Edges.{AreBetween, IsSimple, Joins};
+ghost use Rattle.mk_model.specs.Edges.{AreBetween, IsSimple, Joins, rows_of};
 ghost use Rattle.mk_model.specs.Rings.{IsRingBond};
 ghost use Rattle.mk_rings.specs.Forests.{HangsBy, IsForest, node};
 ghost use Rattle.mk_rings.specs.Marks.{IsMarked, Marks, MarksWay};
@@ -15,11 +15,36 @@ pub fn ring_bonds(alloc: Global, atoms: u32, bonds: &[Edge]) -> Result<Vec<bool>
     requires { IsSimple atoms bonds.now }
     ensures { IfOk result (λ marks. Marks (IsRingBond bonds.now) bonds.now marks.items) }
 {
-    let near = Neighbours::of(alloc, atoms, bonds)?;
-    let nodes = forest_of(alloc, &near, atoms, bonds)?;
+    let near = neighbours_of(alloc, atoms, bonds)?;
+    ring_bonds_over(alloc, &near, atoms, bonds)
+}
+
+/// Marks the ring bonds, where the neighbours are made already.
+pub fn ring_bonds_over(
+    alloc: Global,
+    near: &Neighbours,
+    atoms: u32,
+    bonds: &[Edge],
+) -> Result<Vec<bool>, Memory>
+    requires simple { IsSimple atoms bonds.now }
+    requires rows { near.now ≡ rows_of atoms bonds.now }
+    ensures { IfOk result (λ marks. Marks (IsRingBond bonds.now) bonds.now marks.items) }
+{
+    let nodes = forest_of(alloc, near, atoms, bonds)?;
     let mut marks = vec![in alloc; false; bonds.len()]?;
     mark_rings(&nodes, bonds, &mut marks);
     Ok(marks)
+}
+
+/// Lists the bonds of each of the atoms. Numbers of bonds are of 32 bits: more bonds have no memory here.
+pub fn neighbours_of(alloc: Global, atoms: u32, bonds: &[Edge]) -> Result<Neighbours, Memory>
+    requires { AreBetween atoms bonds.now }
+    ensures { IfOk result (λ near. near ≡ rows_of atoms bonds.now) }
+{
+    if bonds.len() > u32::MAX as usize {
+        return Err(Memory);
+    }
+    Neighbours::of(alloc, atoms, bonds)
 }
 
 // Marks each bond by which no atom hangs, and the bonds of the forest between its ends.

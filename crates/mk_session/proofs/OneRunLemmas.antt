@@ -22,7 +22,7 @@ use Rattle.mk_model.specs.Hits.{AreHits, IsHit}
 use Rattle.mk_model.specs.Molecules.{Molecule as Mol}
 use Rattle.mk_model.proofs.PlaceLemmas.{at_place}
 use Rattle.mk_rings.specs.Bare.{bare_bond, bare_bonds}
-use Rattle.mk_rings.proofs.GraphLemmas.{same_at, same_edges, same_length}
+use Rattle.mk_rings.proofs.ForCallers.{same_at, same_edges, same_length}
 use Rattle.mk_mol.proofs.LawLemmas.{no_fault, one_fault, one_filled}
 use Rattle.mk_session.specs.declared.outcome.Held.{Held}
 use Rattle.mk_session.specs.declared.outcome.Held.TheVariants.{Molecule, Refused}

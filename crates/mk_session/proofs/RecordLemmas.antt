@@ -1,9 +1,8 @@
 -- Files of one record are read exactly, and so the laws of forms hold of them.
-use Rattle.std.proofs.Common.{◌≡◌, ℕ, ◌-◌, ◌≤◌, true, false, None, Result, Ok, Err, List, [], ◌∷◌, ◌++◌, length, take, drop, refl, sym, ap, subst, ◌∙◌, inl, inr, arith}
+use Rattle.std.proofs.Common.{◌≡◌, true, false, Result, Ok, Err, List, [], ◌∷◌, ◌++◌, length, refl, sym, ap, subst, ◌∙◌, inl, inr, arith}
 use Rattle.std.specs.Prelude.{IfOk}
 use Rattle.std.specs.List.{list_any}
-use Rattle.std.proofs.lemmas.List.{append-nil, length-append, take-append-drop}
-use Rattle.std.proofs.lemmas.List.Folds.{list_all-append}
+use Rattle.std.proofs.lemmas.List.{append-nil, length-append}
 use Rattle.mk_form.specs.Exact.{Part, Exact, Completes, NeverDue, NoLines}
 use Rattle.mk_form.specs.InWords.{form}
 use Rattle.mk_form.specs.ToEnd.{EachIs}
@@ -15,40 +14,16 @@ use Rattle.mk_form.proofs.Seen.{exact-seen_as, exact-with_lines}
 use Rattle.mk_form.proofs.Sequence.{exact-sequence}
 use Rattle.mk_form.proofs.Stops.{one_value, text_is_taken, bad_line_is_stop, bad_is_no_text, one_bad_line, stop_is_named}
 use Rattle.mk_form.proofs.ToEnd.{each-at, exact-lines_to_end}
-use Rattle.mk_text.specs.Columns.{standing, is_space, are_blank}
-use Rattle.mk_text.proofs.TestLemmas.{both}
-use Rattle.mk_text.proofs.TrimLemmas.{trimmed-columns, trimmed_blank}
+use Rattle.mk_text.specs.Columns.{are_blank}
 use Rattle.mk_ctab.specs.declared.fault.TableFault.{TableFault}
 use Rattle.mk_ctab.specs.declared.fault.TableFault.TheVariants.{Bad, V3000, Memory}
 use Rattle.mk_ctab.specs.TableFaults.{IfBad, IfV3000}
-use Rattle.mk_ctab.specs.TableLines.{Line, word_of, is_v3000, counts_of}
-use Rattle.mk_ctab.proofs.TableLemmas.{exact-table}
+use Rattle.mk_ctab.specs.TableLines.{Line, is_v3000}
+use Rattle.mk_ctab.proofs.ForCallers.{exact-table, blank_is_no_counts_line}
 use Rattle.mk_session.specs.declared.record_file.RecordFile.{RecordFile}
 use Rattle.mk_session.specs.declared.record_file.RecordFile.TheVariants.{Blank, Record}
 use Rattle.mk_session.specs.RecordFile.{is_not_blank, IsRecordFile, AreHeaders, IsBadRecordLine, IsV3000Line, HasOneFile, HasBadLine, HasOneBadLine}
 use Rattle.mk_session.specs.RecordReading.{blank_part, record_with, record_part, file_part, file_at, AnswersFile}
-
--- ---- a blank line is no counts line
-
--- the first so many bytes of a blank line are blank, and so are those behind them
-blank_cut : (n : ℕ) (cells : List ℕ) → are_blank cells ≡ true → (are_blank (take n cells) ≡ true) × (are_blank (drop n cells) ≡ true)
-blank_cut n cells blank =
-    both (are_blank (take n cells)) (are_blank (drop n cells)) (sym (list_all-append is_space (take n cells) (drop n cells)) ∙ ap are_blank (take-append-drop n cells) ∙ blank)
-
--- nothing stands on a blank line between any two columns
-no_word : (l : Line) (a b : ℕ) → 1 ≤ a → a ≤ b → are_blank l ≡ true → word_of l a b ≡ []
-no_word l a b first order blank = trimmed-columns l a b first order ∙ trimmed_blank (standing l a b) (blank_cut (b - (a - 1)) (drop (a - 1) l) (blank_cut (a - 1) l blank).1).0
-
--- so it holds no counts
-no_counts : (l : Line) → are_blank l ≡ true → counts_of l ≡ None
-unfolding counts_of
-no_counts l blank = rw (no_word l 1 3 (omega arith) (omega arith) blank) refl
-
--- and doesn't say V3000
-no_v3000 : (l : Line) → are_blank l ≡ true → is_v3000 l ≡ true → ⊥
-no_v3000 l blank says =
-    let none : is_v3000 l ≡ false = rw (no_word l 34 39 (omega arith) (omega arith) blank) refl in
-    cc
 
 -- ---- the parts, in the order of the definition
 
@@ -70,13 +45,13 @@ apart lines a b blank is =
     let table = is.second.first in
     let behind = is.second.whole ∙ ap (λ (x : List Line). x ++ is.second.back) table.whole in
     let whole = is.whole ∙ ap (λ (x : List Line). is.front ++ x) behind in
-    let none = no_counts table.counts_line (each-at are_blank true is.front _ table.counts_line (subst (EachIs are_blank true) whole blank.is)) in
+    let none = (blank_is_no_counts_line table.counts_line (each-at are_blank true is.front _ table.counts_line (subst (EachIs are_blank true) whole blank.is))).0 in
     let some = table.counted in
     cc
 
 -- a line that says V3000 isn't blank
 unnamed : (front : List Line) (l : Line) → blank_part.live (front ++ l ∷ []) → is_v3000 l ≡ true → ⊥
-unnamed front l live says = no_v3000 l (each-at are_blank true front [] l live) says
+unnamed front l live says = (blank_is_no_counts_line l (each-at are_blank true front [] l live)).1 says
 
 -- files are read exactly
 pub exact-file_part : Exact is_v3000 NoLines file_part

@@ -23,7 +23,7 @@ use Rattle.mk_ctab.specs.declared.fault.TableFault.TheVariants.{Bad, V3000, Memo
 use Rattle.mk_ctab.specs.declared.raw.RawTable.{RawTable}
 use Rattle.mk_ctab.specs.TableLines.{Line}
 use Rattle.mk_ctab.specs.TableReading.{Fails, table_at}
-use Rattle.mk_ctab.proofs.ReaderLemmas.{fails_first, fails_second}
+use Rattle.mk_ctab.proofs.ForCallers.{fails_first, fails_second}
 use Rattle.mk_session.specs.declared.record_file.RecordFile.{RecordFile}
 use Rattle.mk_session.specs.declared.record_file.RecordFile.TheVariants.{Blank, Record}
 use Rattle.mk_session.specs.RecordFile.{is_not_blank}

@@ -1,8 +1,16 @@
 pub mod TestLemmas
+pub mod ItemLemmas
+pub mod OptionLemmas
+pub mod SpanLemmas
 pub mod PieceLemmas
+pub mod KeptLinesLemmas
 pub mod DigitLemmas
 pub mod TrimLemmas
 pub mod FieldLemmas
+pub mod KeptColumnLemmas
 pub mod SpellingLemmas
 pub mod RisingLemmas
+pub mod JoinedLemmas
 pub mod ChoiceLemmas
+pub mod ForCallers
+pub mod LineStartLemmas

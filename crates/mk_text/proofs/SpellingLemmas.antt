@@ -1,6 +1,6 @@
 -- A number that is written right-justified in its columns is read again as that number.
-use Rattle.std.proofs.Common.{◌≡◌, ℕ, zero, suc, ◌+◌, ◌-◌, ◌%◌, ◌^◌, ◌<◌, ◌≤◌, Bool, true, ◌&&◌, List, [], ◌∷◌, ◌++◌, length, get_or, take, drop, replicate, refl, sym, ap, ◌∙◌, arith, Some, append_assoc}
-use Rattle.std.specs.Prelude.{ℤ, pos, negsuc, neg_ℤ, decimal}
+use Rattle.std.proofs.Common.{◌≡◌, ℕ, zero, suc, ◌+◌, ◌-◌, ◌%◌, ◌^◌, ◌<◌, ◌≤◌, Bool, true, ◌&&◌, List, [], ◌∷◌, ◌++◌, length, take, drop, replicate, refl, sym, ap, ◌∙◌, arith, Some, append_assoc}
+use Rattle.std.specs.Prelude.{pos, negsuc, neg_ℤ, decimal}
 use Rattle.std.specs.List.{list_all}
 use Rattle.std.specs.Char.{is_ascii_digit}
 use Rattle.std.specs.Str.Parse.{digits_value}
@@ -8,9 +8,9 @@ use Rattle.std.proofs.lemmas.Fmt.{decimal_is_IsNumeral, decimal_by_steps, length
 use Rattle.std.proofs.lemmas.Bool.Decides.{nat_tests}
 use Rattle.std.proofs.lemmas.List.{take_at, drop_at, append-nil, length-append, length-replicate}
 use Rattle.std.proofs.lemmas.List.Folds.{list_all-append}
-use Rattle.mk_text.specs.Columns.{columns, is_space, are_blank}
+use Rattle.mk_text.specs.Columns.{columns, are_blank}
 use Rattle.mk_text.specs.Fields.{NoSign, Minus, field_in, field_of}
-use Rattle.mk_text.specs.Spelling.{at_right, right_in, signed_decimal, signed_right_in, HasNineDigits, RightJustifiedIsRead, SignedRightJustifiedIsRead}
+use Rattle.mk_text.specs.Spelling.{at_right, right_in, signed_decimal, signed_right_in, RightJustifiedIsRead, SignedRightJustifiedIsRead}
 use Rattle.mk_text.proofs.FieldLemmas.{number_given}
 
 -- ---- decimal text
@@ -63,9 +63,9 @@ length-at_right width text fits =
 -- ---- the laws
 
 -- a number is read again
-pub read_again : RightJustifiedIsRead
+pub right_justified_is_read : RightJustifiedIsRead
 unfolding field_of
-read_again before after width n small fits =
+right_justified_is_read before after width n small fits =
     let pad : List ℕ = replicate (width - length (decimal n)) 32 in
     let wide : n < 2 ^ 64 = omega arith in
     let cells = columns_between before (right_in width n) after (length before + 1) (length before + width) refl (omega (arith, length-at_right width (decimal n) fits)) in
@@ -75,10 +75,10 @@ read_again before after width n small fits =
     ∙ ap (λ (k : ℕ). Some (pos k)) (decimal_value n wide)
 
 -- and so is one with a sign
-pub signed_read_again : SignedRightJustifiedIsRead
+pub signed_right_justified_is_read : SignedRightJustifiedIsRead
 unfolding field_of
-signed_read_again before after width (pos n) small fits = read_again before after width n small fits
-signed_read_again before after width (negsuc n) small fits =
+signed_right_justified_is_read before after width (pos n) small fits = right_justified_is_read before after width n small fits
+signed_right_justified_is_read before after width (negsuc n) small fits =
     let text = signed_decimal (negsuc n) in
     let ds = decimal (suc n) in
     let pad : List ℕ = replicate (width - length text) 32 in

@@ -2,7 +2,7 @@
 --     IsField cells n            the columns are a numeric field with the number n
 --     field_of line a b          the number of the columns a to b of a line, or None
 --     FieldsAreRead              the two agree
-use Rattle.std.specs.Prelude.{◌≡◌, ℕ, ◌-◌, ◌≤◌, ◌↔◌, ◌&&◌, ◌==◌, ◌⊎◌, Bool, true, nat_le, nat_lt, List, [], ◌∷◌, ◌++◌, length, Option, Some, None, ℤ, pos, neg_ℤ, if◌then◌else◌}
+use Rattle.std.specs.Prelude.{◌≡◌, ℕ, ◌≤◌, ◌↔◌, ◌&&◌, ◌==◌, ◌⊎◌, true, nat_le, List, [], ◌∷◌, ◌++◌, length, Option, Some, None, ℤ, pos, neg_ℤ, if◌then◌else◌}
 use Rattle.std.specs.Option.{option_map}
 use Rattle.std.specs.List.{list_all}
 use Rattle.std.specs.Char.{is_ascii_digit}

@@ -1,7 +1,11 @@
+pub mod Options
+pub mod Items
 pub mod Spans
 pub mod Lines
+pub mod KeptLines
 pub mod Columns
 pub mod Fields
 pub mod Spelling
 pub mod Rising
 pub mod Choices
+pub mod LineStart

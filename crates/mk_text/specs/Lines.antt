@@ -1,9 +1,13 @@
--- The lines of a text, and the words of a line.
---     pieces text        what stands between the LF bytes; after an LF at the end of the text stands nothing
---     lines_of text      the pieces, each without one CR at its end
---     words_of line      the longest runs of bytes other than blanks
-use Rattle.std.specs.Prelude.{ℕ, ◌==◌, Bool, true, false, List, [], ◌∷◌, map, filter, if◌then◌else◌}
-use Rattle.std.specs.List.{slice_split}
+-- The lines of a text, the text of lines, and the words of a line.
+--     pieces text             what stands between the LF bytes; after an LF at the end of the text stands nothing
+--     lines_of text           the pieces, each without one CR at its end
+--     text_of lines           the lines, each with LF behind it
+--     EndsWith c bytes        the last byte is this one
+--     IsWholeLine bytes       no LF in it, and no CR at its end
+--     words_of line           the longest runs of bytes other than blanks
+--     LinesHoldNoLf, LinesAreFew, TextOfLinesIsRead       laws of lines
+use Rattle.std.specs.Prelude.{◌≡◌, ℕ, ◌≤◌, ◌==◌, Bool, true, false, List, [], ◌∷◌, ◌++◌, length, map, filter, All, Contains, if◌then◌else◌}
+use Rattle.std.specs.List.{flat_map, slice_split}
 
 -- the byte at the front of the first piece, or alone where there is none
 abbrev pub onto_first_piece : ℕ → List (List ℕ) → List (List ℕ)
@@ -25,6 +29,25 @@ without_cr (c ∷ d ∷ cs) = c ∷ without_cr (d ∷ cs)
 unfoldable pub lines_of : List ℕ → List (List ℕ)
 lines_of text = map without_cr (pieces text)
 
+-- a line and LF, byte 10
+abbrev pub ended : List ℕ → List ℕ
+ended line = line ++ 10 ∷ []
+
+-- the lines, each with LF behind it
+abbrev pub text_of : List (List ℕ) → List ℕ
+text_of lines = flat_map ended lines
+
+-- the last byte is this one
+abbrev pub EndsWith : ℕ → List ℕ → Type 0
+EndsWith c bytes = (front : List ℕ) × (bytes ≡ front ++ c ∷ [])
+
+-- no LF in it, and no CR, byte 13, at its end
+pub record IsWholeLine (line : List ℕ) : Type 0 where
+  pub no_lf : ¬ (Contains line 10)
+  pub no_cr : ¬ (EndsWith 13 line)
+
+-- ---- words
+
 abbrev pub has_bytes : List ℕ → Bool
 has_bytes [] = false
 has_bytes (c ∷ cs) = true
@@ -32,3 +55,17 @@ has_bytes (c ∷ cs) = true
 -- the words of a line: what stands between its blanks, byte 32, where anything does
 unfoldable pub words_of : List ℕ → List (List ℕ)
 words_of line = filter has_bytes (slice_split (λ c. c == 32) line)
+
+-- ---- laws
+
+-- no line of a text holds an LF
+abbrev pub LinesHoldNoLf : Type 0
+LinesHoldNoLf = (text : List ℕ) → All (λ line. ¬ (Contains line 10)) (lines_of text)
+
+-- a text has no more lines than bytes
+abbrev pub LinesAreFew : Type 0
+LinesAreFew = (text : List ℕ) → length (lines_of text) ≤ length text
+
+-- whole lines are the lines of their text
+abbrev pub TextOfLinesIsRead : Type 0
+TextOfLinesIsRead = (lines : List (List ℕ)) → All IsWholeLine lines → lines_of (text_of lines) ≡ lines

@@ -4,8 +4,9 @@
 --     Holds lists xs                     xs is one of the lists
 --     IsRisingListOfAll P lists          the rising list of all lists of numbers that have P
 --     IsLeastFrom front P found          the least list that has P and isn't below the front, or none
-use Rattle.std.specs.Prelude.{◌≡◌, ℕ, ◌<◌, ◌⊎◌, List, [], ◌∷◌, ◌++◌, Option, Some, None, take, drop}
-use Rattle.std.specs.List.{AllByRecursion}
+--     joined_with behind lists           each list with each of those that stand behind it
+use Rattle.std.specs.Prelude.{◌≡◌, ℕ, ◌<◌, ◌⊎◌, List, [], ◌∷◌, ◌++◌, Option, Some, None, map, take, drop}
+use Rattle.std.specs.List.{AllByRecursion, flat_map}
 
 -- number by number, a proper prefix before what it begins
 abbrev pub IsBelow : List ℕ → List ℕ → Type 0
@@ -46,6 +47,24 @@ abbrev pub IsLeastFrom : List ℕ → (List ℕ → Type 0) → Option (List ℕ
 IsLeastFrom front P None = (other : List ℕ) → P other → (IsBelow other front → ⊥) → ⊥
 IsLeastFrom front P (Some found) = IsLeast front P found
 
+-- ---- lists with others behind them
+
+-- each list with each of those that stand behind it, in order
+abbrev pub joined_with : (List ℕ → List (List ℕ)) → List (List ℕ) → List (List ℕ)
+joined_with behind lists = flat_map (λ a. map (λ b. a ++ b) (behind a)) lists
+
+-- one of the lists, and behind it one of those that stand behind it
+pub record IsJoined (behind : List ℕ → List (List ℕ)) (lists : List (List ℕ)) (xs : List ℕ) : Type 0 where
+  pub front : List ℕ
+  pub back : List ℕ
+  pub is_front : Holds lists front
+  pub is_back : Holds (behind front) back
+  pub whole : xs ≡ front ++ back
+
+-- none of the lists is a proper prefix of another
+abbrev pub NoneBeginsAnother : List (List ℕ) → Type 0
+NoneBeginsAnother lists = (front more : List ℕ) → Holds lists front → Holds lists (front ++ more) → more ≡ []
+
 -- ---- laws
 
 -- two rising lists that hold the same are one
@@ -73,3 +92,11 @@ abbrev pub RisingFromPlace : Type 0
 RisingFromPlace =
     (place : List ℕ) (lists : List (List ℕ)) → Rises lists
     → (front : List (List ℕ)) × (back : List (List ℕ)) × IsCutAt place lists front back
+
+-- Where lists rise and none is a proper prefix of another, and what stands behind each of them rises, all of them joined are in
+-- order the rising list of all such.
+abbrev pub JoinedListsRise : Type 0
+JoinedListsRise =
+    (behind : List ℕ → List (List ℕ)) (lists : List (List ℕ)) → Rises lists → NoneBeginsAnother lists
+    → ((a : List ℕ) → Holds lists a → Rises (behind a))
+    → IsRisingListOfAll (IsJoined behind lists) (joined_with behind lists)

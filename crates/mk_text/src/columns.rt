@@ -1,5 +1,5 @@
 // The columns of a line. They count from 1, and those past the line's end are blank.
-ghost use Rattle.std.specs.Prelude.{◌≡◌, ◌≤◌, ◌+◌, length};
+ghost use Rattle.std.specs.Prelude.{◌≡◌, ◌≤◌, ◌+◌, ◌==◌, length};
 ghost use Rattle.std.specs.List.{prefix_len, suffix_len};
 ghost use Rattle.mk_text.specs.Columns.{columns, standing, is_space, are_blank, trimmed};
 
@@ -47,8 +47,15 @@ fn without_outer_blanks(cells: &[u8]) -> &[u8]
 fn length_without_last_blanks(cells: &[u8]) -> usize
     ensures { result + suffix_len is_space cells.now ≡ length cells.now }
 {
+    length_without_last(b' ', cells)
+}
+
+/// How long the cells are without the last ones that are this byte.
+pub fn length_without_last(byte: u8, cells: &[u8]) -> usize
+    ensures { result + suffix_len (λ cell. cell == byte) cells.now ≡ length cells.now }
+{
     let mut size = cells.len();
-    while size > 0 && cells[size - 1] == b' ' {
+    while size > 0 && cells[size - 1] == byte {
         size -= 1;
     }
     size

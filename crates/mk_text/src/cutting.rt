@@ -1,7 +1,7 @@
 // The lines of a text, and the words of a line.
 ghost use Rattle.std.specs.Prelude.{◌≡◌, ◌≤◌, All, IfOk, length, slice_range};
 ghost use Rattle.mk_text.specs.Lines.{lines_of, words_of, without_cr};
-ghost use Rattle.mk_text.specs.Spans.{AreWithin, parts};
+ghost use Rattle.mk_text.specs.Spans.{AreApart, AreWithin, parts};
 
 use crate::Memory;
 use std::alloc::Global;
@@ -17,6 +17,7 @@ pub struct Span {
 pub fn lines(alloc: Global, text: &[u8]) -> Result<Vec<Span>, Memory>
     ensures lines { IfOk result (λ spans. parts text.now spans.items ≡ lines_of text.now) }
     ensures within { IfOk result (λ spans. AreWithin text.now spans.items) }
+    ensures apart { IfOk result (λ spans. AreApart spans.items) }
 {
     let mut spans = Vec::new(alloc);
     let mut from = 0;
@@ -35,7 +36,7 @@ pub fn lines(alloc: Global, text: &[u8]) -> Result<Vec<Span>, Memory>
 }
 
 // Where the line ends whose piece is `from` to `to`: before its CR, where it has one.
-fn end_of_line(text: &[u8], from: usize, to: usize) -> usize
+pub fn end_of_line(text: &[u8], from: usize, to: usize) -> usize
     requires order { from ≤ to }
     requires within { to ≤ length text.now }
     ensures line { slice_range text.now from result ≡ without_cr (slice_range text.now from to) }
@@ -53,6 +54,7 @@ fn end_of_line(text: &[u8], from: usize, to: usize) -> usize
 pub fn words(alloc: Global, line: &[u8]) -> Result<Vec<Span>, Memory>
     ensures words { IfOk result (λ spans. parts line.now spans.items ≡ words_of line.now) }
     ensures within { IfOk result (λ spans. AreWithin line.now spans.items) }
+    ensures apart { IfOk result (λ spans. AreApart spans.items) }
 {
     let mut spans = Vec::new(alloc);
     let mut from = 0;

@@ -1,12 +1,27 @@
 // Laws over the definitions alone, each carried by a function that does nothing.
 ghost use Rattle.mk_text.specs.Fields.{FieldsAreRead};
 ghost use Rattle.mk_text.specs.Choices.{ChoicesThatPass};
-ghost use Rattle.mk_text.specs.Rising.{OneRisingList, FirstOfRising, RisingFromPlace};
+ghost use Rattle.mk_text.specs.KeptLines.{KeptLinesAreRead, KeptLinesStay};
+ghost use Rattle.mk_text.specs.Lines.{LinesAreFew, LinesHoldNoLf, TextOfLinesIsRead};
+ghost use Rattle.mk_text.specs.Rising.{OneRisingList, FirstOfRising, RisingFromPlace, JoinedListsRise};
 ghost use Rattle.mk_text.specs.Spelling.{RightJustifiedIsRead, SignedRightJustifiedIsRead};
 
 /// Columns are a numeric field with a number exactly where the reading of fields gives that number.
 pub fn field_is_exact()
     ensures { FieldsAreRead }
+{}
+
+/// The lines of a text hold no LF, and there are no more of them than bytes. Whole lines are the lines of their text.
+pub fn lines_are_read()
+    ensures no_lf { LinesHoldNoLf }
+    ensures few { LinesAreFew }
+    ensures again { TextOfLinesIsRead }
+{}
+
+/// The lines of a kept text are the lines without the CR bytes at their ends, and keeping it again changes nothing.
+pub fn kept_lines_stay()
+    ensures lines { KeptLinesAreRead }
+    ensures same { KeptLinesStay }
 {}
 
 /// Two rising lists that hold the same are one.
@@ -22,6 +37,11 @@ pub fn first_of_rising()
 /// What isn't below a place is the end of a rising list, and rises.
 pub fn rising_from_place()
     ensures { RisingFromPlace }
+{}
+
+/// Rising lists with rising lists behind them rise, where none of the first is a proper prefix of another.
+pub fn joined_lists_rise()
+    ensures { JoinedListsRise }
 {}
 
 /// The choices of numbers that pass a test, in order, are the rising list of all that do.

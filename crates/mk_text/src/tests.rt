@@ -1,5 +1,5 @@
 // Calls that may want memory, once each with enough of it, and fields whose values were worked out by hand.
-use crate::{Bytes, Span, field, lines, put_number, words};
+use crate::{Bytes, Span, field, kept_lines, lines, put_number, words};
 use std::test::Fail;
 
 const LINES: [(&str, &[Span]); 5] = [
@@ -21,6 +21,25 @@ fn a_text_is_cut_at_its_line_ends(rt: HostRuntime) -> Result<(), Fail> {
     for (text, wanted) in LINES {
         let spans = lines(rt.alloc(), text.as_bytes())?;
         assert!(rt; spans.as_slice() == wanted, "{text:?}");
+    }
+    Ok(())
+}
+
+// A text, and its kept lines.
+const KEPT: [(&str, &str); 5] = [
+    ("", ""),
+    ("a\r\n\r\nb", "a\n\nb\n"),
+    ("a \r\r\r\n", "a \n"),
+    ("\ra\rb\r\r", "\ra\rb\n"),
+    ("\n\r", "\n\n"),
+];
+
+#[test]
+fn lines_are_kept_without_the_crs_at_their_ends(rt: HostRuntime) -> Result<(), Fail> {
+    for (text, wanted) in KEPT {
+        let spans = lines(rt.alloc(), text.as_bytes())?;
+        let kept = kept_lines(rt.alloc(), text.as_bytes(), &spans)?;
+        assert!(rt; kept.as_slice() == wanted.as_bytes(), "{text:?}");
     }
     Ok(())
 }

@@ -1,4 +1,5 @@
 use Rattle.mk_ctab.proofs.TableLawLemmas.{one, bad_where_none, one_bad}
+use Rattle.mk_ctab.proofs.TableLemmas.{exact-table}
 use Rattle.mk_ctab.proofs.laws.table_is_exact.Goals as goal
 
 pub returns-clause-one : goal.returns-clause-one
@@ -9,3 +10,6 @@ returns-clause-bad c = bad_where_none
 
 pub returns-clause-one_bad : goal.returns-clause-one_bad
 returns-clause-one_bad c = one_bad
+
+pub returns-clause-exact : goal.returns-clause-exact
+returns-clause-exact c = exact-table

@@ -4,7 +4,7 @@ use Rattle.mk_form.specs.Lines.{line}
 use Rattle.mk_form.proofs.RowLoops.{rows_left_item}
 use Rattle.mk_text.specs.Spans.{parts}
 use Rattle.mk_ctab.specs.TableLines.{raw_bond_of}
-use Rattle.mk_ctab.proofs.ReaderLemmas.{rows_fail}
+use Rattle.mk_ctab.proofs.FaultLemmas.{rows_fail}
 use Rattle.mk_ctab.proofs.table_reading.bonds_from.Goals as goal
 
 pub returns-in_err-bond : goal.returns-in_err-bond

@@ -1,6 +1,6 @@
 use Rattle.std.proofs.Common.{◌<◌, Some, length, ap, ◌∙◌, arith}
 use Rattle.mk_text.specs.Spans.{parts}
-use Rattle.mk_ctab.proofs.LineLemmas.{parts_length}
+use Rattle.mk_text.proofs.ForCallers.{parts_length}
 use Rattle.mk_ctab.proofs.ReaderLemmas.{kept_by, properties_kept, properties_passed}
 use Rattle.mk_ctab.proofs.table_reading.properties_from.Goals as goal
 

@@ -5,14 +5,15 @@ use Rattle.mk_form.specs.Rows.{rows, any_lines}
 use Rattle.mk_text.specs.Spans.{parts}
 use Rattle.mk_ctab.specs.TableLines.{is_v3000, counts_of, raw_atom_of, raw_bond_of, list_of}
 use Rattle.mk_ctab.specs.TableReading.{after_stext, after_lists, after_bonds, after_atoms, after_counts}
-use Rattle.mk_ctab.proofs.StepLemmas.{whole_left, block_fails, atoms_left, bonds_left, lists_left, stext_left, properties_fail_table, table_read}
+use Rattle.mk_ctab.proofs.FaultLemmas.{block_fails}
+use Rattle.mk_ctab.proofs.StepLemmas.{whole_left, atoms_left, bonds_left, lists_left, stext_left, properties_fail_table, table_read}
 use Rattle.mk_ctab.proofs.table_reading.table_from.Goals as goal
 
 pub returns-in_err-counts : goal.returns-in_err-counts
 returns-in_err-counts c =
     let lines = parts c.args.text.now c.args.lines.now in
     let fault = err_from_is_err_and c.from_residual.result c.from_residual.ensures.1 in
-    rw (fault.1, fault.2) (block_fails (counts_line is_v3000 counts_of) after_counts lines (drop c.args.at lines) c.args.at c.in_err-counts.field-0.0 (whole_left (drop c.args.at lines)) c.in_err-counts.ensures)
+    rw (fault.1, fault.2) (block_fails (counts_line is_v3000 counts_of) after_counts lines c.args.at (whole_left (drop c.args.at lines)) c.in_err-counts.field-0.0 c.in_err-counts.ensures)
 
 pub returns-in_err-atoms : goal.returns-in_err-atoms
 returns-in_err-atoms c =
@@ -20,7 +21,7 @@ returns-in_err-atoms c =
     let n = c.in_ok-counts.counts in
     let fault = err_from_is_err_and c.from_residual-in_err-atoms.result c.from_residual-in_err-atoms.ensures.1 in
     let left = atoms_left lines c.args.at n c.in_ok-counts.ensures in
-    rw (fault.1, fault.2) (block_fails (rows n.atoms (line raw_atom_of)) (after_atoms n) lines (drop c.args.at lines) (c.args.at + 1) c.in_err-atoms.field-0.0 left c.in_err-atoms.ensures)
+    rw (fault.1, fault.2) (block_fails (rows n.atoms (line raw_atom_of)) (after_atoms n) lines (c.args.at + 1) left c.in_err-atoms.field-0.0 c.in_err-atoms.ensures)
 
 pub returns-in_err-bonds : goal.returns-in_err-bonds
 returns-in_err-bonds c =
@@ -29,7 +30,7 @@ returns-in_err-bonds c =
     let atoms = c.in_ok-atoms in
     let fault = err_from_is_err_and c.from_residual-in_err-bonds.result c.from_residual-in_err-bonds.ensures.1 in
     let left = bonds_left lines c.args.at n c.in_ok-counts.ensures atoms.atoms atoms.next atoms.ensures in
-    rw (fault.1, fault.2) (block_fails (rows n.bonds (line raw_bond_of)) (after_bonds n atoms.atoms) lines (drop c.args.at lines) atoms.next c.in_err-bonds.field-0.0 left c.in_err-bonds.ensures)
+    rw (fault.1, fault.2) (block_fails (rows n.bonds (line raw_bond_of)) (after_bonds n atoms.atoms) lines atoms.next left c.in_err-bonds.field-0.0 c.in_err-bonds.ensures)
 
 pub returns-in_err-lists : goal.returns-in_err-lists
 returns-in_err-lists c =
@@ -39,7 +40,7 @@ returns-in_err-lists c =
     let bonds = c.in_ok-bonds in
     let fault = err_from_is_err_and c.from_residual-in_err-lists.result c.from_residual-in_err-lists.ensures.1 in
     let left = lists_left lines c.args.at n c.in_ok-counts.ensures atoms.atoms atoms.next atoms.ensures bonds.bonds bonds.next bonds.ensures in
-    rw (fault.1, fault.2) (block_fails (rows n.lists (line list_of)) (after_lists n atoms.atoms bonds.bonds) lines (drop c.args.at lines) bonds.next c.in_err-lists.field-0.0 left c.in_err-lists.ensures)
+    rw (fault.1, fault.2) (block_fails (rows n.lists (line list_of)) (after_lists n atoms.atoms bonds.bonds) lines bonds.next left c.in_err-lists.field-0.0 c.in_err-lists.ensures)
 
 pub returns-in_err-next : goal.returns-in_err-next
 returns-in_err-next c =
@@ -50,7 +51,7 @@ returns-in_err-next c =
     let lists = c.in_ok-lists in
     let fault = err_from_is_err_and c.from_residual-in_err-next.result c.from_residual-in_err-next.ensures.1 in
     let left = stext_left lines c.args.at n c.in_ok-counts.ensures atoms.atoms atoms.next atoms.ensures bonds.bonds bonds.next bonds.ensures lists.lists lists.next lists.ensures in
-    rw (fault.1, fault.2) (block_fails (any_lines (2 * n.stext)) (λ _. after_stext atoms.atoms bonds.bonds lists.lists) lines (drop c.args.at lines) lists.next c.in_err-next.field-0.0 left c.in_err-next.ensures.value)
+    rw (fault.1, fault.2) (block_fails (any_lines (2 * n.stext)) (λ _. after_stext atoms.atoms bonds.bonds lists.lists) lines lists.next left c.in_err-next.field-0.0 c.in_err-next.ensures.value)
 
 pub returns-in_err-props : goal.returns-in_err-props
 returns-in_err-props c =

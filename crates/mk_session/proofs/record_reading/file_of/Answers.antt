@@ -2,7 +2,7 @@ use Rattle.std.proofs.Common.{◌≡◌, ◌+◌, ℕ, length, sym, ap, subst, �
 use Rattle.mk_text.specs.Lines.{lines_of}
 use Rattle.mk_ctab.specs.declared.fault.TableFault.{TableFault}
 use Rattle.mk_ctab.specs.TableReading.{Fails}
-use Rattle.mk_ctab.proofs.LineLemmas.{parts_length}
+use Rattle.mk_ctab.proofs.ForCallers.{parts_length}
 use Rattle.mk_session.specs.RecordReading.{file_at, farther_fault}
 use Rattle.mk_session.proofs.RecordReadingLemmas.{blanks_of, fewer_blanks, blank_file, record_is_file, file_fails}
 use Rattle.mk_session.proofs.record_reading.file_of.Goals as goal

@@ -1,7 +1,7 @@
 use Rattle.std.proofs.Common.{◌≡◌, ◌-◌, length, drop, sym, ap, ◌∙◌, arith}
 use Rattle.std.specs.List.{list_any}
 use Rattle.mk_text.specs.Lines.{lines_of}
-use Rattle.mk_ctab.proofs.LineLemmas.{parts_length}
+use Rattle.mk_ctab.proofs.ForCallers.{parts_length}
 use Rattle.mk_session.specs.RecordFile.{is_not_blank}
 use Rattle.mk_session.proofs.RecordReadingLemmas.{few_lines, record_read, behind_within, lines_behind}
 use Rattle.mk_session.proofs.record_reading.record_of.Goals as goal

@@ -5,6 +5,7 @@ use Rattle.mk_text.specs.declared.cutting.Span.{Span}
 use Rattle.mk_text.specs.Lines.{lines_of}
 use Rattle.mk_text.specs.Spans.{parts}
 use Rattle.mk_text.proofs.PieceLemmas.{lines_at, lines_last, lines_none, one_more, none_more}
+use Rattle.mk_text.proofs.SpanLemmas.{apart_more, before_more}
 use Rattle.mk_text.proofs.cutting.lines.Goals as goal
 use Rattle.mk_text.proofs.cutting.lines.Goals.{then-byte-eq10+in_ok-push, else-byte-eq10, then-from-text+in_ok-push-2, else-from-text}
 
@@ -23,6 +24,8 @@ loop-i-preserved c =
             so_far = rw (w.spans-is, w.from-is, w.in_ok-push.ensures.items) more;
             none = λ k le lt. absurd (omega arith);
             within = rw (w.spans-is, w.in_ok-push.ensures.items) (grind (arith, common_steps));
+            apart = rw (w.spans-is, w.in_ok-push.ensures.items) (apart_more c.loop-i.spans.items s inv.apart inv.before);
+            before = rw (w.spans-is, w.from-is, w.in_ok-push.ensures.items) (before_more c.loop-i.spans.items s (c.loop-i.i + 1) inv.before (omega arith) (omega arith));
           }
       | else-byte-eq10 w ↦
           record {
@@ -30,6 +33,8 @@ loop-i-preserved c =
             so_far = rw (w.spans-is, w.from-is) inv.so_far;
             none = λ k le lt. none_more text c.loop-i.from c.loop-i.i inv.none w.if-byte-eq10.false k (omega arith) lt;
             within = rw w.spans-is inv.within;
+            apart = rw w.spans-is inv.apart;
+            before = rw (w.spans-is, w.from-is) inv.before;
           }
     ]
 
@@ -47,4 +52,14 @@ returns-clause-lines c =
           rw (w.spans-is, w.in_ok-push-2.ensures.items) (sym (append-nil (parts text (c.loop-i.spans.items ++ s ∷ []))) ∙ more)
       | else-from-text w ↦
           rw w.spans-is (sym (append-nil (parts text c.loop-i.spans.items)) ∙ ap (λ (ts : List (List ℕ)). parts text c.loop-i.spans.items ++ ts) (sym (lines_none text c.loop-i.from (omega arith))) ∙ inv.so_far)
+    ]
+
+pub returns-clause-apart : goal.returns-clause-apart
+returns-clause-apart c =
+    let inv = c.loop-i.invariant in
+    elim c.if-from-text.branch [
+      | then-from-text+in_ok-push-2 w ↦
+          let s : Span = record { from = c.loop-i.from; to = w.end_of_line-to-then-from-text.result } in
+          rw (w.spans-is, w.in_ok-push-2.ensures.items) (apart_more c.loop-i.spans.items s inv.apart inv.before)
+      | else-from-text w ↦ rw w.spans-is inv.apart
     ]

@@ -1,7 +1,8 @@
 use Rattle.std.proofs.Common.{◌≡◌, ◌≤◌, ◌++◌, length, drop, All}
 use Rattle.mk_text.specs.Lines.{lines_of}
-use Rattle.mk_text.specs.Spans.{parts}
+use Rattle.mk_text.specs.Spans.{AreApart, parts}
 use Rattle.mk_text.proofs.PieceLemmas.{NoLfBetween}
+use Rattle.mk_text.proofs.SpanLemmas.{AreBefore}
 use Rattle.mk_text.proofs.cutting.lines.Given as goal
 
 abbrev pub invariant-loop-i : goal.invariant-loop-i
@@ -11,4 +12,6 @@ invariant-loop-i l =
       so_far : parts l.text l.spans.items ++ lines_of (drop l.from l.text) ≡ lines_of l.text;
       none : NoLfBetween l.text l.from l.i;
       within : All (λ s. (s.from ≤ s.to) × (s.to ≤ length l.text)) l.spans.items;
+      apart : AreApart l.spans.items;
+      before : AreBefore l.spans.items l.from;
     }

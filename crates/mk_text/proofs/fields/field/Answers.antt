@@ -1,6 +1,6 @@
-use Rattle.std.proofs.Common.{◌≡◌, sym, ◌∙◌, ap, Option, Some, None, refl}
+use Rattle.std.proofs.Common.{◌≡◌, ◌∙◌, ap, Option, Some, None, refl}
 use Rattle.std.specs.Prelude.{ℕ, List, ℤ, IfSome, IfNone}
-use Rattle.mk_text.specs.Columns.{columns, trimmed}
+use Rattle.mk_text.specs.Columns.{columns}
 use Rattle.mk_text.specs.Fields.{IsField, field_in, signed_in}
 use Rattle.mk_text.proofs.FieldLemmas.{some_is_field, none_is_no_field}
 use Rattle.mk_text.proofs.fields.field.Goals as goal

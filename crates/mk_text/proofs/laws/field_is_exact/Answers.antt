@@ -1,5 +1,5 @@
-use Rattle.mk_text.proofs.FieldLemmas.{law}
+use Rattle.mk_text.proofs.FieldLemmas.{fields_are_read}
 use Rattle.mk_text.proofs.laws.field_is_exact.Goals as goal
 
 pub returns : goal.returns
-returns c = law
+returns c = fields_are_read

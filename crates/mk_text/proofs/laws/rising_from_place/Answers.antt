@@ -1,5 +1,5 @@
-use Rattle.mk_text.proofs.RisingLemmas.{cut_at_place}
+use Rattle.mk_text.proofs.RisingLemmas.{rising_from_place}
 use Rattle.mk_text.proofs.laws.rising_from_place.Goals as goal
 
 pub returns : goal.returns
-returns c = cut_at_place
+returns c = rising_from_place

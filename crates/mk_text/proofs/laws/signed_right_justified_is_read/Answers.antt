@@ -1,5 +1,5 @@
-use Rattle.mk_text.proofs.SpellingLemmas.{signed_read_again}
+use Rattle.mk_text.proofs.SpellingLemmas.{signed_right_justified_is_read}
 use Rattle.mk_text.proofs.laws.signed_right_justified_is_read.Goals as goal
 
 pub returns : goal.returns
-returns c = signed_read_again
+returns c = signed_right_justified_is_read

@@ -1,0 +1,231 @@
+// Tables in a text, read line by line from where the first one begins, with no list of lines.
+ghost use Rattle.std.specs.Prelude.{◌≤◌, ◌<◌, ◌^◌, drop, IfOk};
+ghost use Rattle.mk_text.specs.LineStart.{IsLineStart};
+ghost use Rattle.mk_text.specs.Lines.{lines_of};
+ghost use Rattle.mk_form.specs.Lines.{line as one_line, counts_line};
+ghost use Rattle.mk_form.specs.Rows.{rows, any_lines};
+ghost use Rattle.mk_props.specs.Reading.{property_of};
+ghost use Rattle.mk_ctab.specs.Molfile.{molfile_at};
+ghost use Rattle.mk_ctab.specs.TableLines.{is_v3000, counts_of, raw_atom_of, raw_bond_of, list_of};
+ghost use Rattle.mk_ctab.specs.TableReading.{AnswersProperty, properties_part, table_at};
+ghost use Rattle.mk_ctab.specs.TableWalk.{AnswersAt, AnswersPast};
+
+use crate::fault::TableFault;
+use crate::raw::{Properties, RawAtom, RawAtoms, RawBond, RawBonds, RawList, RawLists, RawTable};
+use crate::table_lines::{Counts, read_atom, read_bond, read_counts, read_list, says_v3000};
+use mk_props::{LineFault, Property, read_property};
+use mk_text::{LineStart, Listed, line_from};
+use std::alloc::Global;
+
+fn counts_from(text: &[u8], at: LineStart) -> Result<(Counts, LineStart), TableFault>
+    requires { IsLineStart text.now at }
+    ensures { AnswersAt text.now result ((counts_line is_v3000 counts_of).read (drop at.line (lines_of text.now))) }
+{
+    let Some((line, next)) = line_from(text, at) else {
+        return Err(TableFault::Bad { line: at.line + 1 });
+    };
+    match read_counts(line) {
+        Some(counts) => Ok((counts, next)),
+        None => {
+            if says_v3000(line) {
+                Err(TableFault::V3000 { line: at.line + 1 })
+            } else {
+                Err(TableFault::Bad { line: at.line + 1 })
+            }
+        }
+    }
+}
+
+fn atom_from(alloc: Global, text: &[u8], at: LineStart) -> Result<(RawAtom, LineStart), TableFault>
+    requires { IsLineStart text.now at }
+    ensures { AnswersAt text.now result ((one_line raw_atom_of).read (drop at.line (lines_of text.now))) }
+{
+    let Some((line, next)) = line_from(text, at) else {
+        return Err(TableFault::Bad { line: at.line + 1 });
+    };
+    match read_atom(alloc, line) {
+        Ok(atom) => Ok((atom, next)),
+        Err(LineFault::Bad) => Err(TableFault::Bad { line: at.line + 1 }),
+        Err(LineFault::Memory) => Err(TableFault::Memory),
+    }
+}
+
+// So many atom lines.
+fn atoms_from(
+    alloc: Global,
+    text: &[u8],
+    from: LineStart,
+    count: usize,
+) -> Result<(RawAtoms, LineStart), TableFault>
+    requires { IsLineStart text.now from }
+    ensures { AnswersAt text.now result ((rows count (one_line raw_atom_of)).read (drop from.line (lines_of text.now))) }
+{
+    let mut atoms = Vec::with_capacity(alloc, count)?;
+    let mut at = from;
+    for i in 0..count {
+        let (atom, next) = atom_from(alloc, text, at)?;
+        atoms.push(atom)?;
+        at = next;
+    }
+    Ok((Listed::of(atoms), at))
+}
+
+fn bond_from(text: &[u8], at: LineStart) -> Result<(RawBond, LineStart), TableFault>
+    requires { IsLineStart text.now at }
+    ensures { AnswersAt text.now result ((one_line raw_bond_of).read (drop at.line (lines_of text.now))) }
+{
+    let Some((line, next)) = line_from(text, at) else {
+        return Err(TableFault::Bad { line: at.line + 1 });
+    };
+    match read_bond(line) {
+        Some(bond) => Ok((bond, next)),
+        None => Err(TableFault::Bad { line: at.line + 1 }),
+    }
+}
+
+// So many bond lines.
+fn bonds_from(
+    alloc: Global,
+    text: &[u8],
+    from: LineStart,
+    count: usize,
+) -> Result<(RawBonds, LineStart), TableFault>
+    requires { IsLineStart text.now from }
+    ensures { AnswersAt text.now result ((rows count (one_line raw_bond_of)).read (drop from.line (lines_of text.now))) }
+{
+    let mut bonds = Vec::with_capacity(alloc, count)?;
+    let mut at = from;
+    for i in 0..count {
+        let (bond, next) = bond_from(text, at)?;
+        bonds.push(bond)?;
+        at = next;
+    }
+    Ok((Listed::of(bonds), at))
+}
+
+fn list_from(alloc: Global, text: &[u8], at: LineStart) -> Result<(RawList, LineStart), TableFault>
+    requires { IsLineStart text.now at }
+    ensures { AnswersAt text.now result ((one_line list_of).read (drop at.line (lines_of text.now))) }
+{
+    let Some((line, next)) = line_from(text, at) else {
+        return Err(TableFault::Bad { line: at.line + 1 });
+    };
+    match read_list(alloc, line) {
+        Ok(list) => Ok((list, next)),
+        Err(LineFault::Bad) => Err(TableFault::Bad { line: at.line + 1 }),
+        Err(LineFault::Memory) => Err(TableFault::Memory),
+    }
+}
+
+// So many atom-list lines.
+fn lists_from(
+    alloc: Global,
+    text: &[u8],
+    from: LineStart,
+    count: usize,
+) -> Result<(RawLists, LineStart), TableFault>
+    requires { IsLineStart text.now from }
+    ensures { AnswersAt text.now result ((rows count (one_line list_of)).read (drop from.line (lines_of text.now))) }
+{
+    let mut lists = Vec::with_capacity(alloc, count)?;
+    let mut at = from;
+    for i in 0..count {
+        let (list, next) = list_from(alloc, text, at)?;
+        lists.push(list)?;
+        at = next;
+    }
+    Ok((Listed::of(lists), at))
+}
+
+// So many lines, whatever they are.
+fn pass_over(text: &[u8], from: LineStart, count: usize) -> Result<LineStart, TableFault>
+    requires { IsLineStart text.now from }
+    ensures value { AnswersPast text.now result ((any_lines count).read (drop from.line (lines_of text.now))) }
+    ensures ahead { IfOk result (λ next. from.line ≤ next.line) }
+{
+    let mut at = from;
+    for i in 0..count {
+        let Some((_line, next)) = line_from(text, at) else {
+            return Err(TableFault::Bad { line: at.line + 1 });
+        };
+        at = next;
+    }
+    Ok(at)
+}
+
+// The property of a line, which is that of the index `at`.
+fn property_on(alloc: Global, line: &[u8], at: usize) -> Result<Property, TableFault>
+    requires { at < 2 ^ 63 }
+    ensures { AnswersProperty at result (property_of line.now) }
+{
+    match read_property(alloc, line) {
+        Ok(property) => Ok(property),
+        Err(LineFault::Bad) => Err(TableFault::Bad { line: at + 1 }),
+        Err(LineFault::Memory) => Err(TableFault::Memory),
+    }
+}
+
+// Property lines up to `M  END`.
+fn properties_from(
+    alloc: Global,
+    text: &[u8],
+    from: LineStart,
+) -> Result<(Properties, LineStart), TableFault>
+    requires { IsLineStart text.now from }
+    ensures { AnswersAt text.now result (properties_part.read (drop from.line (lines_of text.now))) }
+{
+    let mut props = Properties::new(alloc);
+    let mut at = from;
+    while let Some((line, next)) = line_from(text, at) {
+        match property_on(alloc, line, at.line)? {
+            Property::End => return Ok((props, next)),
+            Property::Passed(count) => {
+                at = pass_over(text, next, count as usize)?;
+            }
+            property => {
+                props.push(property)?;
+                at = next;
+            }
+        }
+    }
+    Err(TableFault::Bad { line: at.line + 1 })
+}
+
+// Reads the table that begins there, and gives where the line behind its `M  END` begins. The lines that a fault names
+// count from 1, in the whole text.
+fn table_from(
+    alloc: Global,
+    text: &[u8],
+    at: LineStart,
+) -> Result<(RawTable, LineStart), TableFault>
+    requires { IsLineStart text.now at }
+    ensures { AnswersAt text.now result (table_at (drop at.line (lines_of text.now))) }
+{
+    let (counts, next) = counts_from(text, at)?;
+    let (atoms, next) = atoms_from(alloc, text, next, counts.atoms as usize)?;
+    let (bonds, next) = bonds_from(alloc, text, next, counts.bonds as usize)?;
+    let (lists, next) = lists_from(alloc, text, next, counts.lists as usize)?;
+    let next = pass_over(text, next, 2 * counts.stext as usize)?;
+    let (props, next) = properties_from(alloc, text, next)?;
+    let table = RawTable {
+        atoms,
+        bonds,
+        lists,
+        props,
+    };
+    Ok((table, next))
+}
+
+/// Reads the molfile that begins there, which is three header lines and a table, and gives where the line behind its
+/// `M  END` begins. The lines that a fault names count from 1, in the whole text.
+pub fn molfile_from(
+    alloc: Global,
+    text: &[u8],
+    at: LineStart,
+) -> Result<(RawTable, LineStart), TableFault>
+    requires { IsLineStart text.now at }
+    ensures { AnswersAt text.now result (molfile_at (drop at.line (lines_of text.now))) }
+{
+    let behind = pass_over(text, at, 3)?;
+    table_from(alloc, text, behind)
+}

@@ -1,0 +1,17 @@
+-- Where the lines of a text begin.
+--     IsLineStart text start      a line of the text begins there, or its end is there
+use Rattle.std.specs.Prelude.{◌≡◌, ℕ, ◌≤◌, ◌<◌, ◌==◌, false, List, length, drop, slice_index}
+use Rattle.mk_text.specs.declared.line_start.LineStart.{LineStart}
+use Rattle.mk_text.specs.Lines.{lines_of}
+
+-- So many lines stand before the byte, and those from it on are the others.
+pub record IsLineStart (text : List ℕ) (start : LineStart) : Type 0 where
+  pub inside : start.byte ≤ length text
+  pub counted : start.line ≤ length (lines_of text)
+  -- each line before it has a byte, if only its LF
+  pub few : start.line ≤ start.byte
+  pub behind : lines_of (drop start.byte text) ≡ drop start.line (lines_of text)
+
+-- no LF, byte 10, stands between two places
+abbrev pub NoLfBetween : List ℕ → ℕ → ℕ → Type 0
+NoLfBetween text start end = (k : ℕ) → start ≤ k → k < end → (slice_index text k == 10) ≡ false

@@ -1,0 +1,68 @@
+// The lines of a text, one after the other, with no list of them.
+ghost use Rattle.std.specs.Prelude.{◌≡◌, ◌+◌, ◌<◌, ◌≤◌, ◌⊎◌, ℕ, [], length, slice_index, slice_index_or, IfNone, IfSome};
+ghost use Rattle.mk_text.specs.Lines.{lines_of};
+ghost use Rattle.mk_text.specs.LineStart.{IsLineStart, NoLfBetween};
+
+use crate::cutting::end_of_line;
+
+/// Where a line of a text begins: behind so many lines, and so many bytes.
+#[derive(Clone, Copy, Debug, PartialEq, Eq)]
+pub struct LineStart {
+    pub line: usize,
+    pub byte: usize,
+}
+
+/// Where the first line of a text begins.
+pub fn first_line(text: &[u8]) -> LineStart
+    ensures start { IsLineStart text.now result }
+    ensures first { result.line ≡ 0 }
+{
+    LineStart { line: 0, byte: 0 }
+}
+
+// The place of the first LF from a byte on, or the end of the text where there is none.
+fn lf_from(text: &[u8], from: usize) -> usize
+    requires { from ≤ length text.now }
+    ensures order { from ≤ result }
+    ensures within { result ≤ length text.now }
+    ensures none { NoLfBetween text.now from result }
+    ensures found { result < length text.now → slice_index text.now result ≡ 10 }
+{
+    let mut at = from;
+    while at < text.len() && text[at] != b'\n' {
+        at += 1;
+    }
+    at
+}
+
+// The place behind that LF, or the end of the text.
+fn behind_lf(text: &[u8], lf: usize) -> usize
+    requires { lf ≤ length text.now }
+    ensures { ((lf < length text.now) × (result ≡ lf + 1)) ⊎ ((length text.now ≤ lf) × (result ≡ lf)) }
+{
+    if lf < text.len() {
+        return lf + 1;
+    }
+    lf
+}
+
+/// The line that begins there, and where the next one begins; None where no line is left.
+pub fn line_from(text: &[u8], start: LineStart) -> Option<(&[u8], LineStart)>
+    requires { IsLineStart text.now start }
+    ensures none { IfNone result (start.line ≡ length (lines_of text.now)) }
+    ensures there { IfSome result (λ r. start.line < length (lines_of text.now)) }
+    ensures line { IfSome result (λ r. r.0.now ≡ slice_index_or (lines_of text.now) start.line []) }
+    ensures next { IfSome result (λ r. r.1.line ≡ start.line + 1) }
+    ensures start { IfSome result (λ r. IsLineStart text.now r.1) }
+{
+    if start.byte == text.len() {
+        return None;
+    }
+    let lf = lf_from(text, start.byte);
+    let to = end_of_line(text, start.byte, lf);
+    let next = LineStart {
+        line: start.line + 1,
+        byte: behind_lf(text, lf),
+    };
+    Some((&text[start.byte..to], next))
+}
