@@ -17,8 +17,7 @@ use Rattle.mk_model.specs.Graphs.{GraphView, IsGraph, graph_edge, graph_edges}
 use Rattle.mk_model.specs.Fitting.{LiesOn}
 use Rattle.mk_model.specs.Edges.{other_end}
 use Rattle.mk_model.specs.Hits.{image, IsHit}
-use Rattle.mk_model.proofs.ForCallers.{IsNumberOf, numbers_at-each}
-use Rattle.mk_model.proofs.PlaceLemmas.{at_place}
+use Rattle.mk_model.proofs.ForCallers.{IsNumberOf, at_place, numbers_at-each}
 use Rattle.mk_match.specs.Candidates.{AreBonded, end_numbered}
 use Rattle.mk_match.specs.Table.{MayLie}
 use Rattle.mk_match.proofs.CandidateLemmas.{bonded_end, ends_by}

@@ -15,7 +15,7 @@ use Rattle.mk_model.specs.Molecules.{Molecule}
 use Rattle.mk_model.specs.Graphs.{GraphView}
 use Rattle.mk_model.specs.Tests.{accepts}
 use Rattle.mk_model.specs.Hits.{image, IsHit}
-use Rattle.mk_model.proofs.PlaceLemmas.{place_is, place_within}
+use Rattle.mk_model.proofs.ForCallers.{place_is, place_within}
 use Rattle.mk_match.specs.Counts.{asks_for, is_of, names}
 use Rattle.mk_match.proofs.BondCountLemmas.{fits_in}
 use Rattle.mk_match.proofs.ListTestLemmas.{all_cons}

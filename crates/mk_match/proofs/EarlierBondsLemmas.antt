@@ -11,9 +11,7 @@ use Rattle.mk_model.specs.Molecules.{Molecule}
 use Rattle.mk_model.specs.Graphs.{GraphView, graph_edge, graph_edges}
 use Rattle.mk_model.specs.Fitting.{LiesOn}
 use Rattle.mk_model.specs.Hits.{image}
-use Rattle.mk_model.proofs.DegreeLemmas.{touches-second}
-use Rattle.mk_model.proofs.ForCallers.{numbers_at-all}
-use Rattle.mk_model.proofs.PlaceLemmas.{all_at, at_place}
+use Rattle.mk_model.proofs.ForCallers.{all_at, at_place, numbers_at-all, touches-second}
 use Rattle.mk_match.specs.EarlierBonds.{HasNoAnchor, IsElsewhere, IsMetAt}
 
 -- where all bonds of atom n have P that end at it, all bonds of the graph have that do

@@ -11,3 +11,4 @@ pub mod WalkLemmas
 pub mod EarlierBondsLemmas
 pub mod PlainLemmas
 pub mod MapsLemmas
+pub mod ForCallers

@@ -4,7 +4,7 @@
 use Rattle.std.proofs.Common.{◌≡◌, ℕ, inl, inr, List, [], ◌∷◌, ◌++◌, refl, sym, subst, arith}
 use Rattle.std.proofs.lemmas.Bool.{cases_lt, cases_eq}
 use Rattle.mk_text.specs.Rising.{Holds, IsBelow}
-use Rattle.mk_text.proofs.RisingLemmas.{below_or_not, below_through, holds_each}
+use Rattle.mk_text.proofs.ForCallers.{below_or_not, below_through, holds_each}
 use Rattle.mk_model.specs.Molecules.{Molecule}
 use Rattle.mk_model.specs.Graphs.{GraphView}
 use Rattle.mk_model.specs.Hits.{IsHit}

@@ -17,8 +17,7 @@ use Rattle.mk_model.specs.Molecules.{IsMolecule, Molecule, edge_of}
 use Rattle.mk_model.specs.Graphs.{GraphView, IsGraph, graph_edge, graph_edges}
 use Rattle.mk_model.specs.Fitting.{LiesOn}
 use Rattle.mk_model.specs.Hits.{image, IsHit}
-use Rattle.mk_model.proofs.ForCallers.{numbers_at-each}
-use Rattle.mk_model.proofs.PlaceLemmas.{all_at, place_is, place_within}
+use Rattle.mk_model.proofs.ForCallers.{all_at, numbers_at-each, place_is, place_within}
 use Rattle.mk_match.specs.Candidates.{AreBonded, IsCandidate}
 use Rattle.mk_match.specs.Table.{MayLie}
 use Rattle.mk_match.specs.Walk.{SameFrom, place_of}

@@ -7,7 +7,7 @@
 use Rattle.std.proofs.Common.{◌≡◌, ℕ, ◌+◌, ◌<◌, ◌≤◌, inl, inr, List, [], ◌∷◌, ◌++◌, length, Option, Some, None, refl, sym, ap, subst, arith, append_assoc, append-nil}
 use Rattle.std.proofs.lemmas.Bool.{cases_lt}
 use Rattle.mk_text.specs.Rising.{IsBelow, IsLeast, IsLeastFrom}
-use Rattle.mk_text.proofs.RisingLemmas.{not_below_itself}
+use Rattle.mk_text.proofs.ForCallers.{not_below_itself}
 use Rattle.mk_match.specs.Walk.{SameFrom}
 
 -- ---- two places that begin alike

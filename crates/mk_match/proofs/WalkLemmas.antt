@@ -12,7 +12,7 @@ use Rattle.mk_model.specs.declared.graph.GraphBond.{GraphBond}
 use Rattle.mk_model.specs.Molecules.{IsMolecule, Molecule}
 use Rattle.mk_model.specs.Graphs.{GraphView, IsGraph}
 use Rattle.mk_model.specs.Hits.{image, IsHit}
-use Rattle.mk_model.proofs.PlaceLemmas.{drawn_first, drawn_second}
+use Rattle.mk_model.proofs.ForCallers.{drawn_first, drawn_second}
 use Rattle.mk_match.specs.Begun.{IsBegun, MayStand}
 use Rattle.mk_match.specs.Candidates.{AreBonded, IsCandidate}
 use Rattle.mk_match.specs.EarlierBonds.{IsAnchor}

@@ -4,7 +4,7 @@ ghost use Rattle.mk_model.specs.Fitting.{LiesOn};
 ghost use Rattle.mk_model.specs.Hits.{image};
 ghost use Rattle.mk_match.specs.EarlierBonds.{HasNoAnchor, IsAnchor, IsMetAt};
 
-use mk_model::{Graph, GraphBond, Mol};
+use mk_model::{Graph, Mol};
 use mk_tests::bond_fits;
 
 /// Tells whether each bond of the next atom to an earlier one lies on a bond.
@@ -32,7 +32,7 @@ fn is_met_at(graph: &Graph, mol: &Mol, first: &[u32], a: u32, number: u32) -> bo
     requires number_most { number ≤ length graph.now.bonds }
     ensures { IsTrue result ↔ IsMetAt graph.now mol.now first.now a number }
 {
-    let bond = bond_numbered(graph, number);
+    let bond = graph.bond(number);
     if bond.second as usize != first.len() + 1 {
         return true;
     }
@@ -46,7 +46,7 @@ pub fn anchor_of(graph: &Graph, first: &[u32]) -> Option<u32>
     ensures none { IfNone result (HasNoAnchor graph.now first.now) }
 {
     for number in graph.bonds_at(next_number(graph, first)) {
-        let bond = bond_numbered(graph, *number);
+        let bond = graph.bond(*number);
         if bond.second as usize == first.len() + 1 {
             return Some(first[bond.first as usize - 1]);
         }
@@ -61,15 +61,4 @@ fn next_number(graph: &Graph, first: &[u32]) -> u32
 {
     let _few = graph.atom_count();
     first.len() as u32 + 1
-}
-
-fn bond_numbered(graph: &Graph, number: u32) -> GraphBond
-    requires least { 1 ≤ number }
-    requires most { number ≤ length graph.now.bonds }
-    ensures bond { slice_get graph.now.bonds (number - 1) ≡ Some result }
-    ensures first { 1 ≤ result.first }
-    ensures order { result.first < result.second }
-    ensures second { result.second ≤ length graph.now.atoms }
-{
-    graph.bonds()[number as usize - 1]
 }

@@ -1,9 +1,9 @@
 // The order in which a look ahead looks for atoms. Any order serves its promise, so nothing is promised of this one.
-ghost use Rattle.std.specs.Prelude.{◌≡◌, ◌≤◌, ◌-◌, ◌==◌, Some, length, slice_get, slice_index, if◌then◌else◌};
+ghost use Rattle.std.specs.Prelude.{◌≡◌, ◌≤◌, ◌-◌, length, slice_index};
 ghost use Rattle.mk_match.specs.Table.{IsTable};
 
 use crate::table::fits_at;
-use mk_model::{Graph, GraphBond, Memory, Mol};
+use mk_model::{Graph, Memory, Mol};
 use std::alloc::Global;
 
 // The rank of an atom that isn't in the order, and of one that waits at its edge.
@@ -89,7 +89,7 @@ impl Order {
             return;
         }
         for number in graph.bonds_at(x) {
-            let y = other_of(bond_numbered(graph, *number), x);
+            let y = graph.bond(*number).edge().other_end(x);
             if y <= self.first {
                 continue;
             }
@@ -168,29 +168,11 @@ fn placed_at(graph: &Graph, x: u32, first: u32) -> u32
 {
     let mut count = 0u32;
     for number in graph.bonds_at(x) {
-        if other_of(bond_numbered(graph, *number), x) <= first {
+        if graph.bond(*number).edge().other_end(x) <= first {
             count = count.saturating_add(1);
         }
     }
     count
-}
-
-/// The other end of a bond.
-pub fn other_of(bond: GraphBond, x: u32) -> u32
-    ensures { result ≡ (if bond.first == x then bond.second else bond.first) }
-{
-    if bond.first == x {
-        return bond.second;
-    }
-    bond.first
-}
-
-pub fn bond_numbered(graph: &Graph, number: u32) -> GraphBond
-    requires least { 1 ≤ number }
-    requires most { number ≤ length graph.now.bonds }
-    ensures { slice_get graph.now.bonds (number - 1) ≡ Some result }
-{
-    graph.bonds()[number as usize - 1]
 }
 
 /// The number that is kept for an atom, or 0 where none is.

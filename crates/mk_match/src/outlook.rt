@@ -5,9 +5,9 @@ ghost use Rattle.mk_match.specs.Table.{IsTable};
 ghost use Rattle.mk_match.specs.Outlook.{AreLater, EndsAt, IsBeside, IsNoHitBehind, IsPut, IsTaken, LiesNever, StandsIn};
 
 use crate::candidates::next_atom;
-use crate::order::{Order, bond_numbered, number_at, other_of, put_at};
+use crate::order::{Order, number_at, put_at};
 use crate::table::fits_at;
-use mk_model::{Graph, GraphBond, Memory, Mol};
+use mk_model::{Graph, Memory, Mol};
 use mk_tests::bond_fits;
 use std::alloc::Global;
 
@@ -185,8 +185,8 @@ fn anchor_of(
     ensures beside { IfSome result (IsBeside graph.now mol.now first.now order.now chosen.now x) }
 {
     for number in graph.bonds_at(x) {
-        let bond = bond_numbered(graph, *number);
-        if let Some(a) = image_of(mol, first, order, ranks, chosen, other_of(bond, x)) {
+        let bond = graph.bond(*number);
+        if let Some(a) = image_of(mol, first, order, ranks, chosen, bond.edge().other_end(x)) {
             return Some(a);
         }
     }
@@ -295,8 +295,8 @@ fn is_unmet(
     requires most { a ≤ length mol.now.atoms }
     ensures { IsTrue result → LiesNever graph.now mol.now first.now order.now chosen.now x a }
 {
-    let bond = bond_numbered(graph, number);
-    let Some(b) = image_of(mol, first, order, ranks, chosen, other_of(bond, x)) else {
+    let bond = graph.bond(number);
+    let Some(b) = image_of(mol, first, order, ranks, chosen, bond.edge().other_end(x)) else {
         return false;
     };
     if bond.first == x {

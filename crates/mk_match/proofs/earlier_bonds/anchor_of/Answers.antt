@@ -11,7 +11,7 @@ loop-number-preserved c =
     let i = c.loop-number.number-index in
     let below : i < length items = omega arith in
     All-more (IsElsewhere c.args.graph.now c.args.first.now) items i 0 below c.loop-number.invariant
-    (elsewhere c.args.graph.now c.args.first.now _ c.bond_numbered-bond.result c.bond_numbered-bond.ensures.bond c.if-bond-first.false)
+    (elsewhere c.args.graph.now c.args.first.now _ c.bond-bond.result c.bond-bond.ensures.bond c.if-bond-first.false)
 
 pub returns-clause-none : goal.returns-clause-none
 returns-clause-none c =

@@ -4,7 +4,7 @@ use Rattle.mk_model.specs.Graphs.{GraphView}
 use Rattle.mk_model.specs.Hits.{IsHit}
 use Rattle.mk_text.specs.Rising.{IsLeast, IsLeastFrom}
 use Rattle.mk_match.specs.Plain.{hits_of}
-use Rattle.mk_match.proofs.PlainLemmas.{law}
+use Rattle.mk_match.proofs.ForCallers.{law}
 use Rattle.mk_session.proofs.ListingLemmas.{listed_all, listed_first, listed_more, listed_none, listed_whole}
 use Rattle.mk_session.proofs.listing.hits_counted.Goals as goal
 
