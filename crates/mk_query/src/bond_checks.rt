@@ -36,13 +36,7 @@ fn least_of(a: Option<u32>, b: Option<u32>) -> Option<u32>
     ensures { result ≡ least_of a b }
 {
     match (a, b) {
-        (Some(i), Some(j)) => {
-            if i <= j {
-                Some(i)
-            } else {
-                Some(j)
-            }
-        }
+        (Some(i), Some(j)) => { if i <= j { Some(i) } else { Some(j) } }
         (Some(i), None) => Some(i),
         (None, _) => b,
     }
@@ -68,11 +62,7 @@ fn has_query_type(bond: &RawBond) -> bool
 }
 
 // The first bond with which an atom has more than 20.
-fn first_crowding_bond(
-    alloc: Global,
-    atoms: u32,
-    bonds: &[RawBond],
-) -> Result<Option<u32>, Memory>
+fn first_crowding_bond(alloc: Global, atoms: u32, bonds: &[RawBond]) -> Result<Option<u32>, Memory>
     requires { length bonds.now ≤ 999 }
     ensures { IfOk result (FindsLeast (LeavesFewBonds atoms bonds.now)) }
 {
