@@ -1,0 +1,7 @@
+use Rattle.std.proofs.Common.{ℕ, ◌<◌, ◌+◌}
+use Rattle.mk_text.specs.Items.{OfItem}
+use Rattle.mk_query.specs.Checks.{HasQueryType}
+use Rattle.mk_query.proofs.bond_checks.first_unknown_type.Given as goal
+
+abbrev pub invariant-loop-i : goal.invariant-loop-i
+invariant-loop-i l = (j : ℕ) → j < l.i + 1 → OfItem HasQueryType l.bonds j
