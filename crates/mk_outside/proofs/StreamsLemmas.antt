@@ -1,9 +1,9 @@
 -- What was written or taken, call by call, where the bytes are known.
-use Rattle.std.proofs.Common.{◌≡◌, ℕ, ◌+◌, ◌-◌, ◌≤◌, List, [], ◌++◌, length, take, drop, Option, Some, None, Result, Ok, Err, arith, refl, sym, ap, ◌∙◌, take-append-drop, take-add, length-append, length-take, length-drop, take_all}
+use Rattle.std.proofs.Common.{◌≡◌, ℕ, ◌+◌, ◌-◌, ◌≤◌, List, ◌++◌, length, take, drop, Option, Some, None, Err, arith, sym, ap, ◌∙◌, take-append-drop, take-add, length-append, length-take, length-drop, take_all}
 use Rattle.std.specs.Io.KnownBytes.{Appends, Consumes, Keeps}
 use Rattle.std.proofs.KnownBytes.{Appends-trans, Consumes-trans}
 use Rattle.mk_outside.specs.declared.answers.PutFail.TheVariants as put_fail
-use Rattle.mk_outside.specs.Told.{Puts, AppendsPrefix}
+use Rattle.mk_outside.specs.Told.{Puts}
 use Rattle.mk_outside.specs.Streams.{TakesAtMost}
 
 -- ---- writing

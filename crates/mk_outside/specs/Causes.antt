@@ -10,4 +10,4 @@ abbrev pub cause_of : ErrorKind → Cause
 cause_of kind.Interrupted = cause.Interrupted
 cause_of kind.NotFound = cause.Absent
 cause_of kind.OutOfMemory = cause.Memory
-cause_of other = cause.Failed
+cause_of _ = cause.Failed

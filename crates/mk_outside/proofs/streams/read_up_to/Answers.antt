@@ -1,6 +1,5 @@
-use Rattle.std.proofs.Common.{rules, arith, ◌+◌, ◌≡◌, length, take, length-append, length-take}
+use Rattle.std.proofs.Common.{arith, take, length-append, length-take}
 use Rattle.std.proofs.KnownBytes.{Consumes-trans, Consumes-kept}
-use Rattle.mk_outside.specs.Streams.{chunk_bytes}
 use Rattle.mk_outside.proofs.StreamsLemmas.{takes_more}
 use Rattle.mk_outside.proofs.streams.read_up_to.Goals as goal
 use Rattle.mk_outside.proofs.streams.read_up_to.Goals.{in-Ok+else-count-most+in_ok-extend_from_slice-in-Ok, in-Err+in-Interrupted}
