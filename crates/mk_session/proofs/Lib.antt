@@ -1,4 +1,4 @@
-pub mod ListingLemmas
+pub mod ListingsLemmas
 pub mod QueryGraphLemmas
 pub mod RecordLemmas
 pub mod RecordReadingLemmas

@@ -33,7 +33,7 @@ use Rattle.mk_session.specs.declared.record_file.RecordFile.{RecordFile}
 use Rattle.mk_session.specs.declared.record_file.RecordFile.TheVariants.{Blank, Record}
 use Rattle.mk_session.specs.declared.status.Status.TheVariants as status
 use Rattle.mk_session.specs.Answers.{bad_line_text, check_text, hits_text, v3000_text}
-use Rattle.mk_session.specs.QueryGraph.{IsDrawnAs, IsGraphOf}
+use Rattle.mk_session.specs.QueryGraph.{IsAskedBond, IsGraphOf}
 use Rattle.mk_session.specs.RecordFile.{IsBadRecordLine, IsRecordFile, IsV3000Line}
 use Rattle.mk_session.specs.Run.{TooLong as LongMolecules, BadLine, V3000, FurtherLines, NoRecord, FailsCheck, Refuses, Lists, NotUnderstood, QueryTooLong, QueryUnbuilt, Searches, IsPlain, IsRead, IsRefused, IsRun, IsSearch, IsTooLong, IsUnbuilt, OneRun, match_words, molecule_bytes, query_bytes, refused}
 use Rattle.mk_session.specs.Running.{IsHeldBy, IsHeldTable, IsJudged}
@@ -119,9 +119,9 @@ order_bare bonds order i j d less within =
 bare_in : (bonds : List GraphBond) (bond : GraphBond) → Contains bonds bond → Contains (bare_bonds bonds) (bare_bond bond)
 bare_in bonds bond is = (is.0, omega (arith, length-map bonds bare_bond, is.1), get_or-map bare_bond bonds is.0 bond (bare_bond bond) is.1 ∙ ap bare_bond is.2)
 
--- one bond of the query, drawn with its lower end first, is one bond but for its marks
-drawn_alike : (bond : PlainBond) (b c : GraphBond) → IsDrawnAs bond b → IsDrawnAs bond c → b.first < b.second → c.first < c.second → bare_bond b ≡ bare_bond c
-drawn_alike bond b c p q less less' =
+-- one bond of the query, with its lower end first, is one bond but for its marks
+asked_alike : (bond : PlainBond) (b c : GraphBond) → IsAskedBond bond b → IsAskedBond bond c → b.first < b.second → c.first < c.second → bare_bond b ≡ bare_bond c
+asked_alike bond b c p q less less' =
     let ends : (b.first ≡ c.first) × (b.second ≡ c.second) = by_ends p.ends q.ends in
     let first = ends.0 in
     let second = ends.1 in
@@ -143,11 +143,11 @@ bare_are_in table a b p q c is =
     let below : k < length a.bonds = omega (arith, length-map a.bonds bare_bond, is.1) in
     let bond = get_or a.bonds k c in
     let inside : Contains a.bonds bond = Contains-get_or a.bonds k c below in
-    let from = p.drawn bond inside in
+    let from = p.asked bond inside in
     let there = q.written from.0 from.1 in
     let lower : GraphBond → Type 0 = λ d. d.first < d.second in
     let alike : bare_bond bond ≡ bare_bond there.0 =
-    drawn_alike from.0 bond there.0 from.2 there.2 (All-contains lower a.bonds bond p.drawing.sketch.lower_first inside) (All-contains lower b.bonds there.0 q.drawing.sketch.lower_first there.1) in
+    asked_alike from.0 bond there.0 from.2 there.2 (All-contains lower a.bonds bond p.kept.sketch.lower_first inside) (All-contains lower b.bonds there.0 q.kept.sketch.lower_first there.1) in
     let here : bare_bond bond ≡ c = sym (get_or-map bare_bond a.bonds k c c below) ∙ is.2 in
     subst (λ (d : GraphBond). Contains (bare_bonds b.bonds) d) (sym alike ∙ here) (bare_in b.bonds there.0 there.1)
 
@@ -189,8 +189,8 @@ same_drawing a b atoms bonds = ap (λ (x : List GraphAtom). record { atoms = x; 
 pub one_graph : (table : PlainTable) (a b : GraphView) → IsGraphOf table a → IsGraphOf table b → a ≡ b
 one_graph table a b p q =
     let bare : bare_bonds a.bonds ≡ bare_bonds b.bonds =
-    one_order (bare_bonds a.bonds) (bare_bonds b.bonds) (order_bare a.bonds p.drawing.sketch.order) (order_bare b.bonds q.drawing.sketch.order) (bare_are_in table a b p q) (bare_are_in table b a q p) in
-    same_drawing a b (p.atoms ∙ sym q.atoms) (one_bonds a b p.drawing q.drawing bare)
+    one_order (bare_bonds a.bonds) (bare_bonds b.bonds) (order_bare a.bonds p.kept.sketch.order) (order_bare b.bonds q.kept.sketch.order) (bare_are_in table a b p q) (bare_are_in table b a q p) in
+    same_drawing a b (p.atoms ∙ sym q.atoms) (one_bonds a b p.kept q.kept bare)
 
 -- ---- files
 

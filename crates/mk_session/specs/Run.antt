@@ -2,9 +2,11 @@
 --     IsRefused look name line              the molecules' file is refused with this line
 --     IsHeld look name mol                  it holds one record with this molecule
 --     IsRun words look outcome              the run of these words over these files has this outcome
+--     is_match words                        the words are `match QFILE MFILE`
+--     IsOfAnswer understood status          a status that an answer ends with
 --     HasItsFiles words look                the files that the run reads are there
 --     OneRun                                a run has at most one outcome
-use Rattle.std.specs.Prelude.{◌≡◌, ℕ, ◌<◌, ◌≤◌, true, false, List, [], ◌∷◌, length, take, Option, Some, IsSome, codes}
+use Rattle.std.specs.Prelude.{◌≡◌, ℕ, ◌<◌, ◌≤◌, ◌==◌, ◌&&◌, Bool, true, false, List, [], ◌∷◌, length, slice_index_or, take, Option, Some, IsSome, bytes_eq, codes}
 use Rattle.mk_text.specs.Lines.{lines_of}
 use Rattle.mk_ctab.specs.declared.plain_table.PlainTable.{PlainTable}
 use Rattle.mk_ctab.specs.declared.raw.RawTable.{RawTable}
@@ -15,6 +17,7 @@ use Rattle.mk_model.specs.Hits.{AreHits}
 use Rattle.mk_mol.specs.Filled.{IsFilled}
 use Rattle.mk_mol.specs.FirstFault.{IsFirstFault, PassesAll}
 use Rattle.mk_session.specs.declared.outcome.Outcome.{Outcome}
+use Rattle.mk_session.specs.declared.status.Status.{Status}
 use Rattle.mk_session.specs.declared.status.Status.TheVariants as status
 use Rattle.mk_session.specs.Answers.{bad_line_text, check_text, hits_text, v3000_text}
 use Rattle.mk_session.specs.QueryGraph.{IsGraphOf}
@@ -25,6 +28,10 @@ use Rattle.mk_session.specs.RecordFile.{AreBlankLines, IsBadRecordLine, IsRecord
 -- the words `match QFILE MFILE`
 abbrev pub match_words : List ℕ → List ℕ → List (List ℕ)
 match_words query molecules = codes "match" ∷ query ∷ molecules ∷ []
+
+-- the words are `match QFILE MFILE`
+abbrev pub is_match : List (List ℕ) → Bool
+is_match words = (length words == 3) && bytes_eq (slice_index_or words 0 []) (codes "match")
 
 -- a query's file has at most so many bytes
 abbrev pub query_bytes : ℕ
@@ -90,6 +97,7 @@ pub record IsHeld (look : List ℕ → Option (List ℕ)) (name : List ℕ) (mol
 
 -- ---- the run
 
+-- the outcome of a refusal
 abbrev pub refused : List ℕ → Outcome
 refused line = record { bytes = line; status = status.Refused }
 
@@ -109,6 +117,15 @@ pub data IsRun (words : List (List ℕ)) (look : List ℕ → Option (List ℕ))
       → outcome ≡ refused (codes "refused 12 unbuilt\n") → IsRun words look outcome
   Searches : (query molecules : List ℕ) → words ≡ match_words query molecules → (wanted : PlainTable) → IsPlain look query wanted
       → IsSearch wanted look molecules outcome → IsRun words look outcome
+
+-- ---- the status
+
+-- a status that an answer ends with: `Words` exactly where the words aren't understood
+abbrev pub IsOfAnswer : Bool → Status → Type 0
+IsOfAnswer understood status.Done = understood ≡ true
+IsOfAnswer understood status.Refused = understood ≡ true
+IsOfAnswer understood status.Words = understood ≡ false
+IsOfAnswer understood _ = ⊥
 
 -- ---- the files that are read
 

@@ -11,10 +11,10 @@
 #![tactic(auto)]
 
 mod answers;
-mod drawn_query;
-mod judging;
+mod query_graph;
+mod files;
 mod laws;
-mod listing;
+mod listings;
 mod outcome;
 mod record_file;
 mod record_laws;
@@ -22,7 +22,7 @@ mod record_reading;
 #[cfg(test)]
 mod record_tests;
 mod running;
-mod seeking;
+mod matching;
 mod status;
 #[cfg(test)]
 mod tests;
