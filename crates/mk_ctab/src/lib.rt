@@ -48,5 +48,6 @@ pub use raw::{
     Properties, RawAtom, RawAtoms, RawBond, RawBonds, RawList, RawLists, RawTable, Signed,
 };
 pub use table_reading::read_table;
+pub use table_walk::molfile_from;
 pub use writing::write_table;
 pub use writing_laws::spelling_is_read;

@@ -1,0 +1,3 @@
+pub mod SdfileLemmas
+pub mod SdfileStepsLemmas
+pub mod SdfileFactLemmas
