@@ -6,6 +6,7 @@
 use Rattle.std.proofs.Common.{◌≡◌, ℕ, zero, suc, Bool, true, false, not, cond, ◌&&◌, ◌||◌, ◌⊎◌, inl, inr, List, [], ◌∷◌, refl, sym, subst, ◌∙◌, arith}
 use Rattle.std.specs.Prelude.{◌==◌, Contains, IsTrue, filter}
 use Rattle.std.proofs.lemmas.Bool.Decides.{nat_tests}
+use Rattle.mk_text.proofs.ForCallers.{both, and_true, or_left, or_right}
 use Rattle.mk_model.specs.declared.template.QueryBond.{QueryBond}
 use Rattle.mk_model.specs.declared.template.Slot.TheVariants.{Link}
 use Rattle.mk_model.specs.Templates.{TemplateView, bonds_without, hang_together, is_in_block, joins}
@@ -17,21 +18,6 @@ use Rattle.mk_model.specs.QueryFits.{HasClosedBlocks, IsClosed, IsMarked}
 abbrev pub Hangs : List QueryBond → ℕ → ℕ → Type 0
 Hangs [] x y = x ≡ y
 Hangs (bond ∷ bonds) x y = Hangs bonds x y ⊎ ((Hangs bonds x bond.first × Hangs bonds bond.second y) ⊎ (Hangs bonds x bond.second × Hangs bonds bond.first y))
-
-both : (a b : Bool) → (a && b) ≡ true → (a ≡ true) × (b ≡ true)
-both true true holds = (refl, refl)
-both true false holds = absurd cc
-both false b holds = absurd cc
-
-and_true : (a b : Bool) → a ≡ true → b ≡ true → (a && b) ≡ true
-and_true a b one other = rw (one, other) refl
-
-or_left : (a b : Bool) → a ≡ true → (a || b) ≡ true
-or_left a b one = rw one refl
-
-or_right : (a b : Bool) → b ≡ true → (a || b) ≡ true
-or_right true b other = refl
-or_right false b other = other
 
 -- one of two tests
 either : (a b : Bool) → (a || b) ≡ true → (a ≡ true) ⊎ (b ≡ true)

@@ -17,3 +17,4 @@ pub mod QueryFits
 pub mod Codes
 pub mod Logic
 pub mod OpenSlots
+pub mod PlainCodes

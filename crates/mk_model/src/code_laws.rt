@@ -1,5 +1,6 @@
 // Laws of structural codes, each carried by a function that does nothing.
 ghost use Rattle.mk_model.specs.Codes.{CodesAreReadOneWay, NoCodeBeginsAnother};
+ghost use Rattle.mk_model.specs.PlainCodes.{ValidCodesAreListed};
 
 /// No structural code is a proper prefix of another.
 pub fn no_code_begins_another()
@@ -9,4 +10,9 @@ pub fn no_code_begins_another()
 /// A text of numbers is a structural code of a template in at most one way.
 pub fn codes_are_read_one_way()
     ensures { CodesAreReadOneWay }
+{}
+
+/// The plain program lists the valid codes of a query, all of them and in order.
+pub fn valid_codes_are_listed()
+    ensures { ValidCodesAreListed }
 {}
