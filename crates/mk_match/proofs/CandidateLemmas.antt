@@ -85,7 +85,7 @@ bonded_end mol n b bonded =
     record { place = at.0; within = at.1; is = end_is mol.bonds bond _ k n b below here at.2 ends }
 
 -- the ends of a bond of an atom are the atom and its other end, by which comes first
-ends_by : (edge : Edge) (n : ℕ) (t : Bool) → eqb edge.first n ≡ t → touches n edge ≡ true → HasEnds edge n (cond t edge.second edge.first)
+pub ends_by : (edge : Edge) (n : ℕ) (t : Bool) → eqb edge.first n ≡ t → touches n edge ≡ true → HasEnds edge n (cond t edge.second edge.first)
 ends_by edge n true e touched = inl (grind (arith, nat_tests), refl)
 ends_by edge n false e touched = (let second : edge.second ≡ n = second_by e touched in inr (refl, second))
   where

@@ -1,7 +1,11 @@
 pub mod CandidateLemmas
-pub mod FrontLemmas
-pub mod BegunLemmas
-pub mod SearchLemmas
-pub mod StandingLemmas
+pub mod PassedLemmas
+pub mod LeftLemmas
 pub mod ListTestLemmas
+pub mod BondCountLemmas
+pub mod BegunLemmas
+pub mod TableLemmas
+pub mod OutlookLemmas
+pub mod WalkLemmas
+pub mod EarlierBondsLemmas
 pub mod PlainLemmas

@@ -1,2 +1,5 @@
 pub mod Search
+pub mod Table
+pub mod Walk
+pub mod Outlook
 pub mod Plain

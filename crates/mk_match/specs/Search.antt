@@ -13,6 +13,7 @@ use Rattle.mk_model.specs.Molecules.{Molecule, IsBondOf, edge_of}
 use Rattle.mk_model.specs.Graphs.{GraphView}
 use Rattle.mk_model.specs.Fitting.{FitsAtom, LiesOn, other_end}
 use Rattle.mk_model.specs.Hits.{image, IsHit}
+use Rattle.mk_match.specs.Table.{MayLie}
 
 -- every test is met that speaks of the first atoms of the graph alone
 pub record IsBegun (graph : GraphView) (mol : Molecule) (first : List ℕ) : Type 0 where
@@ -24,7 +25,7 @@ pub record IsBegun (graph : GraphView) (mol : Molecule) (first : List ℕ) : Typ
 
 -- atom a may stand behind the first ones: its test is met, it isn't among them, and its bonds to them lie on bonds
 pub record MayStand (graph : GraphView) (mol : Molecule) (first : List ℕ) (a : ℕ) : Type 0 where
-  pub fits : FitsAtom graph mol (length first + 1) a
+  pub fits : MayLie graph mol (length first + 1) a
   pub new : All (λ b. b ≢ a) first
   pub bonds : All (λ bond. bond.second ≡ length first + 1 → LiesOn mol bond (image first bond.first) a) graph.bonds
 

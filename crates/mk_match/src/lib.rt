@@ -9,12 +9,15 @@
 #![tactic(auto)]
 
 mod candidates;
-mod fronts;
+mod earlier_bonds;
 mod laws;
-mod searching;
-mod standing;
+mod maps;
+mod order;
+mod outlook;
+mod table;
 #[cfg(test)]
 mod tests;
+mod walk;
 
 pub use laws::hits_are_listed;
-pub use searching::least_map;
+pub use maps::least_map;
