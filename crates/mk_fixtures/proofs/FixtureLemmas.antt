@@ -102,7 +102,7 @@ molecule-built count atoms drawn rings aromatics bonds is_count few few_bonds el
     }
 
 -- a sketch of atoms and bonds whose tests are in range
-pub sketch-built : (atoms : List GraphAtom) (bonds : List GraphBond) → length atoms ≤ 512 → All (λ atom. IsTestInRange atom.test) atoms → All IsBondInRange bonds → AreInOrder (length atoms) (graph_edges bonds) → IsUnmarked (record { atoms = atoms; bonds = bonds })
+pub sketch-built : (atoms : List GraphAtom) (bonds : List GraphBond) → length atoms ≤ 512 → All (λ atom. IsTestInRange atom.test) atoms → All (λ bond. IsBondInRange bond.kind bond.topology) bonds → AreInOrder (length atoms) (graph_edges bonds) → IsUnmarked (record { atoms = atoms; bonds = bonds })
 sketch-built atoms bonds few tests bond_tests order = record {
   few = few;
   tests = tests;

@@ -108,7 +108,7 @@ fn have_elements(atoms: &[Atom]) -> bool
 }
 
 fn have_bond_tests(bonds: &[GraphBond]) -> bool
-    ensures { IsTrue result → All IsBondInRange bonds.now }
+    ensures { IsTrue result → All (λ bond. IsBondInRange bond.kind bond.topology) bonds.now }
 {
     for bond in bonds {
         if bond.kind < 1 || bond.kind > 8 {

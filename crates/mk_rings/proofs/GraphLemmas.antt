@@ -75,7 +75,7 @@ pub marked_sketch : (atoms : List GraphAtom) (old new : List GraphBond) → bare
 marked_sketch atoms old new same is = record {
   few = is.few;
   tests = is.tests;
-  bond_tests = all_bare IsBondInRange old new (λ bond r. record { kind = r.kind; topology = r.topology }) (λ bond r. record { kind = r.kind; topology = r.topology }) same is.bond_tests;
+  bond_tests = all_bare (λ bond. IsBondInRange bond.kind bond.topology) old new (λ bond r. record { kind = r.kind; topology = r.topology }) (λ bond r. record { kind = r.kind; topology = r.topology }) same is.bond_tests;
   graph = subst (IsSimple (length atoms)) (sym (same_edges old new same)) is.graph;
   lower_first = all_bare (λ bond. bond.first < bond.second) old new (λ bond h. h) (λ bond h. h) same is.lower_first;
   order = λ i j d below within.

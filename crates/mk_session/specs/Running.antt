@@ -4,7 +4,7 @@
 --     IsJudged look name judgment       what is made of the query's file
 --     IsHeldBy look name held           what is made of the molecules' file
 --     MatchingCounts ..                  the count of the files before and after an outcome was sought
-use Rattle.std.specs.Prelude.{◌≡◌, ◌≤◌, ℕ, Bool, true, false, List, length, Option, Some, None, Result, Ok, Err, ⊤}
+use Rattle.std.specs.Prelude.{◌≡◌, ◌≤◌, ℕ, Bool, true, false, List, [], ◌∷◌, length, Option, Some, None, Result, Ok, Err, ⊤}
 use Rattle.mk_text.specs.Lines.{lines_of}
 use Rattle.mk_outside.specs.Counts.{Rose}
 use Rattle.mk_ctab.specs.declared.plain_table.PlainBond.{PlainBond}
@@ -12,6 +12,7 @@ use Rattle.mk_ctab.specs.declared.raw.RawTable.{RawTable}
 use Rattle.mk_ctab.specs.PlainFacts.{IsPlainTable}
 use Rattle.mk_model.specs.declared.graph.GraphBond.{GraphBond}
 use Rattle.mk_model.specs.Molecules.{IsMolecule}
+use Rattle.mk_sdfile.specs.declared.raw_record.RawRecord.{RawRecord}
 use Rattle.mk_mol.specs.Filled.{IsFilled}
 use Rattle.mk_mol.specs.FirstFault.{IsFirstFault, PassesAll}
 use Rattle.mk_session.specs.declared.status.Status.{Status}
@@ -21,7 +22,7 @@ use Rattle.mk_session.specs.declared.outcome.Held.TheVariants.{Molecule, Refused
 use Rattle.mk_session.specs.declared.outcome.Judgment.{Judgment}
 use Rattle.mk_session.specs.declared.outcome.Judgment.TheVariants.{Plain, TooLong, Unbuilt}
 use Rattle.mk_session.specs.declared.outcome.Outcome.{Outcome}
-use Rattle.mk_session.specs.Answers.{check_text}
+use Rattle.mk_session.specs.Answers.{check_text, records_text}
 use Rattle.mk_session.specs.Run.{IsHeld, IsPlain, IsRead, IsRefused, IsRun, IsOfAnswer, IsTooLong, IsUnbuilt, match_words, query_bytes}
 
 -- ---- the query's graph
@@ -63,6 +64,12 @@ IsHeldBy look name (Refused line) = IsRefused look name line
 abbrev pub IsHeldTable : RawTable → Held → Type 0
 IsHeldTable table (Molecule mol) = PassesAll table × IsFilled table mol × IsMolecule mol
 IsHeldTable table (Refused line) = (check : ℕ) × (item : ℕ) × IsFirstFault table check item × (line ≡ check_text check item)
+
+-- where the records are one, the molecule of its table or the line of the check that it fails; else the line that says how many
+-- there are
+abbrev pub IsHeldOf : List RawRecord → Held → Type 0
+IsHeldOf (only ∷ []) held = IsHeldTable only.table held
+IsHeldOf records held = held ≡ Refused (records_text (length records))
 
 -- the run of `match` over these two files
 abbrev pub IsMatchRun : (List ℕ → Option (List ℕ)) → List ℕ → List ℕ → Outcome → Type 0

@@ -8,12 +8,13 @@ ghost use Rattle.mk_session.specs.Run.{AreThere, HasItsFiles, IsOfAnswer, IsRun,
 ghost use Rattle.mk_session.specs.Running.{IsHeldBy, IsJudged, IsKeptJudgment, IsMatchRun, IsReadAs, IsWithin, MatchingCounts};
 
 use crate::Status;
-use crate::answers::hits_answer;
+use crate::answers::{hits_answer, long_query, not_understood, unbuilt};
 use crate::query_graph::graph_of;
 use crate::files::{judge_molecules, judge_query};
 use crate::listings::{MOST_HITS, first_hits};
 use crate::outcome::{Held, Judgment, Outcome};
 use mk_ctab::PlainTable;
+use mk_match::hits_are_listed;
 use mk_outside::{Bytes, FileFail, Files, Memory, ReadEnd};
 use std::alloc::Global;
 
@@ -37,7 +38,7 @@ pub fn outcome_of<F: Files>(
 {
     match names_of(words) {
         Some((query, molecules)) => match_outcome(alloc, query, molecules, files),
-        None => Ok(line(alloc, b"words not understood\n", Status::Words)?),
+        None => Ok(ended(not_understood(alloc)?, Status::Words)),
     }
 }
 
@@ -70,8 +71,8 @@ fn match_outcome<F: Files>(
 {
     let bytes = read_within(alloc, files, query, QUERY_BYTES)?;
     match judge_query(alloc, bytes)? {
-        Judgment::TooLong => Ok(line(alloc, b"refused 4 query\n", Status::Refused)?),
-        Judgment::Unbuilt => Ok(line(alloc, b"refused 12 unbuilt\n", Status::Refused)?),
+        Judgment::TooLong => Ok(ended(long_query(alloc)?, Status::Refused)),
+        Judgment::Unbuilt => Ok(ended(unbuilt(alloc)?, Status::Refused)),
         Judgment::Plain(wanted) => search_outcome(alloc, &wanted, molecules, files),
     }
 }
@@ -110,10 +111,8 @@ fn answer_of(alloc: Global, wanted: &PlainTable, held: Held) -> Result<Outcome, 
             let graph = graph_of(alloc, wanted)?;
             let hits = first_hits(alloc, &graph, &mol)?;
             let answer = hits_answer(alloc, &hits, MOST_HITS)?;
-            Ok(Outcome {
-                bytes: Bytes::of(answer),
-                status: Status::Done,
-            })
+            hits_are_listed();
+            Ok(ended(answer, Status::Done))
         }
     }
 }
@@ -140,9 +139,11 @@ fn read_within<F: Files>(
     }
 }
 
-fn line(alloc: Global, text: &[u8], status: Status) -> Result<Outcome, Memory>
-    ensures { IfOk result (λ outcome. outcome ≡ record { bytes = text.now; status = status }) }
+fn ended(text: Vec<u8>, status: Status) -> Outcome
+    ensures { result ≡ record { bytes = text.items; status = status } }
 {
-    let bytes = Bytes::of(Vec::from_slice(alloc, text)?);
-    Ok(Outcome { bytes, status })
+    Outcome {
+        bytes: Bytes::of(text),
+        status,
+    }
 }
