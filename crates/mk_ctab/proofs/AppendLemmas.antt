@@ -8,7 +8,8 @@ use Rattle.mk_ctab.specs.declared.raw.RawTable.{RawTable}
 use Rattle.std.proofs.lemmas.List.{take_more, flat_map_more, replicate-append-replicate}
 use mir.Syntax.{w32}
 use mir.Val.{to_z, of_z}
-use Rattle.mk_ctab.specs.TableSpelling.{three, spaced, counts_line, atom_line, bond_line, numbers_line, property_line, end_line, ended, spelling, FitsThree}
+use Rattle.mk_text.specs.Lines.{ended}
+use Rattle.mk_ctab.specs.TableSpelling.{three, spaced, counts_line, atom_line, bond_line, numbers_line, property_line, end_line, spelling, FitsThree}
 use Rattle.mk_ctab.proofs.ThreeLemmas.{passed}
 
 -- ---- texts in turn

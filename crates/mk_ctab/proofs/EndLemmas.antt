@@ -10,7 +10,8 @@ use Rattle.mk_text.proofs.ForCallers.{trimmed_padded, trimmed_between, trimmed_i
 use Rattle.mk_props.specs.declared.property.AtomList.{AtomList}
 use Rattle.mk_props.specs.declared.property.LogicLine.{LogicLine}
 use Rattle.mk_props.specs.Lists.{flag_text}
-use Rattle.mk_ctab.specs.TableSpelling.{three, spaced, count_text, at_left, wide_symbols_line, wide_logic_line, EndsWith, LogicFits, IsSymbol, IsRangeText}
+use Rattle.mk_text.specs.Lines.{EndsWith}
+use Rattle.mk_ctab.specs.TableSpelling.{three, spaced, count_text, at_left, wide_symbols_line, wide_logic_line, LogicFits, IsSymbol, IsRangeText}
 use Rattle.mk_ctab.proofs.ThreeLemmas.{HasEnd, end_behind, three_end}
 
 -- ---- the last byte
@@ -39,8 +40,8 @@ other_byte : (a b : ℕ) → (a ≡ b → ⊥) → eqb a b ≡ false
 other_byte a b other = other_by a b _ refl other
 
 -- a text that ends neither with a blank nor with CR
-pub plain_last : (text front : List ℕ) (last : ℕ) → text ≡ front ++ last ∷ [] → (EndsWith 32 text → ⊥) → (EndsWith 13 text → ⊥) → HasEnd text
-plain_last text front last whole no_blank no_cr =
+pub last_ends : (text front : List ℕ) (last : ℕ) → text ≡ front ++ last ∷ [] → (EndsWith 32 text → ⊥) → (EndsWith 13 text → ⊥) → HasEnd text
+last_ends text front last whole no_blank no_cr =
     record {
       front = front;
       last = last;
@@ -128,7 +129,7 @@ unfolding at_left
 padded_symbol line symbol padded is no_cr =
     elim (ending_of symbol) [
       | Empty none ↦ subst (λ (text : List ℕ). IsPadded (line ++ (text ++ replicate (4 - length text) 32))) (sym none) (padded_more line 4 padded)
-      | Last front last whole ↦ padded_by line symbol (4 - length symbol) (plain_last symbol front last whole (ends_with_none symbol is.no_blanks) no_cr)
+      | Last front last whole ↦ padded_by line symbol (4 - length symbol) (last_ends symbol front last whole (ends_with_none symbol is.no_blanks) no_cr)
     ]
 
 -- symbols in their columns
@@ -192,5 +193,5 @@ padded_logic logic fits range =
           subst IsPadded whole (padded_by front (three logic.rest) 1 (three_end logic.rest fits.rest))
       | Last ahead last is ↦
           let whole : before ++ (logic.range ++ []) ≡ wide_logic_line logic = ap (λ (text : List ℕ). before ++ text) (append-nil logic.range) ∙ range_behind logic in
-          subst IsPadded whole (padded_by before logic.range 0 (plain_last logic.range ahead last is range.no_blank range.no_cr))
+          subst IsPadded whole (padded_by before logic.range 0 (last_ends logic.range ahead last is range.no_blank range.no_cr))
     ]

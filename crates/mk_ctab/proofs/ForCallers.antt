@@ -4,3 +4,6 @@ pub use Rattle.mk_ctab.proofs.MolfileLemmas.{exact-molfile, molfile_is}
 pub use Rattle.mk_ctab.proofs.TableFactLemmas.{keeps, few_properties}
 pub use Rattle.mk_ctab.proofs.TableLawLemmas.{blank_is_no_counts_line}
 pub use Rattle.mk_ctab.proofs.TableLemmas.{exact-table}
+pub use Rattle.mk_ctab.proofs.EdgeLemmas.{atom_is, atom_within, atoms_differ}
+pub use Rattle.mk_ctab.proofs.BondLemmas.{numbers_are, numbers-within, graph, whole, is_graph, crowded, none_crowded}
+pub use Rattle.mk_ctab.proofs.KeptTablesLemmas.{whole_is_table, part_is_table}

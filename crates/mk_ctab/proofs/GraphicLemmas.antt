@@ -10,7 +10,8 @@ use Rattle.mk_text.specs.Columns.{is_space, trimmed}
 use Rattle.mk_text.proofs.ForCallers.{trimmed_between, trimmed_blank, list_all_at}
 use Rattle.mk_props.specs.declared.property.Property.{Property}
 use Rattle.mk_ctab.specs.Table.{IsKept}
-use Rattle.mk_ctab.specs.TableSpelling.{EndsWith, IsSymbol, PropertyFits, SymbolsFit, SymbolsEnd, RangeFits}
+use Rattle.mk_text.specs.Lines.{EndsWith}
+use Rattle.mk_ctab.specs.TableSpelling.{IsSymbol, PropertyFits, SymbolsFit, SymbolsEnd, RangeFits}
 
 -- a byte above the blank
 abbrev is_above : ℕ → Bool

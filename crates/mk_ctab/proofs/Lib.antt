@@ -5,7 +5,6 @@ pub mod BlockLemmas
 pub mod TableLemmas
 pub mod FaultLemmas
 pub mod MolfileLemmas
-pub mod ForCallers
 pub mod TableLawLemmas
 pub mod TableFactLemmas
 pub mod ReaderLemmas
@@ -18,7 +17,15 @@ pub mod LineSpellingLemmas
 pub mod EndLemmas
 pub mod EntrySpellingLemmas
 pub mod PropertySpellingLemmas
-pub mod PlainTextLemmas
-pub mod PlainLineLemmas
+pub mod NoLfLemmas
+pub mod WholeLineLemmas
 pub mod TableSpellingLemmas
 pub mod GraphicLemmas
+pub mod EdgeLemmas
+pub mod BondLemmas
+pub mod ChargePuttingLemmas
+pub mod ChargeLemmas
+pub mod KeptPropertyLemmas
+pub mod KeptLineLemmas
+pub mod KeptTablesLemmas
+pub mod ForCallers

@@ -21,7 +21,7 @@ use Rattle.mk_ctab.specs.TableSpelling.{spaced, count_text, at_left, wide_symbol
 use Rattle.mk_ctab.proofs.ThreeLemmas.{length-three, count_fits, end_behind}
 use Rattle.mk_ctab.proofs.StandingLemmas.{columns_padded, StandsBehind, first, alone, behind, within, text_at, field_at, length-spaced, spaced_at, entry_at}
 use Rattle.mk_ctab.proofs.LineSpellingLemmas.{at_place, each_of, length-flag, length-at_left, trimmed-at_left}
-use Rattle.mk_ctab.proofs.EndLemmas.{Empty, Last, ending_of, plain_last, IsPadded, trimmed_is_core, trimmed_ended, length-trimmed, padded_symbols, before_range, range_behind, padded_logic}
+use Rattle.mk_ctab.proofs.EndLemmas.{Empty, Last, ending_of, last_ends, IsPadded, trimmed_is_core, trimmed_ended, length-trimmed, padded_symbols, before_range, range_behind, padded_logic}
 use Rattle.mk_ctab.proofs.EntrySpellingLemmas.{pairs_are_read, links_are_read, order_is_read}
 
 -- ---- lines without the blanks at their ends
@@ -179,7 +179,7 @@ range_left logic fits range =
           let short : length (trimmed line) ≤ 22 = omega (arith, length-trimmed line, ap length (sym whole), length-append before logic.range, ap length none) in
           drop_all 22 (trimmed line) short ∙ sym none
       | Last front last is ↦
-          let kept : trimmed line ≡ before ++ logic.range = trimmed_ended line (before ++ logic.range) (sym whole) (end_behind before logic.range (plain_last logic.range front last is range.no_blank range.no_cr)) refl in
+          let kept : trimmed line ≡ before ++ logic.range = trimmed_ended line (before ++ logic.range) (sym whole) (end_behind before logic.range (last_ends logic.range front last is range.no_blank range.no_cr)) refl in
           ap (drop 22) kept ∙ drop_at before logic.range 22 size
     ]
 

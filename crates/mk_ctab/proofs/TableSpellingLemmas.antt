@@ -3,10 +3,10 @@ use Rattle.std.proofs.Common.{◌≡◌, ℕ, ◌<◌, true, false, not, eqb, Al
 use Rattle.std.specs.List.{flat_map, AllByRecursion}
 use Rattle.std.proofs.lemmas.List.Elements.{recursion_from_All, All-from_recursion}
 use Rattle.std.proofs.lemmas.Bool.{eq-eqb}
-use Rattle.std.proofs.lemmas.List.{length-append, get_or_at}
+use Rattle.std.proofs.lemmas.List.{get_or_default, same_from_push}
 use Rattle.mk_text.specs.Columns.{columns}
-use Rattle.mk_text.specs.Lines.{pieces, without_cr, lines_of}
-use Rattle.mk_text.proofs.ForCallers.{pieces_at, without_cr-at_other, not_true, list_all_at}
+use Rattle.mk_text.specs.Lines.{IsWholeLine, lines_of}
+use Rattle.mk_text.proofs.ForCallers.{list_all_at, text_of_lines_is_read}
 use Rattle.mk_form.specs.Rows.{Series}
 use Rattle.mk_props.specs.declared.property.Property.{Property}
 use Rattle.mk_props.specs.declared.property.Property.TheVariants as kinds
@@ -15,30 +15,12 @@ use Rattle.mk_ctab.specs.declared.raw.RawAtom.{RawAtom}
 use Rattle.mk_ctab.specs.declared.raw.RawTable.{RawTable}
 use Rattle.mk_ctab.specs.Table.{Spell, IsKept, IsBlock, values_of, IsTable}
 use Rattle.mk_ctab.specs.TableLines.{Line, raw_atom_of, raw_bond_of, list_of}
-use Rattle.mk_ctab.specs.TableSpelling.{counts_line, atom_line, bond_line, numbers_line, property_line, end_line, table_lines, ended, spelling, EndsWith, AtomFits, BondFits, ListFits, PropertyFits, IsSymbol, SymbolsFit, SymbolsEnd, RangeFits, CanBeSpelt, SpellingIsRead, EndsWithNoBlank}
+use Rattle.mk_text.specs.Lines.{ended, EndsWith}
+use Rattle.mk_ctab.specs.TableSpelling.{counts_line, atom_line, bond_line, numbers_line, property_line, end_line, table_lines, spelling, AtomFits, BondFits, ListFits, PropertyFits, IsSymbol, SymbolsFit, SymbolsEnd, RangeFits, CanBeSpelt, SpellingIsRead, EndsWithNoBlank}
 use Rattle.mk_ctab.proofs.ThreeLemmas.{HasEnd}
 use Rattle.mk_ctab.proofs.LineSpellingLemmas.{counts_are_read, atom_is_read, bond_is_read, list_is_read, each_of}
 use Rattle.mk_ctab.proofs.PropertySpellingLemmas.{property_is_read}
-use Rattle.mk_ctab.proofs.PlainLineLemmas.{IsPlainLine, counts_plain, atom_plain, bond_plain, list_plain, property_plain, end_plain}
-
--- ---- lines of a text
-
--- a line that ends so keeps its last byte
-kept_whole : (line : Line) → HasEnd line → without_cr line ≡ line
-kept_whole line end = ap without_cr end.whole ∙ without_cr-at_other end.front end.last end.no_cr ∙ sym end.whole
-
--- lines with LF behind each are those lines
-lines_again : (lines : List Line) → AllByRecursion IsPlainLine lines → lines_of (flat_map ended lines) ≡ lines
-unfolding lines_of
-lines_again [] plain = refl
-lines_again (line ∷ lines) plain =
-    let no_lf : (k : ℕ) → k < length line → eqb (get_or line k 0) 10 ≡ false =
-    λ k within. not_true (eqb (get_or line k 0) 10) (list_all_at (λ c. not (eqb c 10)) line k plain.0.plain within) in
-    let others : List ℕ = flat_map ended lines in
-    ap (λ (text : List ℕ). map without_cr (pieces text)) (append_assoc line (10 ∷ []) others)
-    ∙ ap (map without_cr) (pieces_at line others no_lf)
-    ∙ ap (λ (first : Line). first ∷ map without_cr (pieces others)) (kept_whole line plain.0.end)
-    ∙ ap (λ (rest : List Line). line ∷ rest) (lines_again lines plain.1)
+use Rattle.mk_ctab.proofs.WholeLineLemmas.{EndsAsLine, counts_whole, atom_whole, bond_whole, list_whole, property_whole, end_whole}
 
 -- ---- all of some lists
 
@@ -79,27 +61,49 @@ properties_of table can Q gives =
 
 -- ---- the lines of a table
 
--- each is plain
-all_plain : (table : RawTable) → CanBeSpelt table → AllByRecursion IsPlainLine (table_lines table)
-all_plain table can =
-    let properties : AllByRecursion IsPlainLine (map property_line table.props ++ end_line ∷ []) =
-    both_lists IsPlainLine (map property_line table.props) (end_line ∷ [])
-    (each_line IsPlainLine property_line table.props (properties_of table can (λ property. IsPlainLine (property_line property)) property_plain)) (end_plain, tt) in
-    let lists : AllByRecursion IsPlainLine (map numbers_line table.lists ++ (map property_line table.props ++ end_line ∷ [])) =
-    both_lists IsPlainLine (map numbers_line table.lists) (map property_line table.props ++ end_line ∷ [])
-    (each_line IsPlainLine numbers_line table.lists (each_of ListFits (λ list. IsPlainLine (numbers_line list)) list_plain table.lists can.lists)) properties in
-    let bonds : AllByRecursion IsPlainLine (map bond_line table.bonds ++ (map numbers_line table.lists ++ (map property_line table.props ++ end_line ∷ []))) =
-    both_lists IsPlainLine (map bond_line table.bonds) (map numbers_line table.lists ++ (map property_line table.props ++ end_line ∷ []))
-    (each_line IsPlainLine bond_line table.bonds (each_of BondFits (λ bond. IsPlainLine (bond_line bond)) bond_plain table.bonds can.bonds)) lists in (
-      counts_plain table can.few_atoms can.few_bonds can.few_lists,
-      both_lists IsPlainLine (map atom_line table.atoms) (map bond_line table.bonds ++ (map numbers_line table.lists ++ (map property_line table.props ++ end_line ∷ [])))
-          (each_line IsPlainLine atom_line table.atoms (atoms_of table can (λ atom. IsPlainLine (atom_line atom)) atom_plain)) bonds,
+-- each is fit
+all_whole : (table : RawTable) → CanBeSpelt table → AllByRecursion EndsAsLine (table_lines table)
+all_whole table can =
+    let properties : AllByRecursion EndsAsLine (map property_line table.props ++ end_line ∷ []) =
+    both_lists EndsAsLine (map property_line table.props) (end_line ∷ [])
+    (each_line EndsAsLine property_line table.props (properties_of table can (λ property. EndsAsLine (property_line property)) property_whole)) (end_whole, tt) in
+    let lists : AllByRecursion EndsAsLine (map numbers_line table.lists ++ (map property_line table.props ++ end_line ∷ [])) =
+    both_lists EndsAsLine (map numbers_line table.lists) (map property_line table.props ++ end_line ∷ [])
+    (each_line EndsAsLine numbers_line table.lists (each_of ListFits (λ list. EndsAsLine (numbers_line list)) list_whole table.lists can.lists)) properties in
+    let bonds : AllByRecursion EndsAsLine (map bond_line table.bonds ++ (map numbers_line table.lists ++ (map property_line table.props ++ end_line ∷ []))) =
+    both_lists EndsAsLine (map bond_line table.bonds) (map numbers_line table.lists ++ (map property_line table.props ++ end_line ∷ []))
+    (each_line EndsAsLine bond_line table.bonds (each_of BondFits (λ bond. EndsAsLine (bond_line bond)) bond_whole table.bonds can.bonds)) lists in (
+      counts_whole table can.few_atoms can.few_bonds can.few_lists,
+      both_lists EndsAsLine (map atom_line table.atoms) (map bond_line table.bonds ++ (map numbers_line table.lists ++ (map property_line table.props ++ end_line ∷ [])))
+          (each_line EndsAsLine atom_line table.atoms (atoms_of table can (λ atom. EndsAsLine (atom_line atom)) atom_whole)) bonds,
     )
+
+-- two texts with last bytes that are alike have one
+same_last : (front other : List ℕ) (c d : ℕ) → front ++ c ∷ [] ≡ other ++ d ∷ [] → c ≡ d
+same_last front other c d same = (same_from_push front other c d same).1
+
+-- a line that ends so is whole
+is_whole : (line : Line) → EndsAsLine line → IsWholeLine line
+is_whole line fit = record {
+  no_lf = λ held.
+      let test : not (eqb (get_or line held.0 0) 10) ≡ true = list_all_at (λ c. not (eqb c 10)) line held.0 fit.no_lf held.1 in
+      let lf : eqb (get_or line held.0 0) 10 ≡ true = eq-eqb (get_or line held.0 0) 10 (get_or_default line held.0 0 10 held.1 ∙ held.2) in
+      absurd (cc (test, lf));
+  no_cr = λ ends.
+      let end = fit.end in
+      let cr : eqb end.last 13 ≡ true = eq-eqb end.last 13 (same_last end.front ends.0 end.last 13 (sym end.whole ∙ ends.1)) in
+      absurd (cc (cr, end.no_cr));
+}
+
+-- and so are all
+are_whole : (lines : List Line) → AllByRecursion EndsAsLine lines → AllByRecursion IsWholeLine lines
+are_whole [] fit = tt
+are_whole (line ∷ lines) fit = (is_whole line fit.0, are_whole lines fit.1)
 
 -- so they are the lines of the spelling
 lines_are : (table : RawTable) → CanBeSpelt table → lines_of (spelling table) ≡ table_lines table
 unfolding spelling
-lines_are table can = lines_again (table_lines table) (all_plain table can)
+lines_are table can = text_of_lines_is_read (table_lines table) (All-from_recursion IsWholeLine (table_lines table) (are_whole (table_lines table) (all_whole table can)))
 
 -- lines that each spell a value
 spell_each : {V : Type 0} (says : Line → Option V) (line : V → Line) (values : List V) → AllByRecursion (λ value. says (line value) ≡ Some value) values
@@ -167,27 +171,21 @@ lines_are_table table can =
 pub is_read : SpellingIsRead
 is_read table can = subst (λ (lines : List Line). IsTable lines table) (sym (lines_are table can)) (lines_are_table table can)
 
--- two texts with last bytes that are alike have one
-same_last : (front other : List ℕ) (c d : ℕ) → front ++ c ∷ [] ≡ other ++ d ∷ [] → c ≡ d
-same_last front other c d same =
-    let size : length other ≡ length front = omega (arith, ap length same, length-append front (c ∷ []), length-append other (d ∷ [])) in
-    sym (get_or_at front c [] 0 (length front) refl) ∙ ap (λ (xs : List ℕ). get_or xs (length front) 0) same ∙ get_or_at other d [] 0 (length front) size
-
 -- a line that ends so ends with no blank
-no_blank : (line : Line) → IsPlainLine line → EndsWith 32 line → ⊥
-no_blank line plain ends =
-    let end = plain.end in
+no_blank : (line : Line) → EndsAsLine line → EndsWith 32 line → ⊥
+no_blank line fit ends =
+    let end = fit.end in
     let blank : end.last ≡ 32 = same_last end.front ends.0 end.last 32 (sym end.whole ∙ ends.1) in
     let other : eqb end.last 32 ≡ true = eq-eqb end.last 32 blank in
     absurd (cc (other, end.no_blank))
 
 -- so none of them does
-none_blank : (lines : List Line) → AllByRecursion IsPlainLine lines → AllByRecursion (λ line. EndsWith 32 line → ⊥) lines
-none_blank [] plain = tt
-none_blank (line ∷ lines) plain = (no_blank line plain.0, none_blank lines plain.1)
+none_blank : (lines : List Line) → AllByRecursion EndsAsLine lines → AllByRecursion (λ line. EndsWith 32 line → ⊥) lines
+none_blank [] fit = tt
+none_blank (line ∷ lines) fit = (no_blank line fit.0, none_blank lines fit.1)
 
 -- and no line ends with a blank
 pub no_blank_ends : EndsWithNoBlank
 no_blank_ends table can =
     subst (λ (lines : List Line). All (λ line. EndsWith 32 line → ⊥) lines) (sym (lines_are table can))
-    (All-from_recursion (λ line. EndsWith 32 line → ⊥) (table_lines table) (none_blank (table_lines table) (all_plain table can)))
+    (All-from_recursion (λ line. EndsWith 32 line → ⊥) (table_lines table) (none_blank (table_lines table) (all_whole table can)))

@@ -11,3 +11,10 @@ pub mod TableLaws
 pub mod TableSpelling
 pub mod Molfile
 pub mod TableWalk
+pub mod Numbers
+pub mod Bonds
+pub mod BondSearch
+pub mod Values
+pub mod Charges
+pub mod ChargePutting
+pub mod KeptTables

@@ -8,7 +8,7 @@
 use Rattle.std.specs.Prelude.{◌≡◌, ℕ, ◌-◌, ◌≤◌, List, [], ◌∷◌, ◌++◌, length, map, replicate, All, Contains, ℤ, pos, neg_ℤ, ◌≤ℤ◌, decimal, codes}
 use Rattle.std.specs.List.{flat_map}
 use Rattle.mk_text.specs.Columns.{trimmed}
-use Rattle.mk_text.specs.Lines.{lines_of}
+use Rattle.mk_text.specs.Lines.{EndsWith, lines_of, text_of}
 use Rattle.mk_text.specs.Spelling.{signed_right_in}
 use Rattle.mk_props.specs.Lists.{flag_text}
 use Rattle.mk_props.specs.declared.property.Pair.{Pair}
@@ -131,19 +131,11 @@ abbrev pub table_lines : RawTable → List Line
 table_lines table =
     counts_line table ∷ (map atom_line table.atoms ++ (map bond_line table.bonds ++ (map numbers_line table.lists ++ (map property_line table.props ++ end_line ∷ []))))
 
--- a line and LF, byte 10
-abbrev pub ended : Line → List ℕ
-ended line = line ++ 10 ∷ []
-
 -- the text of a table: each line and LF behind it
 unfoldable pub spelling : RawTable → List ℕ
-spelling table = flat_map ended (table_lines table)
+spelling table = text_of (table_lines table)
 
 -- ---- which tables can be spelt
-
--- the last byte is this one
-abbrev pub EndsWith : ℕ → List ℕ → Type 0
-EndsWith c bytes = (front : List ℕ) × (bytes ≡ front ++ c ∷ [])
 
 -- -99 to 999
 pub record FitsThree (z : ℤ) : Type 0 where

@@ -16,19 +16,25 @@
 //! What a table means for a molecule, a query or a search isn't said here.
 #![tactic(auto)]
 
+mod bonds;
+mod charges;
+mod edges;
 mod fault;
+mod kept_tables;
 mod laws;
+mod numbers;
 mod plain_lines;
 mod plain_reading;
 mod plain_table;
 mod raw;
 mod table_lines;
 mod table_reading;
-mod table_walk;
 #[cfg(test)]
 mod table_tests;
+mod table_walk;
 #[cfg(test)]
 mod tests;
+mod values;
 mod writing;
 #[cfg(test)]
 mod writing_checks;
@@ -39,9 +45,14 @@ mod writing_properties;
 #[cfg(test)]
 mod writing_tests;
 
+pub use bonds::{first_crowded_atom, first_no_new_bond};
+pub use charges::{Electrons, charges_and_radicals};
+pub use edges::{edges_between, has_two_ends};
 pub use fault::TableFault;
+pub use kept_tables::kept_lines_are_the_table;
 pub use laws::{blank_line_is_no_counts_line, plain_file_is_exact, table_is_exact};
 pub use mk_text::{Bytes, Listed, Memory};
+pub use numbers::{byte, is_atom, is_within, natural};
 pub use plain_reading::{PlainFault, read_plain};
 pub use plain_table::{PlainBond, PlainBonds, PlainTable};
 pub use raw::{
@@ -49,5 +60,6 @@ pub use raw::{
 };
 pub use table_reading::read_table;
 pub use table_walk::molfile_from;
+pub use values::{are_for_atoms, has_known_values, have_values, names_atoms};
 pub use writing::write_table;
 pub use writing_laws::spelling_is_read;

@@ -13,16 +13,19 @@ use crate::plain_lines::{PlainCounts, is_end, read_atom, read_bond, read_counts}
 use crate::{Bytes, Memory, PlainBond, PlainBonds, PlainTable};
 use mk_text::{Span, is_blank, lines};
 use std::alloc::{AllocFailed, Global};
+use thiserror::Error;
 
 // How many bonds an atom may have.
 const MOST_BONDS: usize = 20;
 
 /// Why there is no table.
-#[derive(Clone, Copy, Debug, PartialEq, Eq)]
+#[derive(Clone, Copy, Debug, PartialEq, Eq, Error)]
 pub enum PlainFault {
     /// The text is no plain file.
+    #[error("the text is no plain file")]
     Unbuilt,
     /// Memory was wanting.
+    #[error("no memory for the table")]
     Memory,
 }
 

@@ -36,11 +36,7 @@ fn counts_from(text: &[u8], at: LineStart) -> Result<(Counts, LineStart), TableF
     }
 }
 
-fn atom_from(
-    alloc: Global,
-    text: &[u8],
-    at: LineStart,
-) -> Result<(RawAtom, LineStart), TableFault>
+fn atom_from(alloc: Global, text: &[u8], at: LineStart) -> Result<(RawAtom, LineStart), TableFault>
     requires { IsLineStart text.now at }
     ensures { AnswersAt text.now result ((one_line raw_atom_of).read (drop at.line (lines_of text.now))) }
 {
@@ -107,11 +103,7 @@ fn bonds_from(
     Ok((Listed::of(bonds), at))
 }
 
-fn list_from(
-    alloc: Global,
-    text: &[u8],
-    at: LineStart,
-) -> Result<(RawList, LineStart), TableFault>
+fn list_from(alloc: Global, text: &[u8], at: LineStart) -> Result<(RawList, LineStart), TableFault>
     requires { IsLineStart text.now at }
     ensures { AnswersAt text.now result ((one_line list_of).read (drop at.line (lines_of text.now))) }
 {

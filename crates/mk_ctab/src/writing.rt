@@ -2,7 +2,8 @@
 ghost use Rattle.std.specs.Prelude.{◌≡◌, ◌++◌, All, OnOk, OnErr};
 ghost use Rattle.std.specs.List.{flat_map};
 ghost use Rattle.mk_ctab.specs.Table.{IsKept};
-ghost use Rattle.mk_ctab.specs.TableSpelling.{atom_line, bond_line, numbers_line, property_line, ended, spelling, AtomFits, BondFits, ListFits, PropertyFits, CanBeSpelt};
+ghost use Rattle.mk_text.specs.Lines.{ended};
+ghost use Rattle.mk_ctab.specs.TableSpelling.{atom_line, bond_line, numbers_line, property_line, spelling, AtomFits, BondFits, ListFits, PropertyFits, CanBeSpelt};
 
 use crate::raw::{RawAtom, RawBond, RawList, RawTable};
 use crate::writing_lines::{put_atom, put_bond, put_counts, put_list};

@@ -1,7 +1,8 @@
 // The lines of a table that stand before its properties, written one by one.
 ghost use Rattle.std.specs.Prelude.{◌≡◌, ◌++◌, ◌≤◌, length, All, OnOk};
 ghost use Rattle.std.specs.List.{flat_map};
-ghost use Rattle.mk_ctab.specs.TableSpelling.{spaced, counts_line, atom_line, bond_line, numbers_line, ended, FitsThree, AtomFits, BondFits, ListFits};
+ghost use Rattle.mk_text.specs.Lines.{ended};
+ghost use Rattle.mk_ctab.specs.TableSpelling.{spaced, counts_line, atom_line, bond_line, numbers_line, FitsThree, AtomFits, BondFits, ListFits};
 
 use crate::raw::{RawAtom, RawBond, RawList, RawTable};
 use crate::writing_columns::{put_count, put_flag, put_left, put_spaced, put_three};

@@ -3,7 +3,8 @@ ghost use Rattle.std.specs.Prelude.{◌≡◌, ◌++◌, ◌≤◌, length, All,
 ghost use Rattle.std.specs.List.{flat_map};
 ghost use Rattle.mk_text.specs.Columns.{trimmed};
 ghost use Rattle.mk_ctab.specs.Table.{IsKept};
-ghost use Rattle.mk_ctab.specs.TableSpelling.{pair_text, link_text, at_left, pairs_line, links_line, order_line, wide_symbols_line, symbols_line, wide_logic_line, logic_line, property_line, ended, IsCounted, PairFits, PairsFit, LinkFits, LinksFit, OrderFits, AtomListFits, LogicFits, PropertyFits};
+ghost use Rattle.mk_text.specs.Lines.{ended};
+ghost use Rattle.mk_ctab.specs.TableSpelling.{pair_text, link_text, at_left, pairs_line, links_line, order_line, wide_symbols_line, symbols_line, wide_logic_line, logic_line, property_line, IsCounted, PairFits, PairsFit, LinkFits, LinksFit, OrderFits, AtomListFits, LogicFits, PropertyFits};
 
 use crate::writing_columns::{put_count, put_flag, put_left, put_spaced};
 use mk_props::{AtomList, LinkEntry, LogicLine, Pair, Property, SiteOrder};

@@ -1,2 +1,3 @@
 pub mod LetterLemmas
 pub mod TableLemmas
+pub mod ForCallers

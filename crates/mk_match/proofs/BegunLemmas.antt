@@ -15,7 +15,7 @@ use Rattle.mk_model.specs.Graphs.{GraphView, IsGraph}
 use Rattle.mk_model.specs.Fitting.{FitsAtom, LiesOn}
 use Rattle.mk_model.specs.Hits.{image, IsHit}
 use Rattle.mk_model.proofs.PlaceLemmas.{drawn_first}
-use Rattle.mk_match.specs.Search.{IsBegun, MayStand}
+use Rattle.mk_match.specs.Begun.{IsBegun, MayStand}
 use Rattle.mk_match.specs.Table.{MayLie}
 use Rattle.mk_match.proofs.BondCountLemmas.{may_lie}
 

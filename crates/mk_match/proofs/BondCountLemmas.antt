@@ -14,11 +14,12 @@ use Rattle.mk_model.specs.declared.graph.GraphBond.{GraphBond}
 use Rattle.mk_model.specs.Edges.{HasEnds, IsBetween, Joins, numbers_at, numbers_from, touches}
 use Rattle.mk_model.specs.Molecules.{IsMolecule, Molecule, edge_of, edges}
 use Rattle.mk_model.specs.Graphs.{GraphView, IsGraph, graph_edge, graph_edges}
-use Rattle.mk_model.specs.Fitting.{LiesOn, other_end}
+use Rattle.mk_model.specs.Fitting.{LiesOn}
+use Rattle.mk_model.specs.Edges.{other_end}
 use Rattle.mk_model.specs.Hits.{image, IsHit}
 use Rattle.mk_model.proofs.ForCallers.{IsNumberOf, numbers_at-each}
 use Rattle.mk_model.proofs.PlaceLemmas.{at_place}
-use Rattle.mk_match.specs.Search.{AreBonded, end_numbered}
+use Rattle.mk_match.specs.Candidates.{AreBonded, end_numbered}
 use Rattle.mk_match.specs.Table.{MayLie}
 use Rattle.mk_match.proofs.CandidateLemmas.{bonded_end, ends_by}
 use Rattle.mk_match.proofs.ListTestLemmas.{all_cons, any_found, any_given}
@@ -175,8 +176,12 @@ module _ (graph : GraphView) (mol : Molecule) (hit : List ℕ) (x : ℕ) (drawin
   more_bonds : length (numbers_at (graph_edges graph.bonds) x) ≤ length (numbers_at (edges mol.bonds) (image hit x))
   unfolding numbers ends_there
   more_bonds =
-      omega (arith, fits_in (map image_by (numbers_at (graph_edges graph.bonds) x)) (map (λ number. end_numbered mol.bonds number (image hit x)) (numbers_at (edges mol.bonds) (image hit x))) images_distinct images_there,
-      length-map (numbers_at (graph_edges graph.bonds) x) image_by, length-map (numbers_at (edges mol.bonds) (image hit x)) (λ number. end_numbered mol.bonds number (image hit x)))
+      omega (
+        arith,
+        fits_in (map image_by (numbers_at (graph_edges graph.bonds) x)) (map (λ number. end_numbered mol.bonds number (image hit x)) (numbers_at (edges mol.bonds) (image hit x))) images_distinct images_there,
+        length-map (numbers_at (graph_edges graph.bonds) x) image_by,
+        length-map (numbers_at (edges mol.bonds) (image hit x)) (λ number. end_numbered mol.bonds number (image hit x)),
+      )
 
 pub may_lie : (graph : GraphView) (mol : Molecule) (hit : List ℕ) (x : ℕ) → IsGraph graph → IsMolecule mol → IsHit graph mol hit → 1 ≤ x → x ≤ length graph.atoms → MayLie graph mol x (image hit x)
 may_lie graph mol hit x drawing molecule is least most = record { fits = is.atoms x least most; bonded = more_bonds graph mol hit x drawing is }

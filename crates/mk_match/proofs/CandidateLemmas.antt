@@ -15,7 +15,7 @@ use Rattle.mk_model.specs.Molecules.{Molecule, edge_of, edges}
 use Rattle.mk_model.proofs.ForCallers.{IsNumberOf, numbers_at-all}
 use Rattle.mk_model.proofs.MoleculeLemmas.{touches-ends}
 use Rattle.mk_model.proofs.PlaceLemmas.{at_place}
-use Rattle.mk_match.specs.Search.{AreBonded, IsCandidate, IsLeastEnd, end_numbered, lesser_end}
+use Rattle.mk_match.specs.Candidates.{AreBonded, IsCandidate, IsLeastEnd, end_numbered, lesser_end}
 
 -- ---- one more end
 

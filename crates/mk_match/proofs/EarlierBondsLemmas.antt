@@ -14,7 +14,7 @@ use Rattle.mk_model.specs.Hits.{image}
 use Rattle.mk_model.proofs.DegreeLemmas.{touches-second}
 use Rattle.mk_model.proofs.ForCallers.{numbers_at-all}
 use Rattle.mk_model.proofs.PlaceLemmas.{all_at, at_place}
-use Rattle.mk_match.specs.Search.{HasNoAnchor, IsElsewhere, IsMetAt}
+use Rattle.mk_match.specs.EarlierBonds.{HasNoAnchor, IsElsewhere, IsMetAt}
 
 -- where all bonds of atom n have P that end at it, all bonds of the graph have that do
 all_ends : (graph : GraphView) (n : ℕ) (P : GraphBond → Type 0) → All (λ number. (bond : GraphBond) → slice_get graph.bonds (number - 1) ≡ Some bond → bond.second ≡ n → P bond) (numbers_at (graph_edges graph.bonds) n) → All (λ bond. bond.second ≡ n → P bond) graph.bonds

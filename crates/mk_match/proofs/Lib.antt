@@ -1,11 +1,13 @@
 pub mod CandidateLemmas
 pub mod PassedLemmas
-pub mod LeftLemmas
+pub mod ListsFromLemmas
 pub mod ListTestLemmas
 pub mod BondCountLemmas
 pub mod BegunLemmas
+pub mod CountLemmas
 pub mod TableLemmas
 pub mod OutlookLemmas
 pub mod WalkLemmas
 pub mod EarlierBondsLemmas
 pub mod PlainLemmas
+pub mod MapsLemmas

@@ -19,12 +19,12 @@ use Rattle.mk_model.specs.Fitting.{LiesOn}
 use Rattle.mk_model.specs.Hits.{image, IsHit}
 use Rattle.mk_model.proofs.ForCallers.{numbers_at-each}
 use Rattle.mk_model.proofs.PlaceLemmas.{all_at, place_is, place_within}
-use Rattle.mk_match.specs.Search.{AreBonded, IsCandidate}
+use Rattle.mk_match.specs.Candidates.{AreBonded, IsCandidate}
 use Rattle.mk_match.specs.Table.{MayLie}
 use Rattle.mk_match.specs.Walk.{SameFrom, place_of}
 use Rattle.mk_match.specs.Outlook.{Agrees, AreLater, EndsAt, IsBeside, IsChosen, IsNoHitBehind, IsPut, IsTaken, LiesNever, StandsIn}
 use Rattle.mk_match.proofs.BondCountLemmas.{may_lie}
-use Rattle.mk_match.proofs.LeftLemmas.{take_last}
+use Rattle.mk_match.proofs.ListsFromLemmas.{take_last}
 use Rattle.mk_match.proofs.PassedLemmas.{none_left, same_back, same_in, same_skip, same_through}
 
 -- ---- bonds by their numbers

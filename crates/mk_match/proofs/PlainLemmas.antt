@@ -4,7 +4,7 @@ use Rattle.std.proofs.Common.{◌≡◌, ℕ, zero, suc, ◌+◌, ◌-◌, ◌<�
 use Rattle.std.specs.Prelude.{slice_get}
 use Rattle.std.proofs.lemmas.Bool.Decides.{nat_tests}
 use Rattle.mk_text.specs.Choices.{IsPassed}
-use Rattle.mk_text.proofs.ChoiceLemmas.{law as choices_rise}
+use Rattle.mk_text.proofs.ForCallers.{choices_that_pass as choices_rise}
 use Rattle.mk_text.proofs.TestLemmas.{both, and_true, or_left, or_right}
 use Rattle.mk_model.specs.declared.edge.Edge.{Edge}
 use Rattle.mk_model.specs.declared.graph.GraphAtom.{GraphAtom}

@@ -13,11 +13,13 @@ use Rattle.mk_model.specs.Molecules.{IsMolecule, Molecule}
 use Rattle.mk_model.specs.Graphs.{GraphView, IsGraph}
 use Rattle.mk_model.specs.Hits.{image, IsHit}
 use Rattle.mk_model.proofs.PlaceLemmas.{drawn_first, drawn_second}
-use Rattle.mk_match.specs.Search.{AreBonded, IsAnchor, IsBegun, IsCandidate, MayStand}
+use Rattle.mk_match.specs.Begun.{IsBegun, MayStand}
+use Rattle.mk_match.specs.Candidates.{AreBonded, IsCandidate}
+use Rattle.mk_match.specs.EarlierBonds.{IsAnchor}
 use Rattle.mk_match.specs.Walk.{IsWalk, SameFrom, place_of}
 use Rattle.mk_match.specs.Outlook.{IsNoHitBehind}
 use Rattle.mk_match.proofs.BegunLemmas.{begun_less, begun_more, begun_whole, hit_begins}
-use Rattle.mk_match.proofs.LeftLemmas.{take_last}
+use Rattle.mk_match.proofs.ListsFromLemmas.{take_last}
 use Rattle.mk_match.proofs.PassedLemmas.{none_left, same_back, same_in, same_past, same_skip, same_through, same_turned}
 
 -- ---- the anchor

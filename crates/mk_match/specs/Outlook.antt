@@ -11,7 +11,7 @@ use Rattle.mk_model.specs.Edges.{touches}
 use Rattle.mk_model.specs.Molecules.{Molecule}
 use Rattle.mk_model.specs.Graphs.{GraphView, graph_edge}
 use Rattle.mk_model.specs.Hits.{image, IsHit}
-use Rattle.mk_match.specs.Search.{AreBonded}
+use Rattle.mk_match.specs.Candidates.{AreBonded}
 
 -- the hit begins with the first atoms, and the first atoms of the order lie on those that are chosen for them
 pub record Agrees (graph : GraphView) (mol : Molecule) (first order chosen hit : List ℕ) : Type 0 where

@@ -7,7 +7,7 @@ use Rattle.std.specs.Prelude.{◌≡◌, ◌<◌, ◌≤◌, ◌+◌, ◌*◌, �
 use Rattle.mk_text.specs.Rising.{IsBelow}
 use Rattle.mk_model.specs.Molecules.{IsMolecule, Molecule}
 use Rattle.mk_model.specs.Graphs.{GraphView, IsGraph}
-use Rattle.mk_match.specs.Search.{IsBegun}
+use Rattle.mk_match.specs.Begun.{IsBegun}
 
 -- the list from which on there is still to look: the first images, and behind them a number above the one that is passed
 abbrev pub place_of : List ℕ → ℕ → ℕ → List ℕ

@@ -4,7 +4,7 @@ ghost use Rattle.std.specs.Option.{ForSome};
 ghost use Rattle.mk_model.specs.declared.molecule.MolBond.{MolBond as Bond};
 ghost use Rattle.mk_model.specs.Edges.{numbers_at};
 ghost use Rattle.mk_model.specs.Molecules.{edges};
-ghost use Rattle.mk_match.specs.Search.{AreBonded, IsCandidate, IsLeastEnd, end_numbered, lesser_end};
+ghost use Rattle.mk_match.specs.Candidates.{AreBonded, IsCandidate, IsLeastEnd, end_numbered, lesser_end};
 
 use mk_model::{Mol, MolBond};
 

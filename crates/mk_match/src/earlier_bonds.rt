@@ -2,7 +2,7 @@
 ghost use Rattle.std.specs.Prelude.{◌≡◌, ◌<◌, ◌≤◌, ◌+◌, ◌-◌, ◌↔◌, false, All, Some, IfNone, IfSome, IsTrue, length, slice_get};
 ghost use Rattle.mk_model.specs.Fitting.{LiesOn};
 ghost use Rattle.mk_model.specs.Hits.{image};
-ghost use Rattle.mk_match.specs.Search.{HasNoAnchor, IsAnchor, IsMetAt};
+ghost use Rattle.mk_match.specs.EarlierBonds.{HasNoAnchor, IsAnchor, IsMetAt};
 
 use mk_model::{Graph, GraphBond, Mol};
 use mk_tests::bond_fits;

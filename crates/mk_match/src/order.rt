@@ -8,6 +8,7 @@ use std::alloc::Global;
 
 // The rank of an atom that isn't in the order, and of one that waits at its edge.
 const NONE: u32 = u32::MAX;
+
 const EDGE: u32 = u32::MAX - 1;
 
 /// The atoms behind the first ones: each beside one that has its place, where there is such an atom, and the one that has
@@ -39,6 +40,17 @@ impl Order {
             choices,
             first: 0,
         })
+    }
+
+    pub fn at_rest(alloc: Global) -> Order {
+        Order {
+            atoms: Vec::new(alloc),
+            ranks: Vec::new(alloc),
+            placed: Vec::new(alloc),
+            edge: Vec::new(alloc),
+            choices: Vec::new(alloc),
+            first: 0,
+        }
     }
 
     /// Puts the atoms behind the first ones in order. The neighbours of the last of the first come before all others.

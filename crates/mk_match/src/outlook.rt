@@ -33,6 +33,16 @@ impl Outlook {
         })
     }
 
+    /// What is needed where nothing is looked for.
+    pub fn at_rest(alloc: Global) -> Outlook {
+        Outlook {
+            order: Order::at_rest(alloc),
+            chosen: Vec::new(alloc),
+            levels: Vec::new(alloc),
+            witness: Vec::new(alloc),
+        }
+    }
+
     /// Tells that no hit begins with these atoms; where it doesn't, there may be one or none.
     pub fn is_dead(
         &mut self,
@@ -121,7 +131,18 @@ fn has_none(
             above = chosen[d];
             continue;
         };
-        if is_barred(graph, mol, fits, first, fixed, order, ranks, &chosen[..d], levels, a) {
+        if is_barred(
+            graph,
+            mol,
+            fits,
+            first,
+            fixed,
+            order,
+            ranks,
+            &chosen[..d],
+            levels,
+            a,
+        ) {
             above = a;
             continue;
         }
@@ -304,13 +325,7 @@ fn image_of(
     Some(a)
 }
 
-fn number_put(
-    first: &[u32],
-    order: &[u32],
-    ranks: &[u32],
-    chosen: &[u32],
-    y: u32,
-) -> Option<u32>
+fn number_put(first: &[u32], order: &[u32], ranks: &[u32], chosen: &[u32], y: u32) -> Option<u32>
     requires { length chosen.now ≤ length order.now }
     ensures { IfSome result (IsPut first.now order.now chosen.now y) }
 {

@@ -3,7 +3,7 @@ ghost use Rattle.std.specs.Prelude.{◌≡◌, ◌<◌, ◌≤◌, ◌+◌, ◌-
 ghost use Rattle.mk_model.specs.Graphs.{IsGraph};
 ghost use Rattle.mk_model.specs.Hits.{IsHit};
 ghost use Rattle.mk_text.specs.Rising.{IsLeastFrom};
-ghost use Rattle.mk_match.specs.Search.{MayStand};
+ghost use Rattle.mk_match.specs.Begun.{MayStand};
 ghost use Rattle.mk_match.specs.Table.{IsTable};
 ghost use Rattle.mk_match.specs.Walk.{IsWalk, SameFrom, lists_from, place_of};
 
@@ -44,6 +44,18 @@ impl Walk {
             depth: 0,
             above: 0,
         })
+    }
+
+    /// A walk that doesn't go on.
+    pub fn at_rest(alloc: Global) -> Walk
+        ensures { result.images.items ≡ [] }
+    {
+        Walk {
+            images: Vec::new(alloc),
+            levels: Vec::new(alloc),
+            depth: 0,
+            above: 0,
+        }
     }
 
     /// Goes to the lists from a front on.
@@ -116,7 +128,13 @@ impl Walk {
             return Turn::Moved;
         }
         self.put(atom);
-        if outlook.is_dead(graph, mol, fits, &self.images[..self.depth + 1], &self.levels) {
+        if outlook.is_dead(
+            graph,
+            mol,
+            fits,
+            &self.images[..self.depth + 1],
+            &self.levels,
+        ) {
             self.above = atom;
             return Turn::Moved;
         }

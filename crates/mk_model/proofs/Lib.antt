@@ -15,5 +15,6 @@ pub mod LogicLemmas
 pub mod PlainCodesLemmas
 pub mod ForCallers
 pub mod OnLiterals
+pub mod FitsOnLiterals
 pub mod DegreeLemmas
 pub mod MoleculeLemmas

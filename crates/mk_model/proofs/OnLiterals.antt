@@ -59,7 +59,7 @@ chain_block : is_in_block (chain 3) (Link 2 3 1 3) 1 ≡ false
 unfolding chain hang_together bond
 chain_block = refl
 
--- two plain atoms, and for the link 1 and its greatest length
+-- two fixed atoms, and for the link 1 and its greatest length
 chain_size : size_by (chain_query 509) (λ _. 0) (chain 509) ≡ 512
 unfolding chain chain_query hang_together bond
 chain_size = refl
@@ -219,7 +219,7 @@ bridge_query = record {
   groups = plain_group (1 ∷ []) ∷ replicate 31 (plain_group []);
 }
 
--- 2 plain atoms; for the site 1, and 2 for its own neighbours, since its member is smaller
+-- 2 fixed atoms; for the site 1, and 2 for its own neighbours, since its member is smaller
 bridge_size : size_by bridge_query (λ _. 1) bridge ≡ 5
 unfolding bridge bridge_query hang_together bond plain_group group range
 bridge_size = refl

@@ -5,8 +5,9 @@ use Rattle.std.proofs.lemmas.Bool.{cases_lt}
 use Rattle.std.proofs.lemmas.Bool.Decides.{nat_tests}
 use Rattle.std.proofs.lemmas.List.{nil_from_length}
 use Rattle.mk_ctab.specs.declared.raw.RawTable.{RawTable}
-use Rattle.mk_mol.specs.Checks.{OfItem, IsOfMolecules}
-use Rattle.mk_mol.specs.FirstFault.{Check, known_atoms, new_bonds, known_types, few_bonds, named_atoms, known_values, known_properties, number, Demands, Passes, PassesAll, PassesBelow, IsLeastFailing, IsFirstFault}
+use Rattle.mk_text.specs.Items.{OfItem, IsLeastFailing}
+use Rattle.mk_mol.specs.Checks.{IsOfMolecules}
+use Rattle.mk_mol.specs.FirstFault.{Check, known_atoms, new_bonds, known_types, few_bonds, named_atoms, known_values, known_properties, number, Demands, Passes, PassesAll, PassesBelow, IsFirstFault}
 
 -- the check of a number
 abbrev check_at : ℕ → Check

@@ -1,6 +1,6 @@
 -- The filled molecule is a molecule.
 use Rattle.std.proofs.Common.{◌≡◌, ◌≤◌, ◌<◌, ◌+◌, ◌^◌, ℕ, List, [], ◌∷◌, ◌++◌, Some, refl, ap, sym, ◌∙◌, length, get_or, replicate, arith, inl, inr, ⊎_elim}
-use Rattle.std.specs.Prelude.{◌⊎◌, All, slice_get, Result, Ok, Err, IfOk}
+use Rattle.std.specs.Prelude.{◌⊎◌, All, slice_get}
 use Rattle.std.proofs.lemmas.Bool.{cases_lt}
 use Rattle.std.proofs.lemmas.List.{append-nil, append_assoc, length-append, length-replicate, length-map, length_push, get_or_append_left, get_or_push}
 use Rattle.std.proofs.lemmas.List.Elements.{All-append, All-push, All-replicate, All-weaker, All-head, All-tail, All-nil}
@@ -9,13 +9,12 @@ use Rattle.mk_model.specs.declared.molecule.Atom.{Atom}
 use Rattle.mk_model.specs.declared.molecule.MolBond.{MolBond}
 use Rattle.mk_model.specs.Edges.{IsBetween, IsSimple, HasEnds, Joins}
 use Rattle.mk_model.specs.Molecules.{Molecule, IsElement, IsMolecule, HasMarks, edge_of, edges}
-use Rattle.std.specs.declared.alloc.AllocError.{AllocError}
 use Rattle.mk_ctab.specs.declared.raw.RawTable.{RawTable}
-use Rattle.mk_mol.specs.Checks.{edges_of}
+use Rattle.mk_ctab.specs.Bonds.{edges_of}
 use Rattle.mk_mol.specs.Filled.{AreGains, AreWrittenAtoms, IsFilled, hydrogen, hydrogen_bonds, owners}
 use Rattle.mk_mol.specs.Putting.{IsSound}
-use Rattle.mk_mol.proofs.ItemLemmas.{get-at}
-use Rattle.mk_mol.proofs.PairLemmas.{graph}
+use Rattle.std.proofs.lemmas.Option.{slice_get-get_or}
+use Rattle.mk_ctab.proofs.ForCallers.{graph}
 use Rattle.mk_mol.proofs.HydrogenLemmas.{length-hydrogen_bonds}
 
 -- ---- the graph with hydrogens
@@ -46,8 +45,8 @@ graph-more atoms bonds owner is least most =
         let at_b = get_or_append_left bonds (last ∷ []) d b earlier in
         let at_j = get_or_append_left bonds (last ∷ []) d j (omega arith) in
         let ends' : HasEnds (get_or bonds j d) (get_or bonds b d).first (get_or bonds b d).second = rw (at_b, at_j) at ends in
-        let joins_j : Joins bonds j (get_or bonds b d).first (get_or bonds b d).second = record { edge = get_or bonds j d; at = get-at bonds j d (omega arith); ends = ends' } in
-        let joins_b : Joins bonds b (get_or bonds b d).first (get_or bonds b d).second = record { edge = get_or bonds b d; at = get-at bonds b d earlier; ends = inl (refl, refl) } in
+        let joins_j : Joins bonds j (get_or bonds b d).first (get_or bonds b d).second = record { edge = get_or bonds j d; at = slice_get-get_or bonds j d (omega arith); ends = ends' } in
+        let joins_b : Joins bonds b (get_or bonds b d).first (get_or bonds b d).second = record { edge = get_or bonds b d; at = slice_get-get_or bonds b d earlier; ends = inl (refl, refl) } in
         absurd (omega (arith, is.once j b _ _ joins_j joins_b))
     by_place b j d before within ends (inr past) =
         let here : length bonds ≡ b = omega arith in
@@ -88,6 +87,15 @@ filled_graph atoms new old more gains size is filled bonded =
     (graph-filled (length atoms) old os is
     (All-weaker (λ (o : ℕ). (1 ≤ o) × (o < 1 + length gains)) (λ (o : ℕ). (1 ≤ o) × (o ≤ length atoms)) (λ o h. (h.0, omega (arith, h.1, size))) os (owners-within 1 gains)))
 
+-- there are few of them
+pub few_filled : (atoms new : List Atom) (old plain : List Edge) (gains : List ℕ) → length old ≤ 999 → length new < 2 ^ 20 → new ≡ atoms ++ replicate (length (owners 1 gains)) hydrogen → plain ≡ old ++ hydrogen_bonds (length atoms + 1) (owners 1 gains) → length plain < 2 ^ 32
+few_filled atoms new old plain gains few_old few filled bonded =
+    let os = owners 1 gains in
+    let many : length new ≡ length atoms + length os = ap length filled ∙ length-append atoms (replicate (length os) hydrogen) ∙ ap (λ (k : ℕ). length atoms + k) (length-replicate (length os) hydrogen) in
+    let size : length plain ≡ length old + length os =
+    ap length bonded ∙ length-append old (hydrogen_bonds (length atoms + 1) os) ∙ ap (λ (k : ℕ). length old + k) (length-hydrogen_bonds (length atoms + 1) os) in
+    omega arith
+
 -- ---- the molecule
 
 -- the atoms, filled, and their marked bonds are a molecule
@@ -111,9 +119,8 @@ molecule atoms new old plain gains written bonds is size few_old few sound old_g
     }
 
 -- and they are the filled molecule of the table
-pub is_filled : (table : RawTable) (r : Result Molecule AllocError) (atoms new : List Atom) (old plain : List Edge) (gains : List ℕ) (written : ℕ) (bonds : List MolBond) → written ≡ length atoms → AreWrittenAtoms table atoms → AreGains table atoms gains → old ≡ edges_of table.bonds → new ≡ atoms ++ replicate (length (owners 1 gains)) hydrogen → plain ≡ old ++ hydrogen_bonds (length atoms + 1) (owners 1 gains) → edges bonds ≡ plain → IfOk r (λ mol. mol ≡ record { written = written; atoms = new; bonds = bonds }) → IfOk r (IsFilled table)
-is_filled table (Err e) atoms new old plain gains written bonds is are gained drawn filled bonded same made = tt
-is_filled table (Ok mol) atoms new old plain gains written bonds is are gained drawn filled bonded same made = record {
+pub is_filled : (table : RawTable) (mol : Molecule) (atoms new : List Atom) (old plain : List Edge) (gains : List ℕ) (written : ℕ) (bonds : List MolBond) → written ≡ length atoms → AreWrittenAtoms table atoms → AreGains table atoms gains → old ≡ edges_of table.bonds → new ≡ atoms ++ replicate (length (owners 1 gains)) hydrogen → plain ≡ old ++ hydrogen_bonds (length atoms + 1) (owners 1 gains) → edges bonds ≡ plain → mol ≡ record { written = written; atoms = new; bonds = bonds } → IsFilled table mol
+is_filled table mol atoms new old plain gains written bonds is are gained drawn filled bonded same made = record {
   atoms = atoms;
   gains = gains;
   written = ap (λ (m : Molecule). m.written) made ∙ is ∙ are.size;

@@ -7,21 +7,23 @@ use Rattle.std.proofs.lemmas.Int.{ints}
 use Rattle.std.proofs.lemmas.List.Elements.{All-map}
 use Rattle.mk_model.specs.declared.edge.Edge.{Edge}
 use Rattle.mk_model.specs.Edges.{numbers_at, rows_of}
-use Rattle.mk_model.proofs.DegreeLemmas.{length-numbers_from, length-rows_of}
+use Rattle.mk_model.proofs.ForCallers.{length-numbers_from, length-rows_of}
 use Rattle.mk_valence.specs.Hydrogens.{added_hydrogens}
 use Rattle.mk_model.specs.declared.molecule.Atom.{Atom}
 use Rattle.mk_ctab.specs.declared.raw.RawAtom.{RawAtom}
 use Rattle.mk_ctab.specs.declared.raw.RawTable.{RawTable}
 use Rattle.mk_mol.specs.declared.bond_checks.Drawn.{Drawn}
-use Rattle.mk_mol.specs.Numbers.{IsWithin, natural, byte}
-use Rattle.mk_mol.specs.Checks.{HasKnownType, edge_of, edges_of}
+use Rattle.mk_ctab.specs.Numbers.{IsWithin, natural, byte}
+use Rattle.mk_ctab.specs.Bonds.{edge_of, edges_of}
+use Rattle.mk_mol.specs.Checks.{HasKnownType}
 use Rattle.mk_mol.specs.FirstFault.{PassesAll, known_types, few_bonds}
 use Rattle.mk_mol.specs.Filled.{AreGains, gained_by, kinds_at}
 use Rattle.mk_mol.specs.Putting.{kinds_of}
 use Rattle.mk_mol.specs.Search.{IsDrawn}
-use Rattle.mk_mol.proofs.PairLemmas.{numbers_are}
+use Rattle.mk_ctab.proofs.ForCallers.{numbers_are}
 use Rattle.mk_mol.proofs.HydrogenLemmas.{kinds_are}
-use Rattle.mk_mol.proofs.ItemLemmas.{get-within, get_or-from_get, get-at, all_of}
+use Rattle.std.proofs.lemmas.Option.{slice_get_within, get_or_from_slice_get, slice_get-get_or}
+use Rattle.mk_text.proofs.ForCallers.{all_of}
 
 -- the first k atoms gain these numbers
 pub record AreGainsTo (table : RawTable) (atoms : List Atom) (k : ℕ) (gains : List ℕ) : Type 0 where
@@ -41,7 +43,7 @@ gains-more table atoms k d gains gained below is are = record {
       (λ last.
       let here : i ≡ k = omega arith in
       let line_here : slice_get table.atoms k ≡ Some line = rw here at line_at in
-      let atom_here : get_or atoms k d ≡ atom = get_or-from_get atoms k d atom (rw here at atom_at) in
+      let atom_here : get_or atoms k d ≡ atom = get_or_from_slice_get atoms k atom d (rw here at atom_at) in
       let P : ℕ → Type 0 = λ j. gained ≡ gained_by table (j + 1) line atom in
       get_or_push gains gained 0 i (are.size ∙ sym here) ∙ subst P (sym here) (rw atom_here at (is line line_here)))
       (cases_lt i k);
@@ -52,8 +54,8 @@ pub gains-all : (table : RawTable) (atoms : List Atom) (k : ℕ) (gains : List �
 gains-all table atoms k gains size all few are = record {
   size = omega (arith, are.size, size);
   each = λ i line atom line_at atom_at.
-      let below : i < k = omega (arith, get-within atoms i atom atom_at) in
-      get-at gains i 0 (omega (arith, are.size)) ∙ ap Some (are.each i line atom below line_at atom_at);
+      let below : i < k = omega (arith, slice_get_within atoms i atom atom_at) in
+      slice_get-get_or gains i 0 (omega (arith, are.size)) ∙ ap Some (are.each i line atom below line_at atom_at);
 }
 
 -- ---- one atom
@@ -87,15 +89,13 @@ near_size table drawn is = ap length is.near ∙ length-rows_of (length table.at
 -- it is short
 pub few_numbers : (table : RawTable) (i : ℕ) (numbers : List ℕ) → PassesAll table → i < length table.atoms → numbers ≡ numbers_at (edges_of table.bonds) (i + 1) → length numbers ≤ 20
 few_numbers table i numbers passes below are =
-    let line : RawAtom = record { symbol = []; charge = pos 0; hydrogens = pos 0; valence = pos 0 } in
-    let place : i + 1 - 1 ≡ i = omega arith in
-    let few = passes few_bonds (i + 1) (get_or table.atoms i line) (omega arith) (rw place (get-at table.atoms i line below)) in
+    let few = passes few_bonds (i + 1) (omega arith) (omega arith) in
     omega (arith, few, ap length are, length-numbers_from 1 (edges_of table.bonds) (i + 1))
 
 -- what an atom gains by the types of the numbered bonds
 pub gained_is : (table : RawTable) (i mark gained : ℕ) (seen line : RawAtom) (atom : Atom) (edges : List Edge) (numbers : List ℕ) → seen ≡ get_or table.atoms i seen → i < length table.atoms → mark ≡ natural seen.valence → edges ≡ edges_of table.bonds → numbers ≡ numbers_at (edges_of table.bonds) (i + 1) → gained ≡ added_hydrogens atom.element atom.charge atom.radical mark (kinds_of edges numbers) → slice_get table.atoms i ≡ Some line → gained ≡ gained_by table (i + 1) line atom
 gained_is table i mark gained seen line atom edges numbers is below marks are ns by at =
-    let same : seen ≡ line = is ∙ get_or-from_get table.atoms i seen line at in
+    let same : seen ≡ line = is ∙ get_or_from_slice_get table.atoms i line seen at in
     let kinds : kinds_of edges numbers ≡ kinds_at (edges_of table.bonds) (i + 1) = rw (are, ns) (kinds_are (edges_of table.bonds) (i + 1)) in
     by ∙ ap (λ (ks : List ℕ). added_hydrogens atom.element atom.charge atom.radical mark ks) kinds
     ∙ ap (λ (m : ℕ). added_hydrogens atom.element atom.charge atom.radical m (kinds_at (edges_of table.bonds) (i + 1))) (marks ∙ ap (λ (l : RawAtom). natural l.valence) same)

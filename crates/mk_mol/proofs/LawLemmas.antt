@@ -5,7 +5,7 @@ use Rattle.std.specs.List.{list_all}
 use Rattle.std.proofs.lemmas.Bool.{cases_order, true≢false}
 use Rattle.std.proofs.lemmas.List.{same_lists, length-map, get_or-map}
 use Rattle.mk_elements.specs.Symbols.{Names, symbols}
-use Rattle.mk_elements.proofs.TableLemmas.{Names-by_letters}
+use Rattle.mk_elements.proofs.ForCallers.{one_element}
 use Rattle.mk_props.specs.declared.property.Property.{Property}
 use Rattle.mk_props.specs.declared.property.Property.TheVariants as kinds
 use Rattle.mk_model.specs.declared.edge.Edge.{Edge}
@@ -14,22 +14,19 @@ use Rattle.mk_model.specs.declared.molecule.MolBond.{MolBond}
 use Rattle.mk_model.specs.Molecules.{Molecule, HasMarks, edge_of, edges}
 use Rattle.mk_ctab.specs.declared.raw.RawAtom.{RawAtom}
 use Rattle.mk_ctab.specs.declared.raw.RawTable.{RawTable}
-use Rattle.mk_ctab.specs.TableFacts.{HoldsNoText}
-use Rattle.mk_mol.specs.Checks.{IsKnownAtom, IsOfMolecules, edges_of}
+use Rattle.mk_ctab.specs.KeptTables.{EndsWithoutCr, HoldsNoText}
+use Rattle.mk_ctab.specs.Bonds.{edges_of}
+use Rattle.mk_mol.specs.Checks.{IsKnownAtom, IsOfMolecules}
 use Rattle.mk_mol.specs.Filled.{AreGains, AreWrittenAtoms, IsWrittenAtom, hydrogen, hydrogen_bonds, owners}
-use Rattle.mk_mol.specs.FirstFault.{Check, Demands, IsLeastFailing}
+use Rattle.mk_text.specs.Items.{IsLeastFailing}
+use Rattle.mk_mol.specs.FirstFault.{Check, Demands}
+use Rattle.mk_rings.specs.Laws.{OneListOfMolBonds}
 use Rattle.mk_mol.specs.Laws.{OneFirstFault, NoFaultWhereAllPass, OneFilledMolecule, PassingTablesKeepTheirText}
 use Rattle.mk_mol.proofs.FaultLemmas.{number-once}
-use Rattle.mk_mol.proofs.ItemLemmas.{get_or-from_get, get-at, all_of}
+use Rattle.std.proofs.lemmas.Option.{get_or_from_slice_get, slice_get-get_or}
+use Rattle.mk_text.proofs.ForCallers.{all_of, one_item}
 
 -- ---- the first fault
-
--- a demand fails first at one item
-one_item : (Demand : ℕ → Type 0) (i j : ℕ) → IsLeastFailing Demand i → IsLeastFailing Demand j → i ≡ j
-one_item Demand i j p q =
-    ⊎_elim (λ same. same)
-    (λ ne. ⊎_elim (λ below. absurd (p.fails (q.lower i below))) (λ above. absurd (q.fails (p.lower j above))) ne)
-    (cases_order i j)
 
 pub one_fault : OneFirstFault
 one_fault table n item m other p q = by_order (cases_order n m)
@@ -46,10 +43,6 @@ pub no_fault : NoFaultWhereAllPass
 no_fault table n item passes fault = fault.least.fails (passes fault.check item)
 
 -- ---- the filled molecule
-
--- bytes name one element
-one_element : (symbol : List ℕ) (y z : ℕ) → Names symbol y → Names symbol z → y ≡ z
-one_element symbol y z p q = let e = Names-by_letters symbol y p in let f = Names-by_letters symbol z q in cc
 
 same_atom : (a b : Atom) → a.element ≡ b.element → a.charge ≡ b.charge → a.radical ≡ b.radical → a ≡ b
 same_atom a b p q r =
@@ -68,46 +61,20 @@ one_atoms table xs ys p q =
     same_lists xs ys (p.size ∙ sym q.size)
     (λ k d below.
     let line : RawAtom = record { symbol = []; charge = pos 0; hydrogens = pos 0; valence = pos 0 } in
-    let line_at = get-at table.atoms k line (omega (arith, below, p.size)) in
+    let line_at = slice_get-get_or table.atoms k line (omega (arith, below, p.size)) in
     one_written table (k + 1) (get_or table.atoms k line) (get_or xs k d) (get_or ys k d)
-    (p.each k (get_or table.atoms k line) (get_or xs k d) line_at (get-at xs k d below))
-    (q.each k (get_or table.atoms k line) (get_or ys k d) line_at (get-at ys k d (omega (arith, below, p.size, q.size)))))
+    (p.each k (get_or table.atoms k line) (get_or xs k d) line_at (slice_get-get_or xs k d below))
+    (q.each k (get_or table.atoms k line) (get_or ys k d) line_at (slice_get-get_or ys k d (omega (arith, below, p.size, q.size)))))
 
 one_gains : (table : RawTable) (atoms : List Atom) (gs hs : List ℕ) → length atoms ≡ length table.atoms → AreGains table atoms gs → AreGains table atoms hs → gs ≡ hs
 one_gains table atoms gs hs size p q =
     same_lists gs hs (p.size ∙ sym q.size)
     (λ k d below.
     let line : RawAtom = record { symbol = []; charge = pos 0; hydrogens = pos 0; valence = pos 0 } in
-    let line_at = get-at table.atoms k line (omega (arith, below, p.size)) in
-    let atom_at = get-at atoms k hydrogen (omega (arith, below, p.size, size)) in
-    get_or-from_get gs k d _ (p.each k (get_or table.atoms k line) (get_or atoms k hydrogen) line_at atom_at)
-    ∙ sym (get_or-from_get hs k d _ (q.each k (get_or table.atoms k line) (get_or atoms k hydrogen) line_at atom_at)))
-
--- tests that are true for one reason are one
-same_test : (p q : Bool) (P : Type 0) → IsTrue p ↔ P → IsTrue q ↔ P → p ≡ q
-same_test true true P e f = refl
-same_test false false P e f = refl
-same_test true false P e f = let no_way = f.1 (e.0 refl) in cc
-same_test false true P e f = let no_way = e.1 (f.0 refl) in cc
-
-same_bond : (a b : MolBond) → edge_of a ≡ edge_of b → a.ring ≡ b.ring → a.aromatic ≡ b.aromatic → a ≡ b
-same_bond a b e r m =
-    ap (λ (x : Edge). record { first = x.first; second = x.second; kind = x.kind; ring = a.ring; aromatic = a.aromatic }) e
-    ∙ ap (λ (x : Bool). record { first = b.first; second = b.second; kind = b.kind; ring = x; aromatic = a.aromatic }) r
-    ∙ ap (λ (x : Bool). record { first = b.first; second = b.second; kind = b.kind; ring = b.ring; aromatic = x }) m
-
--- edges with the marks of the definitions are one list of bonds
-one_bonds : (plain : List Edge) (xs ys : List MolBond) → edges xs ≡ plain → edges ys ≡ plain → ((b : ℕ) (bond : MolBond) → slice_get xs b ≡ Some bond → HasMarks plain b bond) → ((b : ℕ) (bond : MolBond) → slice_get ys b ≡ Some bond → HasMarks plain b bond) → xs ≡ ys
-one_bonds plain xs ys p q marks_a marks_b =
-    let size : length xs ≡ length ys = sym (length-map xs edge_of) ∙ ap length (p ∙ sym q) ∙ length-map ys edge_of in
-    same_lists xs ys size
-    (λ k d below.
-    let m = marks_a k (get_or xs k d) (get-at xs k d below) in
-    let n = marks_b k (get_or ys k d) (get-at ys k d (omega (arith, below, size))) in
-    let e : Edge = record { first = 0; second = 0; kind = 0 } in
-    let same : edge_of (get_or xs k d) ≡ edge_of (get_or ys k d) =
-    sym (get_or-map edge_of xs k d e below) ∙ ap (λ (es : List Edge). get_or es k e) (p ∙ sym q) ∙ get_or-map edge_of ys k d e (omega (arith, below, size)) in
-    same_bond (get_or xs k d) (get_or ys k d) same (same_test _ _ _ m.ring n.ring) (same_test _ _ _ m.aromatic n.aromatic))
+    let line_at = slice_get-get_or table.atoms k line (omega (arith, below, p.size)) in
+    let atom_at = slice_get-get_or atoms k hydrogen (omega (arith, below, p.size, size)) in
+    get_or_from_slice_get gs k _ d (p.each k (get_or table.atoms k line) (get_or atoms k hydrogen) line_at atom_at)
+    ∙ sym (get_or_from_slice_get hs k _ d (q.each k (get_or table.atoms k line) (get_or atoms k hydrogen) line_at atom_at)))
 
 same_molecule : (a b : Molecule) → a.written ≡ b.written → a.atoms ≡ b.atoms → a.bonds ≡ b.bonds → a ≡ b
 same_molecule a b p q r =
@@ -115,14 +82,14 @@ same_molecule a b p q r =
     ∙ ap (λ (x : List Atom). record { written = b.written; atoms = x; bonds = a.bonds }) q
     ∙ ap (λ (x : List MolBond). record { written = b.written; atoms = b.atoms; bonds = x }) r
 
-pub one_filled : OneFilledMolecule
-one_filled table a b a_is b_is p q =
+pub one_filled : OneListOfMolBonds → OneFilledMolecule
+one_filled one_list table a b a_is b_is p q =
     let atoms : p.atoms ≡ q.atoms = one_atoms table p.atoms q.atoms p.are_written q.are_written in
     let P : List Atom → Type 0 = λ xs. AreGains table xs q.gains in
     let gains : p.gains ≡ q.gains = one_gains table p.atoms p.gains q.gains p.are_written.size p.are_gains (subst P (sym atoms) q.are_gains) in
     let all : a.atoms ≡ b.atoms = p.filled ∙ ap (λ (xs : List Atom). xs ++ replicate (length (owners 1 p.gains)) hydrogen) atoms ∙ ap (λ (gs : List ℕ). q.atoms ++ replicate (length (owners 1 gs)) hydrogen) gains ∙ sym q.filled in
     let plain : edges a.bonds ≡ edges b.bonds = p.bonds ∙ ap (λ (gs : List ℕ). edges_of table.bonds ++ hydrogen_bonds (length table.atoms + 1) (owners 1 gs)) gains ∙ sym q.bonds in
-    same_molecule a b (p.written ∙ sym q.written) all (one_bonds (edges b.bonds) a.bonds b.bonds plain refl (rw plain at a_is.marks) b_is.marks)
+    same_molecule a b (p.written ∙ sym q.written) all (one_list a.bonds b.bonds a_is.marks b_is.marks plain)
 
 -- ---- the text that is kept
 
@@ -172,10 +139,20 @@ no_text (kinds.Radical pairs) is = tt
 no_text (kinds.Isotope pairs) is = tt
 no_text other is = absurd is
 
+-- so none ends with CR
+no_text_ends : (property : Property) → IsOfMolecules property → EndsWithoutCr property
+no_text_ends (kinds.Charge pairs) is = tt
+no_text_ends (kinds.Radical pairs) is = tt
+no_text_ends (kinds.Isotope pairs) is = tt
+no_text_ends other is = absurd is
+
 pub keeps_text : PassingTablesKeepTheirText
-keeps_text table atoms properties = record {
-  symbols = λ k d below ends.
-      let known = all_of IsKnownAtom table.atoms atoms k d below in
-      no_end (get_or table.atoms k d).symbol ends.0 (named-no_cr _ known.symbol.element known.symbol.names) ends.1;
-  properties = λ k d below. no_text (get_or table.props k d) (all_of IsOfMolecules table.props (λ item. (properties item).1) k d below);
-}
+keeps_text table atoms properties = (
+  record {
+    symbols = λ k d below ends.
+        let known = all_of IsKnownAtom table.atoms atoms k d below in
+        no_end (get_or table.atoms k d).symbol ends.0 (named-no_cr _ known.symbol.element known.symbol.names) ends.1;
+    properties = λ k d below. no_text_ends (get_or table.props k d) (all_of IsOfMolecules table.props (λ item. (properties item).1) k d below);
+  },
+  λ k d below. no_text (get_or table.props k d) (all_of IsOfMolecules table.props (λ item. (properties item).1) k d below),
+)

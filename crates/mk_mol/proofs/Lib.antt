@@ -1,14 +1,9 @@
-pub mod ItemLemmas
 pub mod NameLemmas
 pub mod FaultLemmas
-pub mod EdgeLemmas
-pub mod PairLemmas
-pub mod BondFaultLemmas
-pub mod PutLemmas
-pub mod LineAtomLemmas
+pub mod WrittenAtomsLemmas
 pub mod HydrogenLemmas
 pub mod GainLemmas
-pub mod MarkLemmas
 pub mod FilledLemmas
 pub mod LawLemmas
 pub mod MolOnLiterals
+pub mod ForCallers

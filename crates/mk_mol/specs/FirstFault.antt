@@ -3,10 +3,12 @@
 --     Demands table check item         what a check demands of the item of a number
 --     PassesAll table                  every check passes at every item
 --     IsFirstFault table n item        the first check that fails is the n-th, and this is its least item
-use Rattle.std.specs.Prelude.{◌≡◌, ◌<◌, ◌≤◌, ◌-◌, ℕ, [], length, take}
-use Rattle.mk_model.specs.Filling.{degree}
+use Rattle.std.specs.Prelude.{◌≡◌, ◌<◌, ℕ, [], length}
+use Rattle.mk_text.specs.Items.{IsLeastFailing, OfItem}
 use Rattle.mk_ctab.specs.declared.raw.RawTable.{RawTable}
-use Rattle.mk_mol.specs.Checks.{OfItem, IsKnownAtom, IsNewBond, HasKnownType, edges_of, NamesAtoms, HasKnownValues, IsOfMolecules}
+use Rattle.mk_ctab.specs.Bonds.{edges_of, HasFewBonds, IsNewBondAt}
+use Rattle.mk_ctab.specs.Values.{HasKnownValues, NamesAtoms}
+use Rattle.mk_mol.specs.Checks.{IsKnownAtom, HasKnownType, IsOfMolecules}
 
 -- Symbols and columns of atoms; ends of bonds; types of bonds; how many bonds an atom has; the atoms, the values and the kinds
 -- of properties.
@@ -33,9 +35,9 @@ number known_properties = 7
 -- of the last check. An item that isn't there is right.
 abbrev pub Demands : RawTable → Check → ℕ → Type 0
 Demands table known_atoms item = OfItem IsKnownAtom table.atoms item
-Demands table new_bonds item = OfItem (IsNewBond (length table.atoms) (take (item - 1) table.bonds)) table.bonds item
+Demands table new_bonds item = IsNewBondAt (length table.atoms) table.bonds item
 Demands table known_types item = OfItem HasKnownType table.bonds item
-Demands table few_bonds item = OfItem (λ _. degree (edges_of table.bonds) item ≤ 20) table.atoms item
+Demands table few_bonds item = HasFewBonds (length table.atoms) (edges_of table.bonds) item
 Demands table named_atoms item = OfItem (NamesAtoms (length table.atoms)) table.props item
 Demands table known_values item = OfItem HasKnownValues table.props item
 Demands table known_properties item = (item ≡ 0 → table.lists ≡ []) × OfItem IsOfMolecules table.props item
@@ -47,11 +49,6 @@ Passes table check = (item : ℕ) → Demands table check item
 -- every check passes
 abbrev pub PassesAll : RawTable → Type 0
 PassesAll table = (check : Check) → Passes table check
-
--- the demand fails at this item, and holds at every lower one
-pub record IsLeastFailing (Demand : ℕ → Type 0) (item : ℕ) : Type 0 where
-  pub lower : (j : ℕ) → j < item → Demand j
-  pub fails : ¬ (Demand item)
 
 -- the checks of lower numbers pass
 abbrev pub PassesBelow : RawTable → ℕ → Type 0

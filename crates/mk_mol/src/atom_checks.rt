@@ -1,10 +1,9 @@
 // What is demanded of atoms.
 ghost use Rattle.std.specs.Prelude.{◌≤◌, ◌↔◌, IsTrue, length};
-ghost use Rattle.mk_mol.specs.Checks.{IsKnownAtom, IsNamed, OfItem};
-ghost use Rattle.mk_mol.specs.Search.{FindsLeast};
+ghost use Rattle.mk_text.specs.Items.{FindsLeast, OfItem};
+ghost use Rattle.mk_mol.specs.Checks.{IsKnownAtom, IsNamed};
 
-use crate::columns::is_within;
-use mk_ctab::RawAtom;
+use mk_ctab::{RawAtom, is_within};
 use mk_elements::number_of;
 
 /// The first atom that has an unknown symbol, charge or valence.

@@ -1,20 +1,17 @@
-// What is demanded of bonds, and the numbers of each atom's bonds.
-ghost use Rattle.std.specs.Prelude.{◌≡◌, ◌≤◌, ◌<◌, ◌-◌, ◌↔◌, All, IfOk, IsFalse, IsTrue, OnOk, length};
-ghost use Rattle.mk_model.specs.Edges.{AreBetween, HasEnds, IsSimple, rows_of};
+// What is demanded of a molecule's bonds, and the numbers of each atom's bonds.
+ghost use Rattle.std.specs.Prelude.{◌≡◌, ◌≤◌, ◌↔◌, IfOk, IsTrue, OnOk, length};
+ghost use Rattle.mk_text.specs.Items.{FindsLeast, OfItem};
+ghost use Rattle.mk_model.specs.Edges.{IsSimple, rows_of};
+ghost use Rattle.mk_ctab.specs.Bonds.{edges_of, IsEdgeFront};
 ghost use Rattle.mk_mol.specs.Answers.{IfCheck};
-ghost use Rattle.mk_mol.specs.Checks.{edges_of, HasKnownType, OfItem};
+ghost use Rattle.mk_mol.specs.Checks.{HasKnownType};
 ghost use Rattle.mk_mol.specs.FirstFault.{IsFirstFault, PassesBelow};
-ghost use Rattle.mk_mol.specs.Search.{FindsLeast, HasEarlier, IsDrawn, IsEdgeFront, IsNewAmong, IsNewAt, IsNewBondAt};
+ghost use Rattle.mk_mol.specs.Search.{IsDrawn};
 
-use crate::columns::is_within;
-use crate::edges::edges_between;
-use crate::{Memory, PrepareFault};
-use mk_ctab::{RawBond, RawTable};
+use crate::PrepareFault;
+use mk_ctab::{RawBond, RawTable, edges_between, first_crowded_atom, first_no_new_bond, is_within};
 use mk_model::{Edge, Neighbours};
 use std::alloc::Global;
-
-// How many bonds an atom may have.
-const MOST_BONDS: usize = 20;
 
 /// The bonds as edges, and the numbers of each atom's bonds.
 #[derive(Debug, Drop)]
@@ -66,60 +63,6 @@ fn check_drawn(table: &RawTable, edges: &[Edge], near: &Neighbours) -> Result<()
     Ok(())
 }
 
-// The first bond whose ends aren't two atoms, or whose pair has an earlier bond.
-fn first_no_new_bond(edges: &[Edge], near: &Neighbours, bonds: &[RawBond]) -> Option<u32>
-    requires few { length bonds.now ≤ 999 }
-    requires front { IsEdgeFront (length near.now) bonds.now edges.now }
-    requires rows { near.now ≡ rows_of (length near.now) edges.now }
-    ensures { FindsLeast (IsNewBondAt (length near.now) bonds.now) result }
-{
-    if let Some(item) = first_pair_twice(edges, near) {
-        return Some(item);
-    }
-    if edges.len() < bonds.len() {
-        return Some(edges.len() as u32 + 1);
-    }
-    None
-}
-
-// The first bond whose pair has an earlier bond.
-fn first_pair_twice(edges: &[Edge], near: &Neighbours) -> Option<u32>
-    requires few { length edges.now ≤ 999 }
-    requires ends { AreBetween (length near.now) edges.now }
-    requires rows { near.now ≡ rows_of (length near.now) edges.now }
-    ensures { FindsLeast (λ item. IsNewAt edges.now (item - 1)) result }
-{
-    for b in 0..edges.len() {
-        if has_earlier(edges, near.at(edges[b].first), b) {
-            return Some(b as u32 + 1);
-        }
-    }
-    None
-}
-
-// Whether an earlier one of the numbered bonds has the pair of the bond at place b.
-fn has_earlier(edges: &[Edge], numbers: &[u32], b: usize) -> bool
-    requires within { b < length edges.now }
-    requires numbers { All (λ number. (1 ≤ number) × (number ≤ length edges.now)) numbers.now }
-    ensures found { IsTrue result → HasEarlier edges.now b }
-    ensures none { IsFalse result → IsNewAmong edges.now numbers.now b }
-{
-    let edge = edges[b];
-    for number in numbers {
-        let other = *number as usize - 1;
-        if other < b && join_same(edges[other], edge) {
-            return true;
-        }
-    }
-    false
-}
-
-fn join_same(a: Edge, b: Edge) -> bool
-    ensures { IsTrue result ↔ HasEnds a b.first b.second }
-{
-    a.first == b.first && a.second == b.second || a.first == b.second && a.second == b.first
-}
-
 // The first bond of an unknown type.
 fn first_unknown_type(bonds: &[RawBond]) -> Option<u32>
     requires { length bonds.now ≤ 999 }
@@ -137,17 +80,4 @@ fn has_known_type(bond: &RawBond) -> bool
     ensures { IsTrue result ↔ HasKnownType bond.now }
 {
     is_within(1, 4, bond.kind)
-}
-
-// The first atom that has too many bonds.
-fn first_crowded_atom(near: &Neighbours, atoms: u32) -> Option<u32>
-    requires { length near.now ≡ atoms }
-    ensures { FindsLeast (OfItem (λ numbers. length numbers ≤ 20) near.now) result }
-{
-    for i in 0..atoms {
-        if near.at(i + 1).len() > MOST_BONDS {
-            return Some(i + 1);
-        }
-    }
-    None
 }

@@ -12,8 +12,6 @@
 mod atom_checks;
 mod bond_checks;
 mod checking;
-mod columns;
-mod edges;
 mod fault;
 mod filling;
 mod hydrogen_filling;

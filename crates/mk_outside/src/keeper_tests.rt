@@ -7,65 +7,32 @@ use crate::{Bytes, CallNumbers, Change, Keeper, MemKeeper, Place, RecordRow, Sur
 use std::alloc::{AllocError, Global};
 use std::test::Fail;
 
-// A change: what it does, its number, and the letter that is its text and its name. `r`, `q` and `c` put a record, a query
-// and a cursor, and `R`, `Q` and `C` drop one.
-#[derive(Clone, Copy)]
-struct Step(u8, u8, u8);
-
-// The records before, the batch, and what is kept then: each row's number and letter, table by table, and the next numbers.
-static BATCHES: [(&str, [(u8, u8); 3], [Step; 2], &str); 9] = [
+// The records before, as numbers and letters; the batch, as what a change does, its number, and the letter that is its text
+// and its name; and what is kept then, table by table, with the next numbers. `r`, `q` and `c` put a record, a query and a
+// cursor, and `R`, `Q` and `C` drop one.
+static BATCHES: [(&str, &[u8; 6], &[u8; 6], &str); 9] = [
     (
-        "among rising rows, and behind them",
-        [(1, b'a'), (3, b'b'), (5, b'c')],
-        [Step(b'r', 4, b'd'), Step(b'r', 6, b'e')],
+        "between and behind",
+        b"1a3b5c",
+        b"r4dr6e",
         "1a3b4d5c6e|||71",
     ),
+    ("in place of rows", b"1a3b5c", b"r3dr5e", "1a3d5e|||61"),
+    ("the first of a number", b"2a2b1c", b"r2dr1e", "2d2b1e|||31"),
     (
-        "in place of a row",
-        [(1, b'a'), (3, b'b'), (5, b'c')],
-        [Step(b'r', 3, b'd'), Step(b'r', 5, b'e')],
-        "1a3d5e|||61",
-    ),
-    (
-        "in place of the first row of a doubled number",
-        [(2, b'a'), (2, b'b'), (1, b'c')],
-        [Step(b'r', 2, b'd'), Step(b'r', 1, b'e')],
-        "2d2b1e|||31",
-    ),
-    (
-        "before the first greater number of unsorted rows",
-        [(5, b'a'), (1, b'b'), (9, b'c')],
-        [Step(b'r', 7, b'd'), Step(b'r', 3, b'e')],
+        "the first greater one",
+        b"5a1b9c",
+        b"r7dr3e",
         "3e5a1b7d9c|||81",
     ),
+    ("all of a number dropped", b"2a1b2c", b"R2-R8-", "1b|||11"),
+    ("put and dropped", b"1a2b3c", b"r4dR4-", "1a2b3c|||51"),
+    ("three tables", b"1a2b3c", b"q1dc2e", "1a2b3c|1d|2e|13"),
+    ("a query by its name", b"1a2b3c", b"q1dQ2d", "1a2b3c|||11"),
     (
-        "all rows of a doubled number are dropped, and none of another",
-        [(2, b'a'), (1, b'b'), (2, b'c')],
-        [Step(b'R', 2, b'-'), Step(b'R', 8, b'-')],
-        "1b|||11",
-    ),
-    (
-        "put and dropped",
-        [(1, b'a'), (2, b'b'), (3, b'c')],
-        [Step(b'r', 4, b'd'), Step(b'R', 4, b'-')],
-        "1a2b3c|||51",
-    ),
-    (
-        "a query and a cursor have tables of their own",
-        [(1, b'a'), (2, b'b'), (3, b'c')],
-        [Step(b'q', 1, b'd'), Step(b'c', 2, b'e')],
-        "1a2b3c|1d|2e|13",
-    ),
-    (
-        "a query is dropped by its name",
-        [(1, b'a'), (2, b'b'), (3, b'c')],
-        [Step(b'q', 1, b'd'), Step(b'Q', 1, b'd')],
-        "1a2b3c|||11",
-    ),
-    (
-        "and a cursor by its number",
-        [(1, b'a'), (2, b'b'), (3, b'c')],
-        [Step(b'c', 1, b'd'), Step(b'C', 2, b'd')],
+        "a cursor by its number",
+        b"1a2b3c",
+        b"c1dC2d",
         "1a2b3c||1d|12",
     ),
 ];
@@ -84,22 +51,25 @@ fn name(alloc: Global, letter: u8) -> Result<Bytes, AllocError>
     Ok(Bytes::of(Vec::from_slice(alloc, &[letter])?))
 }
 
-fn tables_of(alloc: Global, rows: [(u8, u8); 3]) -> Result<Tables, AllocError> {
+fn number(digit: u8) -> u32 {
+    u32::from(digit.saturating_sub(b'0'))
+}
+
+fn tables_of(alloc: Global, rows: &[u8; 6]) -> Result<Tables, AllocError> {
     let mut tables = Tables::new(alloc);
-    for (number, letter) in rows {
+    for i in 0..3usize {
         tables.records.push(RecordRow {
-            number: u32::from(number),
-            text: bytes(alloc, letter)?,
+            number: number(rows[2 * i]),
+            text: bytes(alloc, rows[2 * i + 1])?,
         })?;
     }
     Ok(tables)
 }
 
-fn change_of(alloc: Global, step: Step) -> Result<Change, AllocError>
+fn change_of(alloc: Global, deed: u8, digit: u8, letter: u8) -> Result<Change, AllocError>
     ensures { IfOk result CanKeep }
 {
-    let Step(deed, number, letter) = step;
-    let number = u32::from(number);
+    let number = number(digit).min(9);
     match deed {
         b'r' => {
             let text = bytes(alloc, letter)?;
@@ -155,9 +125,9 @@ fn shown(alloc: Global, tables: &Tables) -> Result<Vec<u8>, AllocError> {
 }
 
 // What is loaded after the batch. Nothing where a call fails.
-fn kept<K: Keeper>(keeper: &mut K, alloc: Global, batch: [Step; 2]) -> Result<Vec<u8>, AllocError> {
-    let first = change_of(alloc, batch[0])?;
-    let second = change_of(alloc, batch[1])?;
+fn kept<K: Keeper>(keeper: &mut K, alloc: Global, batch: &[u8; 6]) -> Result<Vec<u8>, AllocError> {
+    let first = change_of(alloc, batch[0], batch[1], batch[2])?;
+    let second = change_of(alloc, batch[3], batch[4], batch[5])?;
     if keeper.commit(alloc, &[first, second]).is_err() {
         return Ok(Vec::new(alloc));
     }
@@ -167,21 +137,13 @@ fn kept<K: Keeper>(keeper: &mut K, alloc: Global, batch: [Step; 2]) -> Result<Ve
     }
 }
 
-fn kept_in_memory(
-    alloc: Global,
-    rows: [(u8, u8); 3],
-    batch: [Step; 2],
-) -> Result<Vec<u8>, AllocError> {
+fn kept_in_memory(alloc: Global, rows: &[u8; 6], batch: &[u8; 6]) -> Result<Vec<u8>, AllocError> {
     let none = CallNumbers::new(alloc);
     let mut keeper = MemKeeper::new(tables_of(alloc, rows)?, none, CallNumbers::new(alloc));
     kept(&mut keeper, alloc, batch)
 }
 
-fn kept_surely(
-    alloc: Global,
-    rows: [(u8, u8); 3],
-    batch: [Step; 2],
-) -> Result<Vec<u8>, AllocError> {
+fn kept_surely(alloc: Global, rows: &[u8; 6], batch: &[u8; 6]) -> Result<Vec<u8>, AllocError> {
     let mut keeper = SureKeeper::new(tables_of(alloc, rows)?);
     kept(&mut keeper, alloc, batch)
 }
@@ -189,9 +151,9 @@ fn kept_surely(
 #[test]
 fn batches_are_made_on_tables_in_any_order(rt: HostRuntime) -> Result<(), Fail> {
     for (name, rows, batch, want) in BATCHES.iter() {
-        let shown = kept_in_memory(rt.alloc(), *rows, *batch)?;
+        let shown = kept_in_memory(rt.alloc(), rows, batch)?;
         assert!(rt; shown.as_slice() == want.as_bytes(), "{name}");
-        let shown = kept_surely(rt.alloc(), *rows, *batch)?;
+        let shown = kept_surely(rt.alloc(), rows, batch)?;
         assert!(rt; shown.as_slice() == want.as_bytes(), "sure: {name}");
     }
     Ok(())
@@ -205,7 +167,7 @@ fn one_call(alloc: Global, number: u64) -> Result<CallNumbers, AllocError> {
 
 // Whether the calls failed, `x`, or not, `.`, and what is kept.
 fn after_failures(alloc: Global) -> Result<Vec<u8>, AllocError> {
-    let tables = tables_of(alloc, [(1, b'a'), (2, b'b'), (3, b'c')])?;
+    let tables = tables_of(alloc, b"1a2b3c")?;
     let mut keeper = MemKeeper::new(tables, one_call(alloc, 1)?, one_call(alloc, 2)?);
     let load = keeper.load(alloc).is_err();
     let empty = keeper.commit(alloc, &[]).is_err();

@@ -19,6 +19,7 @@ mod files;
 #[cfg(test)]
 mod keeper_tests;
 mod keepers;
+mod laws;
 mod rows;
 mod sinks;
 mod sources;
@@ -35,6 +36,7 @@ pub use calls::CallNumbers;
 pub use causes::{Cause, cause_of};
 pub use files::{FileRow, FileRows, MemFiles, SureFiles};
 pub use keepers::{MemKeeper, SureKeeper};
+pub use laws::rising_tables_stay_rising;
 pub use mk_text::{Bytes, Listed, Memory, Place, Text};
 pub use sinks::{MemSink, SureSink};
 pub use sources::{MemSource, SureSource};

@@ -1,12 +1,11 @@
 -- What the query of every query file keeps.
-use Rattle.std.proofs.Common.{◌≡◌, ℕ, zero, suc, ◌+◌, ◌*◌, ◌≤◌, ◌<◌, Result, Ok, Err, List, [], ◌∷◌, ◌++◌, length, refl, sym, ap, subst, inl, inr, arith}
+use Rattle.std.proofs.Common.{ℕ, ◌+◌, ◌≤◌, ◌<◌, Result, Ok, Err, List, [], ◌∷◌, ◌++◌, length, sym, ap, subst, inl, inr, arith}
 use Rattle.std.specs.Prelude.{All, IfOk}
 use Rattle.std.proofs.lemmas.List.{length-append}
-use Rattle.std.proofs.lemmas.List.Elements.{All-nil}
+use Rattle.std.proofs.lemmas.List.Elements.{All-nil, All-cons}
 use Rattle.mk_form.specs.Rows.{Series}
 use Rattle.mk_ctab.specs.declared.fault.TableFault.{TableFault}
 use Rattle.mk_ctab.specs.declared.raw.RawTable.{RawTable}
-use Rattle.mk_ctab.specs.Table.{IsTable}
 use Rattle.mk_ctab.specs.TableFacts.{IsRawTable}
 use Rattle.mk_ctab.specs.TableLines.{Line}
 use Rattle.mk_ctab.proofs.ForCallers.{keeps, few_properties}
@@ -17,11 +16,6 @@ use Rattle.mk_rgfile.specs.QueryFacts.{IsRawGroup, IsRawQuery, members_in, HasFe
 
 -- ---- what holds of each
 
--- the first and the others
-all_cons : {X : Type 0} (P : X → Type 0) (x : X) (xs : List X) → P x → All P xs → All P (x ∷ xs)
-all_cons P x xs here there zero d lt = here
-all_cons P x xs here there (suc k) d lt = there k d (omega arith)
-
 -- what each text of a series keeps, where its lines are no more than so many
 all_of : {X : Type 0} (P : List Line → X → Type 0) (Q : X → Type 0) (size : ℕ) → ((lines : List Line) (x : X) → P lines x → length lines ≤ size → Q x)
     → (lines : List Line) (xs : List X) → Series P lines xs → length lines ≤ size → All Q xs
@@ -29,7 +23,7 @@ all_of P Q size each lines [] h le = All-nil Q
 all_of P Q size each lines (x ∷ xs) h le =
     let sum = ap length h.2 in
     let parts = length-append h.0 h.1 in
-    all_cons Q x xs (each h.0 x h.3 (omega arith)) (all_of P Q size each h.1 xs h.4 (omega arith))
+    All-cons Q x xs (each h.0 x h.3 (omega arith)) (all_of P Q size each h.1 xs h.4 (omega arith))
 
 -- a table keeps what tables keep
 block_keeps : (lines : List Line) (table : RawTable) → IsTableBlock lines table → IsRawTable table

@@ -1,5 +1,5 @@
 -- Query files are read exactly.
-use Rattle.std.proofs.Common.{◌≡◌, ℕ, ◌≤◌, Bool, true, false, Some, List, [], ◌∷◌, ◌++◌, length, refl, sym, ap, subst, ◌∙◌, append_assoc, inl, inr, arith}
+use Rattle.std.proofs.Common.{◌≡◌, Bool, true, false, Some, List, [], ◌∷◌, ◌++◌, length, refl, sym, ap, subst, ◌∙◌, append_assoc, inl, inr, arith}
 use Rattle.std.specs.Prelude.{codes}
 use Rattle.std.proofs.lemmas.List.{append-nil, length-append}
 use Rattle.mk_form.specs.Choice.{FirstIs}
@@ -20,8 +20,8 @@ use Rattle.mk_ctab.proofs.ForCallers.{exact-table}
 use Rattle.mk_rgfile.specs.declared.raw_query.RawGroup.{RawGroup}
 use Rattle.mk_rgfile.specs.declared.raw_query.RawQuery.{RawQuery}
 use Rattle.mk_rgfile.specs.QueryLines.{begins_mdl, is_keyword}
-use Rattle.mk_rgfile.specs.QueryFile.{IsHead, AreBlankLines, IsRgfile, IsMolfileQuery, IsQueryFile, IsHeaderToTable, IsHeadToTable, IsRgfileToMember, IsCountsDue}
-use Rattle.mk_rgfile.specs.QueryReading.{keyword, first_of, head_part, behind_head, groups_in, groups_part, query_with, blanks_part, rgfile_part, molfile_part, behind_first, query_part, query_at}
+use Rattle.mk_rgfile.specs.QueryFile.{IsHead, AreBlankLines, IsRgfile, IsMolfileQuery, IsQueryFile, IsHeadToTable, IsRgfileToMember, IsCountsDue}
+use Rattle.mk_rgfile.specs.QueryReading.{first_of, head_part, behind_head, groups_in, query_with, blanks_part, rgfile_part, molfile_part, behind_first, query_part, query_at}
 use Rattle.mk_rgfile.proofs.QueryPartLemmas.{keyword_line, exact-keyword, exact-table_block, exact-groups_to_end, completes-groups_to_end}
 
 -- ---- the parts, in the order of the definition

@@ -1,13 +1,13 @@
 -- The lines around the tables: one keyword is no other, and the number of a group is computed.
-use Rattle.std.proofs.Common.{◌≡◌, ℕ, ◌+◌, ◌-◌, ◌≤◌, max, Bool, true, false, ◌&&◌, eqb, leb, Option, Some, None, List, [], ◌∷◌, ◌++◌, length, take, drop, refl, sym, ap, subst, ◌∙◌, arith}
+use Rattle.std.proofs.Common.{◌≡◌, ℕ, ◌-◌, ◌≤◌, Bool, true, false, ◌&&◌, eqb, leb, Option, Some, None, List, ◌∷◌, ◌++◌, length, drop, refl, ap, ◌∙◌, arith}
 use Rattle.std.specs.Prelude.{ℤ, pos, negsuc, codes, nat_eq}
 use Rattle.std.specs.List.{starts_with}
 use Rattle.std.proofs.lemmas.Bool.{leb-true, le-leb}
 use Rattle.std.proofs.lemmas.Bool.Decides.{Decides-eqb}
 use Rattle.std.proofs.lemmas.List.{take_all}
 use Rattle.std.proofs.lemmas.Slice.Eq.{starts_is}
-use Rattle.mk_text.specs.Columns.{are_blank, standing}
-use Rattle.mk_text.specs.Fields.{IsField, signed_in, field_in, field_of}
+use Rattle.mk_text.specs.Columns.{are_blank}
+use Rattle.mk_text.specs.Fields.{signed_in, field_in, field_of}
 use Rattle.mk_text.specs.Options.{◌>>=◌, when, count_in}
 use Rattle.mk_text.proofs.ForCallers.{both, fields_are_read, trimmed-columns}
 use Rattle.mk_ctab.specs.TableLines.{Line}

@@ -1,28 +1,24 @@
 -- The parts of a query file are read exactly: tables between their keywords, and groups.
-use Rattle.std.proofs.Common.{◌≡◌, ℕ, ◌≤◌, Bool, true, false, Some, List, [], ◌∷◌, ◌++◌, length, refl, sym, ap, subst, ◌∙◌, append_assoc, inl, inr, arith}
+use Rattle.std.proofs.Common.{◌≡◌, ℕ, Bool, true, false, Some, List, [], ◌∷◌, ◌++◌, refl, sym, ap, subst, ◌∙◌, append_assoc, inl, inr, arith}
 use Rattle.std.specs.Prelude.{codes}
 use Rattle.std.proofs.lemmas.List.{append-nil}
 use Rattle.mk_form.specs.Choice.{FirstIs, Shows}
-use Rattle.mk_form.specs.Exact.{Part, Exact, Completes, NeverDue, Anything, NoLines}
-use Rattle.mk_form.specs.Lines.{OneLine}
+use Rattle.mk_form.specs.Exact.{Exact, Completes, Anything}
 use Rattle.mk_form.specs.Rows.{Series}
-use Rattle.mk_form.specs.Until.{EndsInUntil}
 use Rattle.mk_form.proofs.Choice.{shows-form, shows-line_where}
-use Rattle.mk_form.proofs.Fronts.{exact-form, completes-form, completes-line, completes-line_where, completes-any_lines, completes-lines_to_end, completes-seen_as, completes-sequence, completes-until}
+use Rattle.mk_form.proofs.Fronts.{exact-form, completes-form, completes-line, completes-line_where, completes-seen_as, completes-sequence, completes-until}
 use Rattle.mk_form.proofs.Lines.{exact-line, exact-line_where, passes, does_pass}
-use Rattle.mk_form.proofs.Rows.{exact-any_lines}
 use Rattle.mk_form.proofs.Seen.{exact-seen_as}
 use Rattle.mk_form.proofs.Sequence.{exact-sequence}
-use Rattle.mk_form.proofs.ToEnd.{exact-lines_to_end}
 use Rattle.mk_form.proofs.Until.{exact-until}
-use Rattle.mk_text.specs.Fields.{field_in, digits_number}
+use Rattle.mk_text.specs.Fields.{digits_number}
 use Rattle.mk_ctab.specs.declared.raw.RawTable.{RawTable}
 use Rattle.mk_ctab.specs.TableLines.{Line, is_v3000}
 use Rattle.mk_ctab.proofs.ForCallers.{exact-table}
 use Rattle.mk_rgfile.specs.declared.raw_query.RawGroup.{RawGroup}
-use Rattle.mk_rgfile.specs.QueryLines.{is_keyword, IsGroupNumber, group_number_of}
+use Rattle.mk_rgfile.specs.QueryLines.{is_keyword, group_number_of}
 use Rattle.mk_rgfile.specs.QueryFile.{IsTableBlock, IsGroup, IsKeywordLine, IsGroupToTable}
-use Rattle.mk_rgfile.specs.QueryReading.{keyword, behind_table, behind_ctab, block_part, block_at, table_block, further_part, members_with, behind_member, members_part, group_with, behind_number, behind_rgp, group_part, group_at, group_form, groups_to_end}
+use Rattle.mk_rgfile.specs.QueryReading.{keyword, block_part, block_at, table_block, further_part, members_with, members_part, group_with, group_part, group_at, group_form, groups_to_end}
 use Rattle.mk_rgfile.proofs.QueryLineLemmas.{ctab_no_end, rgp_no_end, number_found, number_given}
 
 -- ---- a keyword

@@ -1,11 +1,10 @@
 -- What the readers of a query file know that go through its lines by an index.
-use Rattle.std.proofs.Common.{◌≡◌, ℕ, ◌+◌, ◌-◌, ◌≤◌, ◌<◌, Bool, true, false, cond, List, [], ◌∷◌, ◌++◌, length, get_or, drop, refl, sym, ap, subst, ◌∙◌, arith}
+use Rattle.std.proofs.Common.{◌≡◌, ℕ, ◌+◌, ◌-◌, ◌≤◌, ◌<◌, true, false, List, [], ◌∷◌, ◌++◌, length, get_or, drop, refl, sym, ap, subst, ◌∙◌, arith}
 use Rattle.std.specs.Prelude.{codes}
 use Rattle.std.proofs.lemmas.List.{drop_more, drop_all}
 use Rattle.mk_form.specs.Lines.{passing}
 use Rattle.mk_form.specs.Reading.{Reading, Took, Stop, and_then, TakesLines, StopsAtLine}
 use Rattle.mk_form.specs.ToEnd.{read_all}
-use Rattle.mk_form.specs.Until.{until}
 use Rattle.mk_form.proofs.ByIndex.{line_yes, stops_first, takes_first}
 use Rattle.mk_form.proofs.Lines.{does_pass}
 use Rattle.mk_form.proofs.UntilLoops.{UntilLeft, until_left_start, until_left_item, until_left_past, until_left_end}

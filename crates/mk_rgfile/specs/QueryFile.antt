@@ -4,7 +4,7 @@
 --     IsV3000Line lines k           line k says V3000, and a counts line is due there
 --     HasOneQuery, HasBadLine, HasOneBadLine     three laws of it
 -- What the lines of a table are, and what a molfile is, is said in mk_ctab. The layout is drawn in docs/FORMAT.md, "Query files".
-use Rattle.std.specs.Prelude.{◌≡◌, ◌↔◌, ℕ, ◌≤◌, Bool, true, false, List, [], ◌∷◌, ◌++◌, length, ◌⊎◌, codes}
+use Rattle.std.specs.Prelude.{◌≡◌, ◌↔◌, ℕ, ◌≤◌, true, false, List, [], ◌∷◌, ◌++◌, length, ◌⊎◌, codes}
 use Rattle.mk_form.specs.Choice.{FirstIs}
 use Rattle.mk_form.specs.Fronts.{IsBadLine, IsNamed}
 use Rattle.mk_form.specs.Rows.{Series}

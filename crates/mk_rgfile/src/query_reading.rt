@@ -61,7 +61,7 @@ fn number_at(text: &[u8], lines: &[Span], at: usize) -> Result<u8, TableFault>
 }
 
 // Whether the first line begins with `$MDL`.
-fn first_line(text: &[u8], lines: &[Span]) -> Result<bool, TableFault>
+fn begins_rgfile(text: &[u8], lines: &[Span]) -> Result<bool, TableFault>
     requires { AreLines text.now lines.now }
     ensures { AnswersLine (lines_of text.now) 0 result ((one_line first_of).read (lines_of text.now)) }
 {
@@ -234,7 +234,7 @@ fn query_of(alloc: Global, text: &[u8], lines: &[Span]) -> Result<RawQuery, Tabl
     requires { AreLines text.now lines.now }
     ensures { AnswersText (lines_of text.now) result (query_at (lines_of text.now)) }
 {
-    if first_line(text, lines)? {
+    if begins_rgfile(text, lines)? {
         rgfile_from(alloc, text, lines)
     } else {
         molfile_from(alloc, text, lines)

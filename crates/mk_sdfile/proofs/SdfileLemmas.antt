@@ -1,7 +1,7 @@
 -- SDfiles are read exactly, and so the laws of forms hold of them.
-use Rattle.std.proofs.Common.{◌≡◌, ℕ, zero, suc, ◌+◌, ◌≤◌, ◌<◌, true, false, Option, Some, None, List, [], ◌∷◌, ◌++◌, length, refl, sym, ap, subst, ◌∙◌, append_assoc, inl, inr, arith}
+use Rattle.std.proofs.Common.{◌≡◌, ℕ, zero, suc, ◌≤◌, ◌<◌, true, false, Option, Some, None, List, [], ◌∷◌, ◌++◌, length, refl, sym, ap, subst, ◌∙◌, append_assoc, inl, inr, arith}
 use Rattle.std.specs.Prelude.{MatchOption, option_to_list}
-use Rattle.std.proofs.lemmas.List.{append-nil, length-append}
+use Rattle.std.proofs.lemmas.List.{length-append}
 use Rattle.mk_form.specs.Either.{farther}
 use Rattle.mk_form.specs.Exact.{Part, Exact, Completes, NeverDue, NoLines}
 use Rattle.mk_form.specs.InWords.{form}
@@ -9,7 +9,7 @@ use Rattle.mk_form.specs.Limit.{IsBelow, Grows, IsLimit}
 use Rattle.mk_form.specs.Reading.{Reading, Took, and_then}
 use Rattle.mk_form.specs.Rows.{Series}
 use Rattle.mk_form.specs.Seen.{with_lines}
-use Rattle.mk_form.specs.ToEnd.{EachIs, UpTo, EndsBehind, read_up_to}
+use Rattle.mk_form.specs.ToEnd.{EachIs, UpTo, read_up_to}
 use Rattle.mk_form.proofs.Below.{below-sequence, below-seen_as, below-up_to, below-either, below-first}
 use Rattle.mk_form.proofs.Either.{exact-either}
 use Rattle.mk_form.proofs.Fronts.{exact-form, completes-form, completes-either, completes-lines_to_end, completes-seen_as, completes-sequence, completes-up_to, completes-with_lines}
@@ -259,15 +259,17 @@ due_from_at (b ∷ bs) lines block_lines header_lines whole each three =
     let one : lines ≡ each.0 ++ back = whole ∙ ap (λ (x : List Line). x ++ header_lines) each.2 ∙ append_assoc each.0 each.1 header_lines in
     let two : lines ≡ block.record_lines ++ block.separator ∷ back = one ∙ ap (λ (x : List Line). x ++ back) block.whole ∙ append_assoc block.record_lines (block.separator ∷ []) back in
     let all : lines ≡ is.molfile_lines ++ (is.data_lines ++ block.separator ∷ back) = two ∙ ap (λ (x : List Line). x ++ block.separator ∷ back) is.whole ∙ append_assoc is.molfile_lines is.data_lines (block.separator ∷ back) in
-    let others = due_from_at bs back each.1 header_lines refl each.4 three in
-    (suc others.0, inr (record {
-      front = is.molfile_lines;
-      back = is.data_lines ++ block.separator ∷ back;
-      middle = (b.table, is.molfile_lines);
-      whole = all;
-      first = record { is = is.molfile; lines_are = refl };
-      second = record { before = is.data_lines; separator = block.separator; back = back; whole = refl; none = is.no_separator; separates = block.separates; here = others.1 };
-    }))
+    let others = due_from_at bs back each.1 header_lines refl each.4 three in (
+      suc others.0,
+      inr (record {
+        front = is.molfile_lines;
+        back = is.data_lines ++ block.separator ∷ back;
+        middle = (b.table, is.molfile_lines);
+        whole = all;
+        first = record { is = is.molfile; lines_are = refl };
+        second = record { before = is.data_lines; separator = block.separator; back = back; whole = refl; none = is.no_separator; separates = block.separates; here = others.1 };
+      }),
+    )
 
 -- The form of SDfiles.
 abbrev pub sdfile : Part Line (List RawRecord)

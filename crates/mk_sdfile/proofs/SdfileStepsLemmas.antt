@@ -1,9 +1,9 @@
 -- An SDfile is read block by block: what each answer says of what is left to read.
-use Rattle.std.proofs.Common.{◌≡◌, ℕ, ◌+◌, ◌-◌, ◌≤◌, ◌<◌, max, Bool, true, false, ltb, Option, Some, None, Result, Ok, Err, List, [], ◌∷◌, ◌++◌, length, get_or, take, drop, refl, sym, ap, subst, ◌∙◌, inl, inr, arith}
+use Rattle.std.proofs.Common.{◌≡◌, ℕ, ◌+◌, ◌-◌, ◌≤◌, ◌<◌, max, true, false, ltb, Option, Some, None, Ok, List, [], ◌∷◌, ◌++◌, length, get_or, take, drop, refl, sym, ap, subst, ◌∙◌, inl, inr, arith}
 use Rattle.std.specs.Prelude.{MatchOption, slice_range}
 use Rattle.std.proofs.Math.Seq.{take-add}
 use Rattle.std.proofs.lemmas.Bool.{cases_lt, le-ltb}
-use Rattle.std.proofs.lemmas.List.{append-nil, length-append, length-drop, length-take-le, drop-drop, drop_more, take_all, take_at, drop_all}
+use Rattle.std.proofs.lemmas.List.{append-nil, length-append, length-drop, length-take-le, drop-drop, drop_more, take_all, take_at}
 use Rattle.mk_form.specs.Either.{farther}
 use Rattle.mk_form.specs.Exact.{Part}
 use Rattle.mk_form.specs.Reading.{Reading, Took, Stop, and_then, TakesLines, StopsAtLine}
@@ -22,7 +22,7 @@ use Rattle.mk_text.specs.Lines.{lines_of}
 use Rattle.mk_ctab.specs.declared.fault.TableFault.{TableFault}
 use Rattle.mk_ctab.specs.declared.fault.TableFault.TheVariants.{Bad, V3000, Memory}
 use Rattle.mk_ctab.specs.declared.raw.RawTable.{RawTable}
-use Rattle.mk_ctab.specs.Molfile.{IsMolfile, molfile, molfile_at}
+use Rattle.mk_ctab.specs.Molfile.{molfile, molfile_at}
 use Rattle.mk_ctab.specs.TableLines.{Line, is_v3000}
 use Rattle.mk_ctab.specs.TableReading.{Fails}
 use Rattle.mk_ctab.specs.TableWalk.{TakesTo}
@@ -30,7 +30,7 @@ use Rattle.mk_ctab.proofs.ForCallers.{exact-molfile, fails_first}
 use Rattle.mk_sdfile.specs.declared.raw_record.RawRecord.{RawRecord}
 use Rattle.mk_sdfile.specs.declared.sdfile.DataEnd.{DataEnd}
 use Rattle.mk_sdfile.specs.Sdfile.{is_separator}
-use Rattle.mk_sdfile.specs.SdfileReading.{record_of, records_of, after_molfile, block_part, file_part, sdfile_part, sdfile_at, farther_fault}
+use Rattle.mk_sdfile.specs.SdfileReading.{record_of, records_of, after_molfile, block_part, sdfile_part, sdfile_at, farther_fault}
 use Rattle.mk_sdfile.specs.SdfileSteps.{AnswersFirst, IsSeparatorAt, IsDataEnd, AnswersBlock}
 use Rattle.mk_sdfile.proofs.SdfileLemmas.{not_blank, exact-sdfile_part, exact-block, exact-file, exact-sdfile, sdfile_is}
 

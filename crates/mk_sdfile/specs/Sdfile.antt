@@ -3,14 +3,17 @@
 --     IsBadSdfileLine lines k       line k is the first that no SDfile can have behind the lines before it
 --     IsV3000Line lines k           line k says V3000, and a counts line is due there
 --     HasOneValue, HasBadLine, HasOneBadLine     three laws of it
+--     TextIsItsRecord               and one of the texts of records
 -- What a molfile is, is said in mk_ctab, and what is kept of lines in mk_text.
-use Rattle.std.specs.Prelude.{◌≡◌, ◌↔◌, ℕ, Bool, true, false, nat_eq, codes, List, [], ◌∷◌, ◌++◌, length, Option, MatchOption, option_to_list}
+use Rattle.std.specs.Prelude.{◌≡◌, ◌↔◌, ℕ, Bool, true, false, nat_eq, codes, List, [], ◌∷◌, ◌++◌, length, All, Option, MatchOption, option_to_list}
 use Rattle.std.specs.List.{starts_with}
 use Rattle.mk_form.specs.Fronts.{IsBadLine, IsNamed}
 use Rattle.mk_form.specs.Rows.{Series}
 use Rattle.mk_form.specs.ToEnd.{EachIs}
 use Rattle.mk_text.specs.Columns.{are_blank}
 use Rattle.mk_text.specs.KeptLines.{kept_lines}
+use Rattle.mk_text.specs.Lines.{lines_of}
+use Rattle.mk_ctab.specs.KeptTables.{KeepsItsText}
 use Rattle.mk_ctab.specs.Molfile.{IsMolfile}
 use Rattle.mk_ctab.specs.TableLines.{Line, is_v3000}
 use Rattle.mk_sdfile.specs.declared.raw_record.RawRecord.{RawRecord}
@@ -81,3 +84,8 @@ HasBadLine = (lines : List Line) → ((k : ℕ) × IsBadSdfileLine lines k) ↔ 
 -- and only one
 abbrev pub HasOneBadLine : Type 0
 HasOneBadLine = (lines : List Line) (j k : ℕ) → IsBadSdfileLine lines j → IsBadSdfileLine lines k → j ≡ k
+
+-- The text of a record is an SDfile of that one record, with its table and with the same text, where no symbol and no range
+-- text of the table ends with CR: those alone are lost with the CR bytes at the ends of lines.
+abbrev pub TextIsItsRecord : Type 0
+TextIsItsRecord = (text : List ℕ) (records : List RawRecord) → IsSdfile (lines_of text) records → All (λ r. KeepsItsText r.table → IsSdfile (lines_of r.text) (r ∷ [])) records

@@ -12,9 +12,11 @@
 mod raw_record;
 mod sdfile;
 mod sdfile_laws;
+#[cfg(test)]
+mod sdfile_tests;
 
 pub use mk_ctab::{RawTable, TableFault};
 pub use mk_text::{Bytes, Memory};
 pub use raw_record::{RawRecord, RawRecords};
 pub use sdfile::read_sdfile;
-pub use sdfile_laws::sdfile_is_exact;
+pub use sdfile_laws::{sdfile_is_exact, text_is_its_record};

@@ -109,7 +109,7 @@ fn answer_of(alloc: Global, wanted: &PlainTable, held: Held) -> Result<Outcome, 
         }),
         Held::Molecule(mol) => {
             let graph = graph_of(alloc, wanted)?;
-            let hits = first_hits(alloc, &graph, &mol)?;
+            let hits = first_hits(alloc, graph, &mol)?;
             let answer = hits_answer(alloc, &hits, MOST_HITS)?;
             hits_are_listed();
             Ok(ended(answer, Status::Done))

@@ -1,7 +1,8 @@
 // What is drawn at an atom of a graph.
 ghost use Rattle.std.specs.Prelude.{◌≡◌, ◌≤◌, All, count_by, length};
 ghost use Rattle.mk_model.specs.Edges.{AreBetween};
-ghost use Rattle.mk_model.specs.Fitting.{drawn_hydrogens, drawn_others, drawn_rings, is_drawn_hydrogen, other_end};
+ghost use Rattle.mk_model.specs.Fitting.{drawn_hydrogens, drawn_others, drawn_rings, is_drawn_hydrogen};
+ghost use Rattle.mk_model.specs.Edges.{other_end};
 ghost use Rattle.mk_model.specs.Graphs.{graph_edge, graph_edges};
 ghost use Rattle.mk_tests.specs.Numbered.{passes_at};
 

@@ -1,7 +1,8 @@
 // Whether a bond leads from an atom to a hydrogen.
 ghost use Rattle.std.specs.Prelude.{◌≡◌, ◌≤◌, length};
 ghost use Rattle.mk_model.specs.Edges.{AreBetween};
-ghost use Rattle.mk_model.specs.Fitting.{is_drawn_hydrogen, is_hydrogen, other_end};
+ghost use Rattle.mk_model.specs.Fitting.{is_drawn_hydrogen, is_hydrogen};
+ghost use Rattle.mk_model.specs.Edges.{other_end};
 ghost use Rattle.mk_model.specs.Graphs.{graph_edge, graph_edges};
 ghost use Rattle.mk_model.specs.Molecules.{edge_of, edges};
 ghost use Rattle.mk_tests.specs.Numbered.{passes_at};

@@ -1,14 +1,15 @@
 -- The computed number of a field is the one that its columns hold.
-use Rattle.std.proofs.Common.{◌≡◌, ℕ, ◌+◌, ◌-◌, ◌<◌, ◌≤◌, ◌⊎◌, inl, inr, Bool, true, false, cond, leb, eqb, ◌&&◌, List, [], ◌∷◌, ◌++◌, length, get_or, Option, Some, None, refl, sym, ap, ◌∙◌, arith}
+use Rattle.std.proofs.Common.{◌≡◌, ℕ, ◌+◌, ◌-◌, ◌<◌, ◌≤◌, ◌⊎◌, inl, inr, Bool, true, false, cond, leb, eqb, ◌&&◌, List, [], ◌∷◌, ◌++◌, length, get_or, Option, Some, None, refl, sym, ap, subst, ◌∙◌, arith}
 use Rattle.std.specs.Prelude.{ℤ, pos, neg_ℤ}
 use Rattle.std.specs.Option.{option_map}
 use Rattle.std.specs.List.{list_all}
 use Rattle.std.specs.Char.{is_ascii_digit}
 use Rattle.std.specs.Str.Parse.{digits_value}
-use Rattle.std.proofs.lemmas.Bool.{le-leb, leb-true}
+use Rattle.std.proofs.lemmas.Bool.{eq-eqb, le-leb, leb-true, true≢false}
 use Rattle.std.proofs.lemmas.Bool.Decides.{nat_tests}
 use Rattle.std.proofs.lemmas.List.Folds.{list_all-append}
-use Rattle.std.proofs.lemmas.List.{get_or-append_right, length-append}
+use Rattle.std.proofs.lemmas.List.{get_or-append_right, get_or_at, length-append}
+use Rattle.mk_text.specs.Lines.{EndsWith}
 use Rattle.mk_text.specs.Columns.{columns, is_space, are_blank, trimmed}
 use Rattle.mk_text.specs.Fields.{Sign, NoSign, Plus, Minus, sign_text, signed, IsField, digits_number, signed_in, field_in, field_of, FieldsAreRead}
 use Rattle.mk_text.proofs.DigitLemmas.{digit_at}
@@ -130,13 +131,16 @@ first_no_space NoSign ds some digits = digit_no_space (get_or ds 0 0) (digit_at 
 first_no_space Plus ds some digits = refl
 first_no_space Minus ds some digits = refl
 
--- the last one is a digit
-last_no_space : (s : Sign) (ds : List ℕ) → 1 ≤ length ds → list_all is_ascii_digit ds ≡ true → is_space (get_or (sign_text s ++ ds) (length (sign_text s ++ ds) - 1) 0) ≡ false
-last_no_space s ds some digits =
+-- the last one is the last digit
+last_digit : (s : Sign) (ds : List ℕ) → 1 ≤ length ds → get_or (sign_text s ++ ds) (length (sign_text s ++ ds) - 1) 0 ≡ get_or ds (length ds - 1) 0
+last_digit s ds some =
     let size : length (sign_text s ++ ds) ≡ length (sign_text s) + length ds = length-append (sign_text s) ds in
     let place : length (sign_text s ++ ds) - 1 - length (sign_text s) ≡ length ds - 1 = omega arith in
-    ap is_space (get_or-append_right (sign_text s) ds (length (sign_text s)) (length (sign_text s ++ ds) - 1) 0 refl (omega arith) ∙ ap (λ (i : ℕ). get_or ds i 0) place)
-    ∙ digit_no_space (get_or ds (length ds - 1) 0) (digit_at ds (length ds - 1) digits (omega arith)).0
+    get_or-append_right (sign_text s) ds (length (sign_text s)) (length (sign_text s ++ ds) - 1) 0 refl (omega arith) ∙ ap (λ (i : ℕ). get_or ds i 0) place
+
+-- which is no blank
+last_no_space : (s : Sign) (ds : List ℕ) → 1 ≤ length ds → list_all is_ascii_digit ds ≡ true → is_space (get_or (sign_text s ++ ds) (length (sign_text s ++ ds) - 1) 0) ≡ false
+last_no_space s ds some digits = ap is_space (last_digit s ds some) ∙ digit_no_space (get_or ds (length ds - 1) 0) (digit_at ds (length ds - 1) digits (omega arith)).0
 
 -- a sign or none and digits, between blanks
 pub number_given : (before after : List ℕ) (s : Sign) (ds : List ℕ) → are_blank before ≡ true → are_blank after ≡ true → 1 ≤ length ds → length ds ≤ 9 → list_all is_ascii_digit ds ≡ true → field_in (before ++ ((sign_text s ++ ds) ++ after)) ≡ Some (signed s (digits_value 10 ds))
@@ -177,3 +181,28 @@ field_found line a b n read = (fields_are_read (columns line a b) n).0 read
 pub field_given : (line : List ℕ) (a b : ℕ) (n : ℤ) → IsField (columns line a b) n → field_of line a b ≡ Some n
 unfolding field_of
 field_given line a b n is = (fields_are_read (columns line a b) n).1 is
+
+-- ---- how a number ends
+
+-- the last byte of a text that ends with it
+last_is : (text : List ℕ) (c : ℕ) → EndsWith c text → (1 ≤ length text) × (get_or text (length text - 1) 0 ≡ c)
+last_is text c end =
+    let size : length text ≡ length end.0 + 1 = ap length end.1 ∙ length-append end.0 (c ∷ []) in
+    (omega arith, ap (λ (l : List ℕ). get_or l (length text - 1) 0) end.1 ∙ get_or_at end.0 c [] 0 (length text - 1) (omega arith))
+
+-- a text whose last byte is another doesn't end with it
+pub ends_not : (text : List ℕ) (c : ℕ) → eqb (get_or text (length text - 1) 0) c ≡ false → EndsWith c text → ⊥
+ends_not text c other end = let test : eqb (get_or text (length text - 1) 0) c ≡ true = eq-eqb (get_or text (length text - 1) 0) c (last_is text c end).1 in true≢false (sym test ∙ other)
+
+-- columns that hold a number end with no CR, but for blanks
+pub field_end : (cells : List ℕ) (z : ℤ) → IsField cells z → EndsWith 13 (trimmed cells) → ⊥
+field_end cells z (inl blank) end = absurd (omega (arith, (last_is (trimmed cells) 13 end).0, ap length (trimmed_blank cells blank.0)))
+field_end cells z (inr h) end =
+    let core = sign_text h.sign ++ h.digits in
+    let any : 0 < length core = omega (arith, length-append (sign_text h.sign) h.digits, h.some_digits) in
+    let is : trimmed cells ≡ core =
+    ap trimmed h.whole ∙ trimmed_between h.before core h.after h.blank_before h.blank_after any (first_no_space h.sign h.digits h.some_digits h.are_digits) (last_no_space h.sign h.digits h.some_digits h.are_digits) in
+    let P : List ℕ → Type 0 = EndsWith 13 in
+    let last = (last_is core 13 (subst P is end)).1 in
+    let digit = digit_at h.digits (length h.digits - 1) h.are_digits (omega (arith, h.some_digits)) in
+    absurd (omega (arith, digit.0, last_digit h.sign h.digits h.some_digits, last))

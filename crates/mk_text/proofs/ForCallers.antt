@@ -3,6 +3,7 @@
 --     the least item at which a demand fails       ItemLemmas
 --     entries of a line, one by one                OptionLemmas
 --     lines, kept lines and their places           PieceLemmas, KeptLinesLemmas, SpanLemmas
+--     columns of kept lines                        KeptColumnLemmas
 --     columns without their outer blanks           TrimLemmas
 --     numbers in columns                           DigitLemmas, FieldLemmas, SpellingLemmas
 --     rising lists                                 RisingLemmas, JoinedLemmas, ChoiceLemmas
@@ -14,8 +15,9 @@ pub use Rattle.mk_text.proofs.KeptLinesLemmas.{range_item_more, kept-push, no_lf
 pub use Rattle.mk_text.proofs.SpanLemmas.{parts_length, behind_within, parts_behind}
 pub use Rattle.mk_text.proofs.TrimLemmas.{trimmed_padded, trimmed-columns, trimmed_between, trimmed_blank, list_all_at, AreBetween, trimmed_is_between}
 pub use Rattle.mk_text.proofs.DigitLemmas.{all_digits}
-pub use Rattle.mk_text.proofs.FieldLemmas.{fields_are_read, field_found, field_given}
+pub use Rattle.mk_text.proofs.FieldLemmas.{fields_are_read, field_found, field_given, ends_not, field_end}
 pub use Rattle.mk_text.proofs.SpellingLemmas.{columns_between, decimal_digits, right_justified_is_read, signed_right_justified_is_read}
+pub use Rattle.mk_text.proofs.KeptColumnLemmas.{crs_behind, columns_left, columns_core, columns_field, word_left, field_left, field_same, drop_left, standing_all}
 pub use Rattle.mk_text.proofs.RisingLemmas.{not_below_itself, below_through, below_or_not, each_holds, holds_each, each_append, each_from, each_mapped, holds_append, holds_either, holds_mapped, holds_before_map, one_rising_list, one_of_all, first_of_rising, rising_from_place}
 pub use Rattle.mk_text.proofs.JoinedLemmas.{joined_lists_rise}
 pub use Rattle.mk_text.proofs.ChoiceLemmas.{choices_that_pass}

@@ -7,6 +7,7 @@ pub mod KeptLinesLemmas
 pub mod DigitLemmas
 pub mod TrimLemmas
 pub mod FieldLemmas
+pub mod KeptColumnLemmas
 pub mod SpellingLemmas
 pub mod RisingLemmas
 pub mod JoinedLemmas

@@ -1,7 +1,7 @@
 -- From where a line begins to where the next one does.
 use Rattle.std.proofs.Common.{◌≡◌, ℕ, ◌+◌, ◌≤◌, ◌<◌, List, [], ◌∷◌, length, get_or, drop, sym, ap, subst, ◌∙◌, inl, inr, arith}
 use Rattle.std.specs.Prelude.{◌⊎◌, slice_range}
-use Rattle.std.proofs.lemmas.List.{drop_more, drop_all, length-drop}
+use Rattle.std.proofs.lemmas.List.{drop_more, length-drop}
 use Rattle.mk_text.specs.declared.line_start.LineStart.{LineStart}
 use Rattle.mk_text.specs.Lines.{without_cr, lines_of}
 use Rattle.mk_text.specs.LineStart.{IsLineStart, NoLfBetween}

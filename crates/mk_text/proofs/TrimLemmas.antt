@@ -3,7 +3,7 @@
 use Rattle.std.proofs.Common.{◌≡◌, ℕ, ◌+◌, ◌-◌, ◌<◌, ◌≤◌, true, false, zero, suc, Bool, List, ◌∷◌, [], ◌++◌, length, get_or, take, drop, replicate, sym, ap, ◌∙◌, arith, rules, refl}
 use Rattle.std.specs.List.{prefix_len, suffix_len, list_all}
 use Rattle.std.specs.Prelude.{reverse}
-use Rattle.std.proofs.lemmas.List.{take-append-le, take-append-drop, places, same_lists, append-nil, append_assoc, reverse-append, length_push, length-append, length-take, length-drop, get_or-take, get_or-drop, get_or_append_left, get_or-append_right, get_or-reverse, drop_at, take_at}
+use Rattle.std.proofs.lemmas.List.{take-append-le, take-append-drop, places, same_lists, append-nil, append_assoc, reverse-append, length_push, length-append, length-take, length-drop, get_or-take, get_or-drop, get_or_append_left, get_or-append_right, get_or-reverse, drop_at, take_at, take_all}
 use Rattle.std.proofs.lemmas.List.Sums.{prefix_len_is, suffix_len_is, prefix_len_passes, suffix_len-le-length}
 use Rattle.mk_text.proofs.TestLemmas.{both}
 use Rattle.mk_text.specs.Columns.{columns, standing, is_space, are_blank, without_first_blanks, without_last_blanks, trimmed}
@@ -92,20 +92,45 @@ trimmed_blank (c ∷ cs) blank =
     let both = both (is_space c) (list_all is_space cs) blank in
     ap without_last_blanks (first_yes c cs both.0) ∙ trimmed_blank cs both.1
 
--- the last blanks are blanks
-last_are_blank : (cells : List ℕ) → are_blank (drop (length cells - suffix_len is_space cells) cells) ≡ true
-last_are_blank cells =
-    let n = length cells - suffix_len is_space cells in
+-- the last bytes that pass a test pass it
+pub last_pass : (p : ℕ → Bool) (cells : List ℕ) → list_all p (drop (length cells - suffix_len p cells) cells) ≡ true
+last_pass p cells =
+    let n = length cells - suffix_len p cells in
     let back = reverse cells in
-    let few : suffix_len is_space cells ≤ length cells = suffix_len-le-length is_space cells in
-    list_all_from is_space (drop n cells)
+    let few : suffix_len p cells ≤ length cells = suffix_len-le-length p cells in
+    list_all_from p (drop n cells)
     (λ k lt.
     let within : k < length cells - n = omega (arith, length-drop n cells) in
-    let mirrored : length cells - 1 - (n + k) < suffix_len is_space cells = omega arith in
+    let mirrored : length cells - 1 - (n + k) < suffix_len p cells = omega arith in
     let there : length cells - 1 - (length cells - 1 - (n + k)) ≡ n + k = omega arith in
     let mirror : get_or back (length cells - 1 - (n + k)) 0 ≡ get_or cells (n + k) 0 =
     get_or-reverse cells (length cells - 1 - (n + k)) 0 (omega arith) ∙ ap (λ (i : ℕ). get_or cells i 0) there in
-    ap is_space (get_or-drop n cells k 0 ∙ sym mirror) ∙ prefix_len_passes is_space back (length cells - 1 - (n + k)) 0 mirrored)
+    ap p (get_or-drop n cells k 0 ∙ sym mirror) ∙ prefix_len_passes p back (length cells - 1 - (n + k)) 0 mirrored)
+
+-- ---- a last byte that is no blank
+
+-- a byte that is no blank stays behind the first blanks
+front_stays : (xs : List ℕ) (c : ℕ) → is_space c ≡ false → (ys : List ℕ) × (without_first_blanks (xs ++ c ∷ []) ≡ ys ++ c ∷ [])
+front_stays [] c other = ([], first_no c [] other)
+front_stays (x ∷ xs) c other = by_test (front_stays xs c other) (is_space x) refl
+  where
+    by_test : (ys : List ℕ) × (without_first_blanks (xs ++ c ∷ []) ≡ ys ++ c ∷ []) → (b : Bool) → is_space x ≡ b → (ys : List ℕ) × (without_first_blanks ((x ∷ xs) ++ c ∷ []) ≡ ys ++ c ∷ [])
+    by_test rest true blank = (rest.0, first_yes x (xs ++ c ∷ []) blank ∙ rest.1)
+    by_test rest false is = (x ∷ xs, first_no x (xs ++ c ∷ []) is)
+
+-- and at the end
+last_stays : (xs : List ℕ) (c : ℕ) → is_space c ≡ false → without_last_blanks (xs ++ c ∷ []) ≡ xs ++ c ∷ []
+last_stays xs c other =
+    let none : suffix_len is_space (xs ++ c ∷ []) ≡ 0 = rw (reverse-append xs (c ∷ []), other) refl in
+    take_all (length (xs ++ c ∷ []) - suffix_len is_space (xs ++ c ∷ [])) (xs ++ c ∷ []) (omega (arith, none))
+
+-- so it is the last byte of what is left without the outer blanks
+pub trimmed_last : (xs : List ℕ) (c : ℕ) → is_space c ≡ false → (ys : List ℕ) × (trimmed (xs ++ c ∷ []) ≡ ys ++ c ∷ [])
+trimmed_last xs c other =
+    let front = front_stays xs c other in
+    (front.0, ap without_last_blanks front.1 ∙ last_stays front.0 c other)
+
+-- ---- the three parts
 
 -- columns are blanks, what is left without them, and blanks
 pub record AreBetween (cells core : List ℕ) : Type 0 where
@@ -130,5 +155,5 @@ trimmed_is_between cells =
           (λ k lt.
           let short : k < n = omega (arith, length-take n cells) in
           ap is_space (get_or-take n cells k 0 short) ∙ prefix_len_passes is_space cells k 0 short);
-      blank_after = last_are_blank rest;
+      blank_after = last_pass is_space rest;
     }

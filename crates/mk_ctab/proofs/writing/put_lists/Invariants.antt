@@ -1,6 +1,7 @@
 use Rattle.std.proofs.Common.{◌≡◌, ◌++◌, take}
 use Rattle.std.specs.List.{flat_map}
-use Rattle.mk_ctab.specs.TableSpelling.{numbers_line, ended}
+use Rattle.mk_text.specs.Lines.{ended}
+use Rattle.mk_ctab.specs.TableSpelling.{numbers_line}
 use Rattle.mk_ctab.proofs.writing.put_lists.Given as goal
 
 abbrev pub invariant-loop-list : goal.invariant-loop-list

@@ -4,7 +4,8 @@ use Rattle.mk_props.specs.declared.property.Property.{Property}
 use Rattle.mk_ctab.specs.declared.raw.RawAtom.{RawAtom}
 use Rattle.mk_ctab.specs.declared.raw.RawBond.{RawBond}
 use Rattle.mk_ctab.specs.declared.raw.RawList.{RawList}
-use Rattle.mk_ctab.specs.TableSpelling.{counts_line, atom_line, bond_line, numbers_line, property_line, ended, spelling}
+use Rattle.mk_text.specs.Lines.{ended}
+use Rattle.mk_ctab.specs.TableSpelling.{counts_line, atom_line, bond_line, numbers_line, property_line, spelling}
 use Rattle.mk_ctab.proofs.AppendLemmas.{as_text, as_last, table_last, spelling_parts}
 use Rattle.mk_ctab.proofs.writing.put_table.Goals as goal
 

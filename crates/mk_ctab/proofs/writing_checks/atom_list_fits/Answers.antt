@@ -1,5 +1,5 @@
 use Rattle.std.proofs.Common.{ℕ, All, List, subst}
-use Rattle.mk_ctab.specs.TableSpelling.{EndsWith}
+use Rattle.mk_text.specs.Lines.{EndsWith}
 use Rattle.mk_ctab.proofs.writing_checks.atom_list_fits.Goals as goal
 
 pub returns-clause-no_cr : goal.returns-clause-no_cr

@@ -1,5 +1,6 @@
 use Rattle.std.proofs.Common.{ℕ, List, refl, subst}
-use Rattle.mk_ctab.specs.TableSpelling.{EndsWith, IsSymbol}
+use Rattle.mk_text.specs.Lines.{EndsWith}
+use Rattle.mk_ctab.specs.TableSpelling.{IsSymbol}
 use Rattle.mk_ctab.proofs.GraphicLemmas.{all_taken, one_more}
 use Rattle.mk_ctab.proofs.writing_checks.symbols_fit.Goals as goal
 

@@ -1,5 +1,6 @@
 use Rattle.std.proofs.Common.{All, take}
-use Rattle.mk_ctab.specs.TableSpelling.{IsSymbol, EndsWith}
+use Rattle.mk_text.specs.Lines.{EndsWith}
+use Rattle.mk_ctab.specs.TableSpelling.{IsSymbol}
 use Rattle.mk_ctab.proofs.writing_checks.symbols_fit.Given as goal
 
 abbrev pub invariant-loop-symbol : goal.invariant-loop-symbol

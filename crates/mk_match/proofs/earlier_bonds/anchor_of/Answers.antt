@@ -1,7 +1,7 @@
 use Rattle.std.proofs.Common.{◌≡◌, ◌<◌, length, take, arith, All}
 use Rattle.std.proofs.lemmas.List.{take_all}
 use Rattle.std.proofs.lemmas.List.Elements.{All-more}
-use Rattle.mk_match.specs.Search.{IsElsewhere}
+use Rattle.mk_match.specs.EarlierBonds.{IsElsewhere}
 use Rattle.mk_match.proofs.EarlierBondsLemmas.{elsewhere, none_earlier}
 use Rattle.mk_match.proofs.earlier_bonds.anchor_of.Goals as goal
 

@@ -1,5 +1,5 @@
 use Rattle.std.proofs.Common.{take, All}
-use Rattle.mk_match.specs.Search.{IsElsewhere}
+use Rattle.mk_match.specs.EarlierBonds.{IsElsewhere}
 use Rattle.mk_match.proofs.earlier_bonds.anchor_of.Given as goal
 
 abbrev pub invariant-loop-number : goal.invariant-loop-number

@@ -1,7 +1,7 @@
 use Rattle.std.proofs.Common.{◌≡◌, ◌<◌, length, take, refl, arith, All}
 use Rattle.std.proofs.lemmas.List.{take_all}
 use Rattle.std.proofs.lemmas.List.Elements.{All-more}
-use Rattle.mk_match.specs.Search.{IsMetAt}
+use Rattle.mk_match.specs.EarlierBonds.{IsMetAt}
 use Rattle.mk_match.proofs.EarlierBondsLemmas.{met_all, met_each}
 use Rattle.mk_match.proofs.earlier_bonds.are_bonds_met.Goals as goal
 

@@ -1,5 +1,5 @@
 use Rattle.std.proofs.Common.{take, All}
-use Rattle.mk_match.specs.Search.{IsMetAt}
+use Rattle.mk_match.specs.EarlierBonds.{IsMetAt}
 use Rattle.mk_match.proofs.earlier_bonds.are_bonds_met.Given as goal
 
 abbrev pub invariant-loop-number : goal.invariant-loop-number

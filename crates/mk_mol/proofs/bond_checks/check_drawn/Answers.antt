@@ -1,6 +1,6 @@
 use Rattle.mk_mol.specs.FirstFault.{new_bonds, known_types, few_bonds, Passes}
 use Rattle.mk_mol.proofs.FaultLemmas.{below_more, fault}
-use Rattle.mk_mol.proofs.BondFaultLemmas.{whole, is_graph, crowded, none_crowded}
+use Rattle.mk_ctab.proofs.ForCallers.{whole, is_graph, crowded, none_crowded}
 use Rattle.mk_mol.proofs.bond_checks.check_drawn.Goals as goal
 
 pub first_no_new_bond-requires-clause-front : goal.first_no_new_bond-requires-clause-front
@@ -21,7 +21,7 @@ returns-in-Some-first_crowded_atom-clause-fault c =
     let three : Passes c.args.table.now known_types = rw c.as_slice-bonds.ensures at c.in_default-first_unknown_type.ensures in
     fault c.args.table.now few_bonds _
     (below_more c.args.table.now known_types three (below_more c.args.table.now new_bonds two c.requires.earlier))
-    (crowded c.args.table.now c.args.near.now c.args.edges.now c.requires.rows c.requires.size (whole _ _ _ c.requires.front two) _ c.in-Some-first_crowded_atom.ensures)
+    (rw (c.requires.size, whole _ _ _ c.requires.front two) at (crowded c.args.near.now c.args.edges.now c.requires.rows _ c.in-Some-first_crowded_atom.ensures))
 
 pub returns-clause-whole : goal.returns-clause-whole
 returns-clause-whole c =
@@ -38,5 +38,5 @@ returns-clause-passes c =
     let two : Passes c.args.table.now new_bonds = rw (c.requires.size, c.as_slice-bonds.ensures) at c.in_default.ensures in
     let three : Passes c.args.table.now known_types = rw c.as_slice-bonds.ensures at c.in_default-first_unknown_type.ensures in
     below_more c.args.table.now few_bonds
-    (none_crowded c.args.table.now c.args.near.now c.args.edges.now c.requires.rows c.requires.size (whole _ _ _ c.requires.front two) c.in_default-first_crowded_atom.ensures)
+    (rw (c.requires.size, whole _ _ _ c.requires.front two) at (none_crowded c.args.near.now c.args.edges.now c.requires.rows c.in_default-first_crowded_atom.ensures))
     (below_more c.args.table.now known_types three (below_more c.args.table.now new_bonds two c.requires.earlier))

@@ -1,7 +1,7 @@
 use Rattle.std.proofs.Common.{sym, ◌∙◌}
 use Rattle.std.proofs.lemmas.Bool.{true≢false}
 use Rattle.mk_mol.specs.Checks.{HasKnownType}
-use Rattle.mk_mol.proofs.ItemLemmas.{items-more_at, items-fail_at, items-all}
+use Rattle.mk_text.proofs.ForCallers.{items-more_at, items-fail_at, items-all}
 use Rattle.mk_mol.proofs.bond_checks.first_unknown_type.Goals as goal
 
 pub loop-i-preserved : goal.loop-i-preserved

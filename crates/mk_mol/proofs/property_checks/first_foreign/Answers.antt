@@ -1,7 +1,7 @@
 use Rattle.std.proofs.Common.{sym, ◌∙◌}
 use Rattle.std.proofs.lemmas.Bool.{true≢false}
 use Rattle.mk_mol.specs.Checks.{IsOfMolecules}
-use Rattle.mk_mol.proofs.ItemLemmas.{items-more, items-fail, items-all}
+use Rattle.mk_text.proofs.ForCallers.{items-more, items-fail, items-all}
 use Rattle.mk_mol.proofs.property_checks.first_foreign.Goals as goal
 
 pub loop-i-preserved : goal.loop-i-preserved

@@ -1,4 +1,4 @@
-use Rattle.std.proofs.Common.{◌≤◌, ◌∙◌, arith}
+use Rattle.std.proofs.Common.{◌∙◌, arith}
 use Rattle.mk_text.specs.Lines.{lines_of}
 use Rattle.mk_sdfile.proofs.SdfileStepsLemmas.{molfile_ahead, block_answer}
 use Rattle.mk_sdfile.proofs.sdfile.block_from.Goals as goal

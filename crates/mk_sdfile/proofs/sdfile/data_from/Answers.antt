@@ -1,6 +1,4 @@
-use Rattle.std.proofs.Common.{◌+◌, arith, false, sym, subst, ap, ◌∙◌}
-use Rattle.std.specs.Prelude.{slice_range}
-use Rattle.mk_form.specs.ToEnd.{EachIs}
+use Rattle.std.proofs.Common.{arith, sym, ap, ◌∙◌}
 use Rattle.mk_text.specs.Lines.{lines_of}
 use Rattle.mk_sdfile.specs.Sdfile.{is_separator}
 use Rattle.mk_sdfile.proofs.SdfileStepsLemmas.{data_more}

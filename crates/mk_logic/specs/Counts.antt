@@ -1,0 +1,40 @@
+-- The counts of the groups as a list, from group 1 on.
+--     sites_at counts g       the sites of group g
+--     filled_at counts g      those of them that are filled
+use Rattle.std.specs.Prelude.{◌-◌, ◌<◌, ◌==◌, ◌&&◌, ◌||◌, nat_lt, ℕ, Bool, not, IsTrue, List, Option, Some, None, slice_get, zip}
+use Rattle.std.specs.List.{list_all, list_any}
+use Rattle.mk_model.specs.Queries.{QueryView}
+use Rattle.mk_model.specs.Logic.{IsAsked, IsGroupAt}
+use Rattle.mk_model.specs.declared.group.Group.{Group}
+use Rattle.mk_model.specs.declared.query.Count.{Count}
+
+-- the sites of group g
+abbrev pub sites_at : List Count → ℕ → ℕ
+sites_at counts g = sites (slice_get counts (g - 1))
+  where
+    sites : Option Count → ℕ
+    sites None = 0
+    sites (Some count) = count.sites
+
+-- the filled sites of group g
+abbrev pub filled_at : List Count → ℕ → ℕ
+filled_at counts g = filled (slice_get counts (g - 1))
+  where
+    filled : Option Count → ℕ
+    filled None = 0
+    filled (Some count) = count.filled
+
+-- no group names group g, or one that does has a filled site
+abbrev pub is_asked : List Group → List Count → ℕ → Bool
+is_asked groups counts g =
+    not (list_any (λ group. group.then_group == g) groups)
+    || list_any (λ (group, count). (group.then_group == g) && nat_lt 0 count.filled) (zip groups counts)
+
+-- Group g has a site, its range is asked for, and each interval of the range ends below the number of its filled sites: it
+-- can't be allowed with more sites either.
+pub record IsOver (query : QueryView) (counts : List Count) (g : ℕ) : Type 0 where
+  pub group : Group
+  pub at : IsGroupAt query g group
+  pub some : 0 < sites_at counts g
+  pub asked : IsAsked query (filled_at counts) g
+  pub above : IsTrue (list_all (λ interval. nat_lt interval.most (filled_at counts g)) group.range)
