@@ -15,8 +15,8 @@ loop-i-preserved c =
       start = c.in-Some.ensures.start;
       counted = omega (arith, c.in-Some.ensures.next);
       so_far =
-        c.in_ok-put_kept_line.ensures
-        ∙ ap (λ (x : List ℕ). x ++ ended (without_crs c.in-Some.line.now)) before.so_far
-        ∙ ap (λ (x : List ℕ). kept_lines (slice_range lines c.args.from.line c.loop-i.i) ++ ended (without_crs x)) line
-        ∙ sym (kept_one_more lines c.args.from.line c.loop-i.i (omega arith) (omega arith));
+          c.in_ok-put_kept_line.ensures
+          ∙ ap (λ (x : List ℕ). x ++ ended (without_crs c.in-Some.line.now)) before.so_far
+          ∙ ap (λ (x : List ℕ). kept_lines (slice_range lines c.args.from.line c.loop-i.i) ++ ended (without_crs x)) line
+          ∙ sym (kept_one_more lines c.args.from.line c.loop-i.i (omega arith) (omega arith));
     }
