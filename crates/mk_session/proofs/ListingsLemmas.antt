@@ -4,7 +4,7 @@
 use Rattle.std.proofs.Common.{◌≡◌, ℕ, ◌≤◌, inl, inr, ◌⊎◌, List, [], ◌∷◌, ◌++◌, None, length, take, refl, sym, ap, subst, ◌∙◌, arith, append_assoc}
 use Rattle.std.proofs.lemmas.List.{append-nil, take_all, take_at}
 use Rattle.mk_text.specs.Rising.{Holds, IsBelow, IsRisingListOfAll, Rises}
-use Rattle.mk_text.proofs.RisingLemmas.{below_through, each_holds}
+use Rattle.mk_text.proofs.ForCallers.{below_through, each_holds}
 use Rattle.mk_text.specs.Rising.{IsLeast, IsLeastFrom}
 
 -- ---- the place behind a list

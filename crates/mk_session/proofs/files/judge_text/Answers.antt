@@ -1,8 +1,19 @@
-use Rattle.std.proofs.Common.{◌∙◌}
+use Rattle.std.proofs.Common.{◌∙◌, arith}
 use Rattle.mk_text.specs.Lines.{lines_of}
+use Rattle.mk_text.proofs.ForCallers.{lines_few}
 use Rattle.mk_session.specs.Run.{BadLine, V3000}
 use Rattle.mk_session.proofs.RunLemmas.{held_if}
 use Rattle.mk_session.proofs.files.judge_text.Goals as goal
+
+pub judge_records-requires-clause-fewer : goal.judge_records-requires-clause-fewer
+judge_records-requires-clause-fewer c =
+    rw c.as_slice.ensures (λ k d below.
+    let few = c.in-Ok.ensures.fewer k d below in
+    omega (arith, c.requires, lines_few c.args.text.now, few))
+
+pub returns-in-Ok : goal.returns-in-Ok
+returns-in-Ok c = λ look name read.
+    held_if look name (lines_of c.args.text.now) c.in-Ok.records c.judge_records.result read c.in-Ok.ensures.sdfile (rw c.as_slice.ensures at c.judge_records.ensures)
 
 pub returns-in_ok-bad_line-in-Err-Bad : goal.returns-in_ok-bad_line-in-Err-Bad
 returns-in_ok-bad_line-in-Err-Bad c = λ look name read.

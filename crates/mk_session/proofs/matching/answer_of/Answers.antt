@@ -1,6 +1,5 @@
 use Rattle.std.proofs.Common.{◌≡◌, ◌∙◌, List, ℕ, ap, refl, take}
 use Rattle.mk_match.specs.Plain.{hits_of}
-use Rattle.mk_match.proofs.PlainLemmas.{law}
 use Rattle.mk_session.specs.declared.outcome.Outcome.{Outcome}
 use Rattle.mk_session.specs.declared.status.Status.TheVariants as status
 use Rattle.mk_session.specs.Answers.{hits_text}
@@ -19,5 +18,5 @@ returns-in_ok-answer-in-Molecule-clause-found c = λ look name held.
     let graph = c.in_ok-graph-in-Molecule.graph in
     let mol = c.in-Molecule.mol in
     let hits : c.deref.result.now ≡ take 10000 (hits_of graph mol) = c.deref.ensures.value ∙ c.in_ok-hits-in-Molecule.ensures in
-    Lists graph c.in_ok-graph-in-Molecule.ensures mol (rw c.in-Molecule.is at held) (hits_of graph mol) (law graph mol)
-    (done c.of.result _ (c.of.ensures ∙ c.in_ok-answer-in-Molecule.ensures ∙ ap (λ (hs : List (List ℕ)). hits_text hs 10000) hits))
+    Lists graph c.in_ok-graph-in-Molecule.ensures mol (rw c.in-Molecule.is at held) (hits_of graph mol) (c.hits_are_listed.ensures graph mol)
+    (c.ended.ensures ∙ done c.in_ok-answer-in-Molecule.answer.items _ (c.in_ok-answer-in-Molecule.ensures ∙ ap (λ (hs : List (List ℕ)). hits_text hs 10000) hits))
