@@ -3,9 +3,9 @@
 --     one_judgment     one thing is made of the query's file
 --     one_held         and one of the molecules' file
 --     one_run          so a run has at most one outcome
-use Rattle.std.proofs.Common.{◌≡◌, ◌≢◌, ℕ, zero, suc, ◌<◌, inl, inr, ◌⊎◌, Bool, true, false, List, [], ◌∷◌, Option, length, get_or, take, refl, sym, ap, subst, ◌∙◌, arith}
-use Rattle.std.specs.Prelude.{AllPairs, Contains, IsTrue, ◌↔◌, codes}
-use Rattle.std.proofs.lemmas.List.{get_or-map, length-map, same_lists}
+use Rattle.std.proofs.Common.{◌≡◌, ◌≢◌, ℕ, zero, suc, ◌<◌, inl, inr, ◌⊎◌, true, List, [], ◌∷◌, Option, length, get_or, take, refl, sym, ap, subst, ◌∙◌, arith}
+use Rattle.std.specs.Prelude.{AllPairs, Contains}
+use Rattle.std.proofs.lemmas.List.{get_or-map, length-map}
 use Rattle.std.proofs.lemmas.List.Elements.{All-contains, Contains-get_or}
 use Rattle.mk_text.specs.Lines.{lines_of}
 use Rattle.mk_text.specs.Rising.{IsRisingListOfAll, OneRisingList}
@@ -16,15 +16,12 @@ use Rattle.mk_ctab.specs.PlainFile.{IsPlainFile}
 use Rattle.mk_ctab.specs.PlainReading.{PlainFilesAreRead}
 use Rattle.mk_sdfile.specs.declared.raw_record.RawRecord.{RawRecord}
 use Rattle.mk_sdfile.specs.Sdfile.{HasBadLine, HasOneBadLine, HasOneValue, IsBadSdfileLine, IsSdfile, IsV3000Line}
-use Rattle.mk_model.specs.declared.edge.Edge.{Edge}
 use Rattle.mk_model.specs.declared.graph.GraphAtom.{GraphAtom}
 use Rattle.mk_model.specs.declared.graph.GraphBond.{GraphBond}
-use Rattle.mk_model.specs.Graphs.{GraphView, IsBefore, IsGraph}
+use Rattle.mk_model.specs.Graphs.{GraphView, IsBefore}
 use Rattle.mk_model.specs.Hits.{AreHits, IsHit}
 use Rattle.mk_model.specs.Molecules.{Molecule as Mol}
-use Rattle.mk_model.proofs.ForCallers.{at_place}
 use Rattle.mk_rings.specs.Bare.{bare_bond, bare_bonds}
-use Rattle.mk_rings.proofs.ForCallers.{same_length}
 use Rattle.mk_mol.specs.Laws.{NoFaultWhereAllPass, OneFilledMolecule, OneFirstFault}
 use Rattle.mk_rings.specs.Laws.{OneListOfGraphBonds}
 use Rattle.mk_session.specs.declared.outcome.Held.{Held}
