@@ -7,8 +7,7 @@ use Rattle.mk_outside.specs.Told.{Puts, AppendsPrefix}
 use Rattle.mk_session.specs.declared.status.Status.{Status}
 use Rattle.mk_session.specs.declared.status.Status.TheVariants.{Done, Refused, Words, Read, Write, Store, Memory, BadStore, ScriptLong}
 use Rattle.mk_session.specs.declared.outcome.Outcome.{Outcome}
-use Rattle.mk_session.specs.Run.{IsRun}
-use Rattle.mk_session.specs.Running.{IsOfAnswer}
+use Rattle.mk_session.specs.Run.{IsOfAnswer, IsRun}
 use Rattle.mk_session.specs.Headline.{IsWhole, IsCut, Leaves}
 
 -- a put that was done appended the whole piece

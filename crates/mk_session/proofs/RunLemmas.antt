@@ -1,17 +1,17 @@
 -- Runs, from what their parts answer.
 --     three_words       three words, the first of which is `match`
---     refused_if, held_if, matched_if      an answer in other words
+--     held_if, matched_if      an answer in other words
 use Rattle.std.proofs.Common.{◌≡◌, ℕ, ◌<◌, ◌≤◌, Bool, true, false, not, List, [], ◌∷◌, Option, length, get_or, map, refl, sym, ap, subst, ◌∙◌, arith}
 use Rattle.std.specs.Prelude.{Result, Ok, Err, IfOk, bytes_eq, codes}
 use Rattle.std.proofs.lemmas.Slice.Eq.{bytes_eq-Decides}
 use Rattle.mk_ctab.specs.declared.plain_table.PlainTable.{PlainTable}
-use Rattle.mk_ctab.specs.declared.raw.RawTable.{RawTable}
+use Rattle.mk_sdfile.specs.declared.raw_record.RawRecord.{RawRecord}
+use Rattle.mk_sdfile.specs.Sdfile.{IsSdfile}
 use Rattle.mk_session.specs.declared.outcome.Held.{Held}
 use Rattle.mk_session.specs.declared.outcome.Held.TheVariants.{Molecule, Refused}
 use Rattle.mk_session.specs.declared.outcome.Outcome.{Outcome}
-use Rattle.mk_session.specs.RecordFile.{IsRecord}
-use Rattle.mk_session.specs.Run.{FailsCheck, IsPlain, IsRead, IsRefused, IsSearch, Searches, match_words, molecule_bytes}
-use Rattle.mk_session.specs.Running.{IsHeldBy, IsHeldTable, IsMatchRun}
+use Rattle.mk_session.specs.Run.{FailsCheck, NotOne, IsPlain, IsRead, IsSearch, Searches, match_words, molecule_bytes}
+use Rattle.mk_session.specs.Running.{IsHeldBy, IsHeldOf, IsMatchRun}
 
 -- ---- words
 
@@ -39,19 +39,16 @@ three_words f words command query molecules least most first second third is =
 
 -- ---- answers in other words
 
--- a refusal
-pub refused_if : {E : Type 0} (look : List ℕ → Option (List ℕ)) (name line : List ℕ) (r : Result Held E) → IfOk r (λ held. held ≡ Refused line) → IsRefused look name line → IfOk r (IsHeldBy look name)
-refused_if look name line (Ok held) is refused = subst (IsHeldBy look name) (sym is) refused
-refused_if look name line (Err e) is refused = tt
+-- the molecule of records that were read, or what they are refused with
+held_by : (look : List ℕ → Option (List ℕ)) (name : List ℕ) (lines : List (List ℕ)) (records : List RawRecord) (held : Held) → IsRead molecule_bytes look name lines → IsSdfile lines records → IsHeldOf records held → IsHeldBy look name held
+held_by look name lines [] held read is holds = subst (IsHeldBy look name) (sym holds) (NotOne lines read [] is (λ same. absurd (omega (arith, same))) refl)
+held_by look name lines (one ∷ two ∷ others) held read is holds = subst (IsHeldBy look name) (sym holds) (NotOne lines read (one ∷ two ∷ others) is (λ same. absurd (omega (arith, same))) refl)
+held_by look name lines (only ∷ []) (Molecule mol) read is holds = record { lines = lines; read = read; only = only; sdfile = is; passes = holds.0; filled = holds.1; molecule = holds.2 }
+held_by look name lines (only ∷ []) (Refused line) read is holds = FailsCheck lines read only is holds.0 holds.1 holds.2 holds.3
 
--- the molecule of a table that was read, or the check that it fails
-held_by : (look : List ℕ → Option (List ℕ)) (name : List ℕ) (lines : List (List ℕ)) (table : RawTable) (held : Held) → IsRead molecule_bytes look name lines → IsRecord lines table false → IsHeldTable table held → IsHeldBy look name held
-held_by look name lines table (Molecule mol) read is holds = record { lines = lines; read = read; table = table; record_of_it = is; passes = holds.0; filled = holds.1; molecule = holds.2 }
-held_by look name lines table (Refused line) read is holds = FailsCheck lines read table is holds.0 holds.1 holds.2 holds.3
-
-pub held_if : {E : Type 0} (look : List ℕ → Option (List ℕ)) (name : List ℕ) (lines : List (List ℕ)) (table : RawTable) (r : Result Held E) → IsRead molecule_bytes look name lines → IsRecord lines table false → IfOk r (IsHeldTable table) → IfOk r (IsHeldBy look name)
-held_if look name lines table (Ok held) read is holds = held_by look name lines table held read is holds
-held_if look name lines table (Err e) read is holds = tt
+pub held_if : {E : Type 0} (look : List ℕ → Option (List ℕ)) (name : List ℕ) (lines : List (List ℕ)) (records : List RawRecord) (r : Result Held E) → IsRead molecule_bytes look name lines → IsSdfile lines records → IfOk r (IsHeldOf records) → IfOk r (IsHeldBy look name)
+held_if look name lines records (Ok held) read is holds = held_by look name lines records held read is holds
+held_if look name lines records (Err e) read is holds = tt
 
 -- the search as the run
 pub matched_if : {E : Type 0} (look : List ℕ → Option (List ℕ)) (query molecules : List ℕ) (wanted : PlainTable) (r : Result Outcome E) → IsPlain look query wanted → IfOk r (IsSearch wanted look molecules) → IfOk r (IsMatchRun look query molecules)

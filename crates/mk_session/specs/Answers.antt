@@ -2,9 +2,25 @@
 --     hits_text hits most         a line for each listed hit, and whether there may be more
 --     bad_line_text k             the refusal of a molecules' file at its first bad line
 --     v3000_text k                the same where that line says V3000
+--     records_text k              the refusal of a molecules' file of k records, where k isn't 1
 --     check_text check item       the refusal of a record at the first check that fails
+--     long_query_text .. not_understood_text      the answers that are one line
 use Rattle.std.specs.Prelude.{ℕ, List, ◌∷◌, ◌++◌, length, nat_lt, codes, decimal, if◌then◌else◌}
 use Rattle.std.specs.List.{flat_map}
+
+-- ---- lines
+
+abbrev pub not_understood_text : List ℕ
+not_understood_text = codes "words not understood\n"
+
+abbrev pub long_query_text : List ℕ
+long_query_text = codes "refused 4 query\n"
+
+abbrev pub unbuilt_text : List ℕ
+unbuilt_text = codes "refused 12 unbuilt\n"
+
+abbrev pub long_molecules_text : List ℕ
+long_molecules_text = codes "refused 4 molecules\n"
 
 -- ---- refusals
 
@@ -13,6 +29,9 @@ bad_line_text k = codes "refused 2 molecules line " ++ (decimal k ++ codes "\n")
 
 abbrev pub v3000_text : ℕ → List ℕ
 v3000_text k = codes "refused 2 molecules v3000 line " ++ (decimal k ++ codes "\n")
+
+abbrev pub records_text : ℕ → List ℕ
+records_text k = codes "refused 11 records " ++ (decimal k ++ codes "\n")
 
 abbrev pub check_text : ℕ → ℕ → List ℕ
 check_text check item = codes "refused 3 molecules record 1 check V" ++ (decimal check ++ (codes " item " ++ (decimal item ++ codes "\n")))

@@ -7,8 +7,7 @@ use Rattle.mk_outside.specs.Told.{AppendsPrefix}
 use Rattle.mk_session.specs.declared.status.Status.{Status}
 use Rattle.mk_session.specs.declared.status.Status.TheVariants.{Done, Refused, Words, Read, Write, Store, Memory, BadStore, ScriptLong}
 use Rattle.mk_session.specs.declared.outcome.Outcome.{Outcome}
-use Rattle.mk_session.specs.Run.{IsRun}
-use Rattle.mk_session.specs.Running.{IsOfAnswer}
+use Rattle.mk_session.specs.Run.{IsOfAnswer, IsRun}
 
 -- the output has grown by exactly the run's bytes, and the status is the run's
 pub record IsWhole (words : List (List ℕ)) (look : List ℕ → Option (List ℕ)) (so_far : List ℕ) (new : Option (List ℕ)) (status : Status) : Type 0 where

@@ -1,8 +1,6 @@
 pub mod Status
 pub mod Answers
 pub mod QueryGraph
-pub mod RecordFile
-pub mod RecordReading
 pub mod Run
 pub mod Running
 pub mod Headline

@@ -1,15 +1,18 @@
--- What the parts of a run answer.
---     is_match words                    the words are `match QFILE MFILE`
+-- What the parts of a run answer; it serves the code alone.
+--     asked_bond bond                   a bond of the query, with its ends as they are written
 --     IsReadAs most look name bytes     a file was read, or found over its limit
 --     IsJudged look name judgment       what is made of the query's file
 --     IsHeldBy look name held           what is made of the molecules' file
---     SeekingCounts ..                  the count of the files before and after an outcome was sought
-use Rattle.std.specs.Prelude.{◌≡◌, ◌≤◌, ℕ, ◌==◌, ◌&&◌, Bool, true, false, List, [], length, slice_index_or, Option, Some, None, Result, Ok, Err, ⊤, codes, bytes_eq}
+--     MatchingCounts ..                  the count of the files before and after an outcome was sought
+use Rattle.std.specs.Prelude.{◌≡◌, ◌≤◌, ℕ, Bool, true, false, List, [], ◌∷◌, length, Option, Some, None, Result, Ok, Err, ⊤}
 use Rattle.mk_text.specs.Lines.{lines_of}
 use Rattle.mk_outside.specs.Counts.{Rose}
+use Rattle.mk_ctab.specs.declared.plain_table.PlainBond.{PlainBond}
 use Rattle.mk_ctab.specs.declared.raw.RawTable.{RawTable}
 use Rattle.mk_ctab.specs.PlainFacts.{IsPlainTable}
+use Rattle.mk_model.specs.declared.graph.GraphBond.{GraphBond}
 use Rattle.mk_model.specs.Molecules.{IsMolecule}
+use Rattle.mk_sdfile.specs.declared.raw_record.RawRecord.{RawRecord}
 use Rattle.mk_mol.specs.Filled.{IsFilled}
 use Rattle.mk_mol.specs.FirstFault.{IsFirstFault, PassesAll}
 use Rattle.mk_session.specs.declared.status.Status.{Status}
@@ -19,14 +22,14 @@ use Rattle.mk_session.specs.declared.outcome.Held.TheVariants.{Molecule, Refused
 use Rattle.mk_session.specs.declared.outcome.Judgment.{Judgment}
 use Rattle.mk_session.specs.declared.outcome.Judgment.TheVariants.{Plain, TooLong, Unbuilt}
 use Rattle.mk_session.specs.declared.outcome.Outcome.{Outcome}
-use Rattle.mk_session.specs.Answers.{check_text}
-use Rattle.mk_session.specs.Run.{IsHeld, IsPlain, IsRead, IsRefused, IsRun, IsTooLong, IsUnbuilt, match_words, query_bytes}
+use Rattle.mk_session.specs.Answers.{check_text, records_text}
+use Rattle.mk_session.specs.Run.{IsHeld, IsPlain, IsRead, IsRefused, IsRun, IsOfAnswer, IsTooLong, IsUnbuilt, match_words, query_bytes}
 
--- ---- words
+-- ---- the query's graph
 
--- the words are `match QFILE MFILE`
-abbrev pub is_match : List (List ℕ) → Bool
-is_match words = (length words == 3) && bytes_eq (slice_index_or words 0 []) (codes "match")
+-- a bond that asks for a type alone, with its ends as they are written
+abbrev pub asked_bond : PlainBond → GraphBond
+asked_bond bond = record { first = bond.first; second = bond.second; kind = bond.kind; topology = 0; ring = false; aromatic = false }
 
 -- ---- files
 
@@ -62,22 +65,21 @@ abbrev pub IsHeldTable : RawTable → Held → Type 0
 IsHeldTable table (Molecule mol) = PassesAll table × IsFilled table mol × IsMolecule mol
 IsHeldTable table (Refused line) = (check : ℕ) × (item : ℕ) × IsFirstFault table check item × (line ≡ check_text check item)
 
+-- where the records are one, the molecule of its table or the line of the check that it fails; else the line that says how many
+-- there are
+abbrev pub IsHeldOf : List RawRecord → Held → Type 0
+IsHeldOf (only ∷ []) held = IsHeldTable only.table held
+IsHeldOf records held = held ≡ Refused (records_text (length records))
+
 -- the run of `match` over these two files
 abbrev pub IsMatchRun : (List ℕ → Option (List ℕ)) → List ℕ → List ℕ → Outcome → Type 0
 IsMatchRun look query molecules outcome = IsRun (match_words query molecules) look outcome
 
 -- ---- counts
 
--- a status that an answer ends with: `Words` exactly where the words aren't understood
-abbrev pub IsOfAnswer : Bool → Status → Type 0
-IsOfAnswer understood status.Done = understood ≡ true
-IsOfAnswer understood status.Refused = understood ≡ true
-IsOfAnswer understood status.Words = understood ≡ false
-IsOfAnswer understood _ = ⊥
-
 -- the count of the files before and after an outcome was sought
-abbrev pub SeekingCounts : Bool → ℕ → ℕ → Result Outcome Status → Type 0
-SeekingCounts understood old new (Ok outcome) = (new ≡ old) × IsOfAnswer understood outcome.status
-SeekingCounts understood old new (Err status.Read) = Rose old new × (understood ≡ true)
-SeekingCounts understood old new (Err status.Memory) = new ≡ old
-SeekingCounts understood old new (Err _) = ⊥
+abbrev pub MatchingCounts : Bool → ℕ → ℕ → Result Outcome Status → Type 0
+MatchingCounts understood old new (Ok outcome) = (new ≡ old) × IsOfAnswer understood outcome.status
+MatchingCounts understood old new (Err status.Read) = Rose old new × (understood ≡ true)
+MatchingCounts understood old new (Err status.Memory) = new ≡ old
+MatchingCounts understood old new (Err _) = ⊥

@@ -1,9 +1,47 @@
 // The bytes of an answer.
 ghost use Rattle.std.specs.Prelude.{◌≡◌, ◌++◌, IfOk, OnOk};
-ghost use Rattle.mk_session.specs.Answers.{bad_line_text, check_text, hits_text, hit_line, numbers_text, v3000_text};
+ghost use Rattle.mk_session.specs.Answers.{bad_line_text, check_text, hits_text, hit_line, long_molecules_text, long_query_text, not_understood_text, numbers_text, records_text, unbuilt_text, v3000_text};
 
 use mk_text::{Memory, Numbers, put_number};
 use std::alloc::Global;
+
+/// The answer to words that aren't understood.
+pub fn not_understood(alloc: Global) -> Result<Vec<u8>, Memory>
+    ensures { IfOk result (λ text. text.items ≡ not_understood_text) }
+{
+    Vec::from_slice(alloc, b"words not understood\n")
+}
+
+/// The refusal of a query's file over its limit.
+pub fn long_query(alloc: Global) -> Result<Vec<u8>, Memory>
+    ensures { IfOk result (λ text. text.items ≡ long_query_text) }
+{
+    Vec::from_slice(alloc, b"refused 4 query\n")
+}
+
+/// The refusal of a query's file that is no plain file.
+pub fn unbuilt(alloc: Global) -> Result<Vec<u8>, Memory>
+    ensures { IfOk result (λ text. text.items ≡ unbuilt_text) }
+{
+    Vec::from_slice(alloc, b"refused 12 unbuilt\n")
+}
+
+/// The refusal of a molecules' file over its limit.
+pub fn long_molecules(alloc: Global) -> Result<Vec<u8>, Memory>
+    ensures { IfOk result (λ text. text.items ≡ long_molecules_text) }
+{
+    Vec::from_slice(alloc, b"refused 4 molecules\n")
+}
+
+/// The refusal of a molecules' file of so many records.
+pub fn not_one(alloc: Global, records: usize) -> Result<Vec<u8>, Memory>
+    ensures { IfOk result (λ text. text.items ≡ records_text records) }
+{
+    let mut text = Vec::from_slice(alloc, b"refused 11 records ")?;
+    put_number(alloc, &mut text, records as u64)?;
+    text.extend_from_slice(b"\n")?;
+    Ok(text)
+}
 
 /// The refusal of a molecules' file whose first bad line this is.
 pub fn bad_line(alloc: Global, line: usize) -> Result<Vec<u8>, Memory>

@@ -1,34 +1,28 @@
 //! Commands, their answers, and the top call. So far the one command `match QFILE MFILE`: a plain query in the molecule of an
-//! SDfile of one record.
+//! SDfile.
 //!
 //! The program uses one promise, that of `top`: where no object that it is handed fails and memory suffices, the bytes
 //! written and the status are those of the run (`IsRun` in `specs/Run.antt`); every other status comes with its cause and
-//! leaves what `specs/Headline.antt` says. The graph that a plain query is stands in `specs/QueryGraph.antt`, what a file of one
-//! record is in `specs/RecordFile.antt`, and the bytes of an answer in `specs/Answers.antt`. What a hit is stands in mk_model,
-//! and the molecule of a table in mk_mol.
+//! leaves what `specs/Headline.antt` says. The graph that a plain query is stands in `specs/QueryGraph.antt`, and the bytes of
+//! an answer in `specs/Answers.antt`. What a hit is stands in mk_model, the records of an SDfile in mk_sdfile, and the molecule
+//! of a table in mk_mol.
 //!
 //! Only this crate knows what a command is. It reads no columns: see `mk_ctab`.
 #![tactic(auto)]
 
 mod answers;
-mod drawn_query;
-mod judging;
+mod query_graph;
+mod files;
 mod laws;
-mod listing;
+mod listings;
 mod outcome;
-mod record_file;
-mod record_laws;
-mod record_reading;
-#[cfg(test)]
-mod record_tests;
 mod running;
-mod seeking;
+mod matching;
 mod status;
 #[cfg(test)]
 mod tests;
 
 pub use laws::one_run;
 pub use mk_text::Memory;
-pub use record_laws::record_file_is_exact;
 pub use running::top;
 pub use status::Status;

@@ -1,12 +1,11 @@
 // A whole run.
 ghost use Rattle.std.specs.Prelude.{◌≡◌, ◌≢◌, ◌≤◌, ◌<◌, ℕ, List, Option, Some, map};
 ghost use Rattle.std.specs.String.{string_bytes};
-ghost use Rattle.mk_session.specs.Run.{HasItsFiles};
-ghost use Rattle.mk_session.specs.Running.{is_match};
+ghost use Rattle.mk_session.specs.Run.{HasItsFiles, is_match};
 ghost use Rattle.mk_session.specs.Headline.{IsWhole, Leaves, IsCaused};
 
 use crate::Status;
-use crate::seeking::outcome_of;
+use crate::matching::outcome_of;
 use mk_outside::{Files, PutFail, Sink};
 use std::alloc::Global;
 

@@ -83,10 +83,13 @@ fn is_answered(
     let mut output = SureSink::new(Bytes::new(alloc));
     let words = words(alloc, ["match", "q", "m"].as_slice())?;
     let ended = top(alloc, &words, &mut files, &mut output);
+    if ended == Status::Memory {
+        return Err(Memory);
+    }
     Ok(ended == status && output.bytes() == wanted.as_bytes())
 }
 
-const HITS: [(&str, &str, &str, &str); 20] = [
+const HITS: [(&str, &str, &str, &str); 22] = [
     (
         "two maps of C-O",
         CO,
@@ -165,6 +168,18 @@ const HITS: [(&str, &str, &str, &str); 20] = [
         "no LF behind the last line",
         C,
         "\n\n\n  1  0\n                               C\nM  END",
+        "hit 1 choice map 1\nend\n",
+    ),
+    (
+        "a line that ends the record",
+        C,
+        "\n\n\n  1  0\n                               C\nM  END\n$$$$\n",
+        "hit 1 choice map 1\nend\n",
+    ),
+    (
+        "data lines and a separator with text behind it",
+        C,
+        "\n\n\n  1  0\n                               C\nM  END\n>  <name>\nx $$$$\n\n$$$$ end\n",
         "hit 1 choice map 1\nend\n",
     ),
     (
@@ -284,28 +299,28 @@ const REFUSALS: [(&str, &str, &str, &str); 21] = [
         "refused 11 records 0\n",
     ),
     (
-        "a line that ends a record",
-        C,
-        "\n\n\n  1  0\n                               C\nM  END\n$$$$\n",
-        "refused 12 unbuilt\n",
-    ),
-    (
         "two records",
         C,
         "\n\n\n  1  0\n                               C\nM  END\n$$$$\n\n\n\n  1  0\n                               O\nM  END\n",
-        "refused 12 unbuilt\n",
+        "refused 11 records 2\n",
     ),
     (
-        "data lines",
+        "two records, the first of which fails a check",
         C,
-        "\n\n\n  1  0\n                               C\nM  END\n>  <name>\nx\n\n",
-        "refused 12 unbuilt\n",
+        "\n\n\n  1  0\n                               Xx\nM  END\n$$$$\n\n\n\n  0\nM  END\n$$$$\n",
+        "refused 11 records 2\n",
     ),
     (
-        "a second record that is bad",
+        "a second record that is cut",
         C,
         "\n\n\n  1  0\n                               Xx\nM  END\n$$$$\n\nx\n",
-        "refused 12 unbuilt\n",
+        "refused 2 molecules line 10\n",
+    ),
+    (
+        "V3000 in a second record",
+        C,
+        "\n\n\n  0\nM  END\n$$$$\n\n\n\n  0  0  0     0  0            999 V3000\n",
+        "refused 2 molecules v3000 line 10\n",
     ),
     ("a query of no byte", "", COC, "refused 12 unbuilt\n"),
     (
@@ -341,27 +356,51 @@ fn files_have_their_refusals(rt: HostRuntime) -> Result<(), Fail> {
     Ok(())
 }
 
-// A file of so many blanks.
-fn long_file(alloc: Global, name: &str, bytes: usize) -> Result<FileRow, Memory> {
+// A file of so many bytes that are all this one.
+fn long_file(alloc: Global, name: &str, byte: u8, bytes: usize) -> Result<FileRow, Memory> {
     Ok(FileRow {
         name: Text::of(String::from_str(alloc, name)?),
-        bytes: Bytes::of(vec![in alloc; b' '; bytes]?),
+        bytes: Bytes::of(vec![in alloc; byte; bytes]?),
     })
 }
 
-const LONG_QUERIES: [(&str, usize, &str); 2] = [
-    ("a query over its limit", 4_194_305, "refused 4 query\n"),
-    ("a query at its limit", 4_194_304, "refused 12 unbuilt\n"),
+const LONG_QUERIES: [(&str, u8, usize, &str); 3] = [
+    (
+        "a query over its limit",
+        b' ',
+        4_194_305,
+        "refused 4 query\n",
+    ),
+    (
+        "a query of one line at its limit",
+        b' ',
+        4_194_304,
+        "refused 12 unbuilt\n",
+    ),
+    (
+        "a query of many lines at its limit",
+        b'\n',
+        4_194_304,
+        "refused 12 unbuilt\n",
+    ),
 ];
 
-const LONG_MOLECULES: [(&str, usize, &str); 2] = [
+const LONG_MOLECULES: [(&str, u8, usize, &str); 3] = [
     (
         "molecules over their limit",
+        b' ',
         67_108_865,
         "refused 4 molecules\n",
     ),
     (
-        "molecules at their limit",
+        "one line at the limit of molecules",
+        b' ',
+        67_108_864,
+        "refused 11 records 0\n",
+    ),
+    (
+        "many lines at the limit of molecules",
+        b'\n',
         67_108_864,
         "refused 11 records 0\n",
     ),
@@ -370,19 +409,19 @@ const LONG_MOLECULES: [(&str, usize, &str); 2] = [
 #[test]
 fn files_over_their_limit_are_refused(rt: HostRuntime) -> Result<(), Fail> {
     let alloc = rt.alloc();
-    for (name, bytes, wanted) in LONG_QUERIES.iter() {
+    for (name, byte, bytes, wanted) in LONG_QUERIES.iter() {
         let mut rows = FileRows::new(alloc);
-        rows.push(long_file(alloc, "q", *bytes)?)?;
+        rows.push(long_file(alloc, "q", *byte, *bytes)?)?;
         rows.push(file(alloc, "m", CO)?)?;
         assert!(rt;
             is_answered(alloc, rows, wanted, Status::Refused)?,
             "{name}"
         );
     }
-    for (name, bytes, wanted) in LONG_MOLECULES.iter() {
+    for (name, byte, bytes, wanted) in LONG_MOLECULES.iter() {
         let mut rows = FileRows::new(alloc);
         rows.push(file(alloc, "q", CO)?)?;
-        rows.push(long_file(alloc, "m", *bytes)?)?;
+        rows.push(long_file(alloc, "m", *byte, *bytes)?)?;
         assert!(rt;
             is_answered(alloc, rows, wanted, Status::Refused)?,
             "{name}"
@@ -407,6 +446,7 @@ fn other_words_are_not_understood(rt: HostRuntime) -> Result<(), Fail> {
         let mut output = SureSink::new(Bytes::new(alloc));
         let words = words(alloc, line)?;
         let ended = top(alloc, &words, &mut files, &mut output);
+        assert!(rt; ended != Status::Memory, "want of memory");
         assert!(rt; ended == Status::Words);
         assert!(rt; output.bytes() == b"words not understood\n".as_slice());
     }
@@ -432,6 +472,9 @@ fn run_failing(
     let mut output = MemSink::new(Bytes::new(alloc), failing(alloc, put)?);
     let words = words(alloc, ["match", query, "m"].as_slice())?;
     let ended = top(alloc, &words, &mut files, &mut output);
+    if ended == Status::Memory {
+        return Err(Memory);
+    }
     assert!(rt; ended == status);
     assert!(rt; output.bytes().is_empty());
     Ok(())
@@ -455,6 +498,7 @@ fn a_refused_query_is_the_only_file_read(rt: HostRuntime) -> Result<(), Fail> {
     let mut output = SureSink::new(Bytes::new(alloc));
     let words = words(alloc, ["match", "q", "none"].as_slice())?;
     let ended = top(alloc, &words, &mut files, &mut output);
+    assert!(rt; ended != Status::Memory, "want of memory");
     assert!(rt; ended == Status::Refused);
     assert!(rt; output.bytes() == b"refused 12 unbuilt\n".as_slice());
     Ok(())

@@ -1,6 +1,6 @@
 use Rattle.std.proofs.Common.{map}
 use Rattle.std.specs.String.{string_bytes}
-use Rattle.mk_session.specs.Running.{is_match}
+use Rattle.mk_session.specs.Run.{is_match}
 use Rattle.mk_session.proofs.HeadlineLemmas.{whole, cut, leaves_whole}
 use Rattle.mk_session.proofs.running.top.Goals as goal
 
