@@ -1,9 +1,15 @@
 //! The program `markush`: the words of the command line, the real files and the real output, handed to `top`.
 #![tactic(auto)]
 
-use mk_outside::{DiskFiles, StdSink};
+ghost use Rattle.std.specs.Prelude.{◌≡◌};
+ghost use Rattle.std.specs.IoError.{error_kind};
+ghost use Rattle.std.specs.Process.{exit_status};
+ghost use Rattle.mk_outside.specs.Causes.{cause_of};
+ghost use Rattle.mk_session.specs.Status.{code_of};
+ghost use Rattle.markush.specs.Exits.{code_without_words};
+
+use mk_outside::{Cause, DiskFiles, StdSink, cause_of};
 use mk_session::{Status, top};
-use std::io::ErrorKind;
 use std::process::ExitCode;
 use std::{env, io};
 
@@ -11,23 +17,38 @@ use std::{env, io};
 const NO_WORDS: u8 = 9;
 
 fn main(rt: HostRuntime) -> ExitCode {
-    let words = match words_of(&rt) {
-        Ok(words) => words,
-        Err(error) => {
-            return ExitCode::from(match error.kind() {
-                ErrorKind::OutOfMemory => Status::Memory.code(),
-                _ => NO_WORDS,
-            });
-        }
-    };
-    let mut files = DiskFiles::new(rt);
-    let mut output = StdSink::new(&rt);
-    let status = top(rt.alloc(), &words, &mut files, &mut output);
-    ExitCode::from(status.code())
+    match words_of(&rt) {
+        Ok(words) => exit_of(run(rt, &words)),
+        Err(error) => exit_without_words(&error),
+    }
 }
 
 // The words behind the program's name.
 fn words_of(rt: &HostRuntime) -> io::Result<Vec<String>> {
     let words = env::args(rt)?.skip(1).collect(rt.alloc())?;
     Ok(words)
+}
+
+// Does what the words say with the real files and the real output.
+fn run(rt: HostRuntime, words: &[String]) -> Status {
+    let mut files = DiskFiles::new(rt);
+    let mut output = StdSink::new(&rt);
+    top(rt.alloc(), words, &mut files, &mut output)
+}
+
+// How the program ends after a run.
+fn exit_of(status: Status) -> ExitCode
+    ensures { exit_status result ≡ code_of status }
+{
+    ExitCode::from(status.code())
+}
+
+// How the program ends where the words of the command line can't be had.
+fn exit_without_words(error: &io::Error) -> ExitCode
+    ensures { exit_status result ≡ code_without_words (cause_of (error_kind error.now)) }
+{
+    ExitCode::from(match cause_of(error) {
+        Cause::Memory => Status::Memory.code(),
+        _ => NO_WORDS,
+    })
 }

@@ -186,7 +186,7 @@ keeps lines t table =
     }
 
 -- it has fewer properties than lines
-few_properties : (lines : List Line) (t : RawTable) → IsTable lines t → length t.props < length lines
+pub few_properties : (lines : List Line) (t : RawTable) → IsTable lines t → length t.props < length lines
 few_properties lines t table =
     let properties = table.properties in
     let end = table.property_lines ++ table.last_line ∷ [] in

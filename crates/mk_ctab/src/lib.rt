@@ -59,6 +59,7 @@ pub use raw::{
     Properties, RawAtom, RawAtoms, RawBond, RawBonds, RawList, RawLists, RawTable, Signed,
 };
 pub use table_reading::read_table;
+pub use table_walk::molfile_from;
 pub use values::{are_for_atoms, has_known_values, have_values, names_atoms};
 pub use writing::write_table;
 pub use writing_laws::spelling_is_read;

@@ -5,6 +5,7 @@ ghost use Rattle.mk_text.specs.Lines.{lines_of};
 ghost use Rattle.mk_form.specs.Lines.{line as one_line, counts_line};
 ghost use Rattle.mk_form.specs.Rows.{rows, any_lines};
 ghost use Rattle.mk_props.specs.Reading.{property_of};
+ghost use Rattle.mk_ctab.specs.Molfile.{molfile_at};
 ghost use Rattle.mk_ctab.specs.TableLines.{is_v3000, counts_of, raw_atom_of, raw_bond_of, list_of};
 ghost use Rattle.mk_ctab.specs.TableReading.{AnswersProperty, properties_part, table_at};
 ghost use Rattle.mk_ctab.specs.TableWalk.{AnswersAt, AnswersPast};
@@ -190,9 +191,9 @@ fn properties_from(
     Err(TableFault::Bad { line: at.line + 1 })
 }
 
-/// Reads the table that begins there, and gives where the line behind its `M  END` begins. The lines that a fault names
-/// count from 1, in the whole text.
-pub fn table_from(
+// Reads the table that begins there, and gives where the line behind its `M  END` begins. The lines that a fault names
+// count from 1, in the whole text.
+fn table_from(
     alloc: Global,
     text: &[u8],
     at: LineStart,
@@ -213,4 +214,18 @@ pub fn table_from(
         props,
     };
     Ok((table, next))
+}
+
+/// Reads the molfile that begins there, which is three header lines and a table, and gives where the line behind its
+/// `M  END` begins. The lines that a fault names count from 1, in the whole text.
+pub fn molfile_from(
+    alloc: Global,
+    text: &[u8],
+    at: LineStart,
+) -> Result<(RawTable, LineStart), TableFault>
+    requires { IsLineStart text.now at }
+    ensures { AnswersAt text.now result (molfile_at (drop at.line (lines_of text.now))) }
+{
+    let behind = pass_over(text, at, 3)?;
+    table_from(alloc, text, behind)
 }

@@ -1,26 +1,22 @@
 -- Drawn bonds in order are a graph, and with the marks of mk_rings they make molecules.
 --     graph-in_order       bonds in order are a graph
---     edges-marked         bonds that are edges with their marks are these edges
 --     molecule-built, sketch-built      what the builders of tests make
-use Rattle.std.proofs.Common.{◌≡◌, ◌≤◌, ◌<◌, ◌∙◌, ℕ, Bool, true, false, List, ap, sym, subst, ⊎_elim, length, get_or, map, arith}
-use Rattle.std.specs.Prelude.{◌↔◌, All, IsTrue}
+use Rattle.std.proofs.Common.{◌≡◌, ◌≤◌, ◌<◌, ℕ, List, Some, ap, subst, ⊎_elim, length, get_or, arith}
+use Rattle.std.specs.Prelude.{All, slice_get}
 use Rattle.std.proofs.lemmas.Bool.{cases_order}
-use Rattle.std.proofs.lemmas.List.{length-map, get_or-map, get_or_default, same_lists}
-use Rattle.std.proofs.lemmas.Option.{slice_get_cases, slice_get_within, get_or_from_slice_get}
+use Rattle.std.proofs.lemmas.List.{length-map, get_or-map}
+use Rattle.std.proofs.lemmas.Option.{slice_get_within, get_or_from_slice_get}
 use Rattle.mk_model.specs.declared.edge.Edge.{Edge}
 use Rattle.mk_model.specs.declared.graph.GraphAtom.{GraphAtom}
 use Rattle.mk_model.specs.declared.graph.GraphBond.{GraphBond}
 use Rattle.mk_model.specs.declared.molecule.Atom.{Atom}
 use Rattle.mk_model.specs.declared.molecule.MolBond.{MolBond}
-use Rattle.mk_model.specs.Aromatic.{IsAromatic}
 use Rattle.mk_model.specs.Edges.{HasEnds, IsSimple, Joins}
 use Rattle.mk_model.specs.Graphs.{graph_edge, graph_edges, IsUnmarked}
-use Rattle.mk_model.specs.Molecules.{edge_of, edges, IsElement, IsMolecule}
-use Rattle.mk_model.specs.Rings.{IsRingBond}
+use Rattle.mk_model.specs.Molecules.{HasMarks, edge_of, edges, IsElement, IsMolecule}
 use Rattle.mk_model.specs.Tests.{IsBondInRange, IsTestInRange}
-use Rattle.mk_model.proofs.PlaceLemmas.{all_mapped}
-use Rattle.mk_rings.specs.Marks.{Marks}
-use Rattle.mk_fixtures.specs.Fixtures.{AreInOrder, AreMarked, IsEdgeOf, IsEdgeBefore}
+use Rattle.mk_model.proofs.ForCallers.{all_mapped}
+use Rattle.mk_fixtures.specs.Fixtures.{AreInOrder, IsEdgeOf, IsEdgeBefore}
 
 -- ---- bonds in order
 
@@ -58,51 +54,22 @@ graph-in_order atoms bonds are = record {
         (λ ne. ⊎_elim (λ below. absurd (apart b c x y j k below)) (λ above. absurd (apart c b x y k j above)) ne)
         (cases_order b c)
 
--- ---- marks
-
--- bonds that are edges with their marks are these edges
-pub edges-marked : (drawn : List Edge) (rings aromatics : List Bool) (bonds : List MolBond) → length bonds ≡ length drawn → AreMarked drawn rings aromatics bonds → edges bonds ≡ drawn
-edges-marked drawn rings aromatics bonds size are =
-    same_lists (map edge_of bonds) drawn (length-map bonds edge_of ∙ size)
-    (λ k d below. ⊎_elim
-    (λ found.
-    let bond = found.0 in
-    let is = are k bond found.1 in
-    let here : get_or bonds k bond ≡ bond = found.3 in
-    let there : get_or drawn k (edge_of bond) ≡ edge_of bond = rw here at is.edge_is in
-    get_or-map edge_of bonds k bond d found.1 ∙ ap edge_of here ∙ sym there ∙ get_or_default drawn k (edge_of bond) d (omega (arith, found.1, size)))
-    (λ past. absurd (omega (arith, past.0, below, length-map bonds edge_of)))
-    ((slice_get_cases bonds k).1))
-
--- a mark says of the bond what it says of the edge
-mark-said : (P : ℕ → Type 0) (said : Bool) (drawn : List Edge) (marks : List Bool) (b : ℕ) → Marks P drawn marks → b < length drawn → get_or marks b false ≡ said → IsTrue said ↔ P b
-mark-said P said drawn marks b are below is =
-    let Q : Bool → Type 0 = λ m. (m ≡ true) ↔ P b in
-    subst Q is (are.each b below)
-
 -- ---- what is built
 
 -- a molecule of atoms that are elements and of bonds in order
-pub molecule-built : (count : ℕ) (atoms : List Atom) (drawn : List Edge) (rings aromatics : List Bool) (bonds : List MolBond) → count ≡ length atoms → length atoms ≤ 512 → length drawn ≤ 9999 → All (λ atom. IsElement atom.element) atoms → AreInOrder count drawn → Marks (IsRingBond drawn) drawn rings → Marks (IsAromatic drawn) drawn aromatics → length bonds ≡ length drawn → AreMarked drawn rings aromatics bonds → IsMolecule (record { written = count; atoms = atoms; bonds = bonds })
-molecule-built count atoms drawn rings aromatics bonds is_count few few_bonds elements order rings_are aromatics_are size marked =
-    let same : edges bonds ≡ drawn = edges-marked drawn rings aromatics bonds size marked in
-    record {
-      written = omega arith;
-      few_atoms = omega arith;
-      few_bonds = omega arith;
-      elements = elements;
-      graph = rw (same, ← is_count) (graph-in_order count drawn order);
-      marks = λ b bond at.
-          let here = rw (get_or_from_slice_get bonds b bond bond at) at (marked b bond (slice_get_within bonds b bond at)) in
-          let below : b < length drawn = omega (arith, slice_get_within bonds b bond at) in
-          rw same (record {
-            ring = mark-said (IsRingBond drawn) bond.ring drawn rings b rings_are below here.ring_is;
-            aromatic = mark-said (IsAromatic drawn) bond.aromatic drawn aromatics b aromatics_are below here.aromatic_is;
-          });
-    }
+pub molecule-built : (count : ℕ) (atoms : List Atom) (drawn : List Edge) (bonds : List MolBond) → count ≡ length atoms → length atoms ≤ 512 → length drawn ≤ 9999 → All (λ atom. IsElement atom.element) atoms → AreInOrder count drawn → edges bonds ≡ drawn
+    → ((b : ℕ) (bond : MolBond) → slice_get bonds b ≡ Some bond → HasMarks drawn b bond) → IsMolecule (record { written = count; atoms = atoms; bonds = bonds })
+molecule-built count atoms drawn bonds is_count few few_bonds elements order same marks = record {
+  written = omega arith;
+  few_atoms = omega arith;
+  few_bonds = omega (arith, length-map bonds edge_of, ap length same);
+  elements = elements;
+  graph = rw (same, ← is_count) (graph-in_order count drawn order);
+  marks = λ b bond at. rw same (marks b bond at);
+}
 
 -- a sketch of atoms and bonds whose tests are in range
-pub sketch-built : (atoms : List GraphAtom) (bonds : List GraphBond) → length atoms ≤ 512 → All (λ atom. IsTestInRange atom.test) atoms → All IsBondInRange bonds → AreInOrder (length atoms) (graph_edges bonds) → IsUnmarked (record { atoms = atoms; bonds = bonds })
+pub sketch-built : (atoms : List GraphAtom) (bonds : List GraphBond) → length atoms ≤ 512 → All (λ atom. IsTestInRange atom.test) atoms → All (λ bond. IsBondInRange bond.kind bond.topology) bonds → AreInOrder (length atoms) (graph_edges bonds) → IsUnmarked (record { atoms = atoms; bonds = bonds })
 sketch-built atoms bonds few tests bond_tests order = record {
   few = few;
   tests = tests;

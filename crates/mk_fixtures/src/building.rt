@@ -1,14 +1,14 @@
 // Molecules and graphs, and the tests that what is drawn is one.
-ghost use Rattle.std.specs.Prelude.{◌≡◌, All, IfOk, IsTrue, length};
+ghost use Rattle.std.specs.Prelude.{◌≡◌, All, IfOk, IsTrue};
 ghost use Rattle.mk_model.specs.Molecules.{edges, IsElement};
 ghost use Rattle.mk_model.specs.Tests.{IsBondInRange, IsKindInRange, IsListOfElements, IsTestInRange};
 ghost use Rattle.mk_rings.specs.Bare.{bare_bonds};
-ghost use Rattle.mk_fixtures.specs.Fixtures.{AreInOrder, AreMarked, IsEdgeOf, IsEdgeBefore};
+ghost use Rattle.mk_fixtures.specs.Fixtures.{AreInOrder, IsEdgeOf, IsEdgeBefore};
 
 use mk_model::{
-    Atom, AtomTest, Edge, Graph, GraphAtom, GraphBond, Kind, Memory, Mol, MolBond, edges_of_graph,
+    Atom, AtomTest, Edge, Graph, GraphAtom, GraphBond, Kind, Mol, Neighbours, edges_of_graph,
 };
-use mk_rings::{aromatic_bonds, marked_graph, ring_bonds};
+use mk_rings::{marked_bonds, marked_graph};
 use std::alloc::Global;
 use std::test::Fail;
 
@@ -24,10 +24,9 @@ pub fn mol_of(alloc: Global, atoms: Vec<Atom>, drawn: &[Edge]) -> Result<Mol, Fa
     if drawn.len() > 9999 || !are_in_order(count, drawn) {
         return Err(Fail::from("a molecule's bonds"));
     }
-    let rings = ring_bonds(alloc, count, drawn)?;
-    let aromatics = aromatic_bonds(alloc, count, drawn)?;
-    let bonds = mol_bonds(alloc, drawn, &rings, &aromatics)?;
-    Ok(Mol::of(alloc, count, atoms, bonds)?)
+    let near = Neighbours::of(alloc, count, drawn)?;
+    let bonds = marked_bonds(alloc, &near, count, drawn)?;
+    Ok(Mol::over(count, atoms, bonds, near))
 }
 
 /// Builds a graph. Each bond is drawn with its lower end first, and the bonds in order. Its marks may be any.
@@ -43,31 +42,6 @@ pub fn graph_of(alloc: Global, atoms: Vec<GraphAtom>, bonds: Vec<GraphBond>) -> 
         return Err(Fail::from("a graph's bonds"));
     }
     Ok(marked_graph(alloc, atoms, bonds)?)
-}
-
-// The bonds with their marks.
-fn mol_bonds(
-    alloc: Global,
-    edges: &[Edge],
-    rings: &[bool],
-    aromatics: &[bool],
-) -> Result<Vec<MolBond>, Memory>
-    requires rings { length rings.now ≡ length edges.now }
-    requires aromatics { length aromatics.now ≡ length edges.now }
-    ensures size { IfOk result (λ bonds. length bonds.items ≡ length edges.now) }
-    ensures marks { IfOk result (λ bonds. AreMarked edges.now rings.now aromatics.now bonds.items) }
-{
-    let mut bonds = Vec::new(alloc);
-    for b in 0..edges.len() {
-        bonds.push(MolBond {
-            first: edges[b].first,
-            second: edges[b].second,
-            kind: edges[b].kind,
-            ring: rings[b],
-            aromatic: aromatics[b],
-        })?;
-    }
-    Ok(bonds)
 }
 
 // The ends of each bond are atoms, the lower one first, and each bond stands before those behind it.
@@ -108,7 +82,7 @@ fn have_elements(atoms: &[Atom]) -> bool
 }
 
 fn have_bond_tests(bonds: &[GraphBond]) -> bool
-    ensures { IsTrue result → All IsBondInRange bonds.now }
+    ensures { IsTrue result → All (λ bond. IsBondInRange bond.kind bond.topology) bonds.now }
 {
     for bond in bonds {
         if bond.kind < 1 || bond.kind > 8 {

@@ -11,12 +11,12 @@ abbrev pub with_front : {L X : Type 0} → List X → Reading L (List X) → Rea
 with_front front reading = and_then reading (λ xs. Took (front ++ xs))
 
 -- nothing before what is read
-front_none : {L X : Type 0} (reading : Reading L (List X)) → with_front [] reading ≡ reading
+pub front_none : {L X : Type 0} (reading : Reading L (List X)) → with_front [] reading ≡ reading
 front_none (Took xs rest) = refl
 front_none (Stop n rest) = refl
 
 -- one more before what is read
-front_more : {L X : Type 0} (front : List X) (x : X) (reading : Reading L (List X)) → with_front front (and_then reading (λ xs. Took (x ∷ xs))) ≡ with_front (front ++ x ∷ []) reading
+pub front_more : {L X : Type 0} (front : List X) (x : X) (reading : Reading L (List X)) → with_front front (and_then reading (λ xs. Took (x ∷ xs))) ≡ with_front (front ++ x ∷ []) reading
 front_more {X = X} front x (Took xs rest) = ap (λ (ys : List X). Took ys rest) (sym (append_assoc front (x ∷ []) xs))
 front_more front x (Stop n rest) = refl
 

@@ -27,6 +27,11 @@ pub each-at : {L : Type 0} (b : L → Bool) (t : Bool) (front more : List L) (l 
 each-at b t [] more l h = h.0
 each-at b t (x ∷ front) more l h = each-at b t front more l h.1
 
+-- one more line that says it
+pub each-push : {L : Type 0} (b : L → Bool) (t : Bool) (lines : List L) (l : L) → EachIs b t lines → b l ≡ t → EachIs b t (lines ++ l ∷ [])
+each-push b t [] l h e = (e, tt)
+each-push b t (x ∷ lines) l h e = (h.0, each-push b t lines l h.1 e)
+
 -- lines that may be anything pass a test that always passes
 pub each-any : {L : Type 0} (lines : List L) → EachIs (λ _. true) true lines
 each-any [] = tt

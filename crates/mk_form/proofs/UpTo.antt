@@ -242,3 +242,21 @@ same_up_to {L} {V} b r s (l ∷ lines) same =
     -- two choices by one test are one where their sides are
     same_cond : {A : Type 0} (t : Bool) (x y z w : A) → x ≡ z → y ≡ w → cond t x y ≡ cond t z w
     same_cond t x y z w e f = rw (e, f) refl
+
+-- ---- what is read of lines up to a separator, where it is known where that stands
+
+-- two steps that only put a value into another are one
+pub put_twice : {L V W X : Type 0} (reading : Reading L V) (f : V → W) (g : W → X) → and_then (and_then reading (λ v. Took (f v))) (λ w. Took (g w)) ≡ and_then reading (λ v. Took (g (f v)))
+put_twice (Took v rest) f g = refl
+put_twice (Stop n rest) f g = refl
+
+-- the separator is the first line that passes
+pub up_to_separator : {L V : Type 0} (b : L → Bool) (s : List L → Reading L V) (before rest : List L) (l : L) → EachIs b false before → b l ≡ true → read_up_to b s (before ++ l ∷ rest) ≡ and_then (s rest) (λ v. Took (before, Some v))
+up_to_separator b s [] rest l none e = rw e refl
+up_to_separator {L} {V} b s (x ∷ before) rest l none e =
+    rw none.0 (ap (λ (r : Reading L (List L × Option V)). let w : Reading L (List L × Option V) = and_then r (λ d. Took (x ∷ d.0, d.1)) in w) (up_to_separator b s before rest l none.1 e) ∙ put_twice (s rest) (λ v. (before, Some v)) (λ d. (x ∷ d.0, d.1)))
+
+-- and no line passes
+pub up_to_end : {L V : Type 0} (b : L → Bool) (s : List L → Reading L V) (lines : List L) → EachIs b false lines → read_up_to b s lines ≡ Took (lines, None) []
+up_to_end b s [] none = refl
+up_to_end {L} {V} b s (x ∷ lines) none = rw none.0 (ap (λ (r : Reading L (List L × Option V)). let w : Reading L (List L × Option V) = and_then r (λ d. Took (x ∷ d.0, d.1)) in w) (up_to_end b s lines none.1))

@@ -1,6 +1,7 @@
 -- The first atoms of a hit, one after another.
 --     begun_more        what may stand behind the first atoms goes on with them
 --     hit_begins        each atom of a hit may stand behind those before it
+--     begun_less        and without its last atoms they are begun too
 --     begun_whole       as many atoms as the graph has are a hit
 use Rattle.std.proofs.Common.{◌≡◌, ◌≢◌, ℕ, suc, ◌+◌, ◌<◌, ◌≤◌, ◌-◌, inl, inr, List, [], ◌∷◌, ◌++◌, length, get_or, refl, sym, subst, ◌∙◌, arith, All, length-append}
 use Rattle.std.proofs.lemmas.Bool.{cases_lt}
@@ -9,11 +10,14 @@ use Rattle.std.proofs.Math.Seq.{get_or-append_seam}
 use Rattle.std.proofs.lemmas.List.Elements.{All-push}
 use Rattle.std.proofs.lemmas.List.Quantifiers.{all_pairs_push}
 use Rattle.mk_model.specs.declared.graph.GraphBond.{GraphBond}
-use Rattle.mk_model.specs.Molecules.{Molecule}
-use Rattle.mk_model.specs.Graphs.{GraphView}
+use Rattle.mk_model.specs.Molecules.{IsMolecule, Molecule}
+use Rattle.mk_model.specs.Graphs.{GraphView, IsGraph}
 use Rattle.mk_model.specs.Fitting.{FitsAtom, LiesOn}
 use Rattle.mk_model.specs.Hits.{image, IsHit}
-use Rattle.mk_match.specs.Search.{IsBegun, MayStand}
+use Rattle.mk_model.proofs.ForCallers.{drawn_first}
+use Rattle.mk_match.specs.Begun.{IsBegun, MayStand}
+use Rattle.mk_match.specs.Table.{MayLie}
+use Rattle.mk_match.proofs.BondCountLemmas.{may_lie}
 
 -- the images of the first atoms stay
 image_first : (first others : List ℕ) (x : ℕ) → 1 ≤ x → x ≤ length first → image (first ++ others) x ≡ image first x
@@ -47,7 +51,7 @@ module _ (graph : GraphView) (mol : Molecule) (first : List ℕ) (a : ℕ) where
         | inl last ↦
             let is : x ≡ length first + 1 = omega (arith, one_longer first a) in
             let Q : ℕ → Type 0 = λ n. FitsAtom graph mol n a in
-            subst P (sym (image_next first [] a x is)) (subst Q (sym is) stands.fits)
+            subst P (sym (image_next first [] a x is)) (subst Q (sym is) stands.fits.fits)
         | inr early ↦ subst P (sym (image_first first (a ∷ []) x least early)) (begun.atoms x least early)
       ]
 
@@ -84,19 +88,21 @@ module _ (graph : GraphView) (mol : Molecule) (first : List ℕ) (a : ℕ) where
   -- ---- the atoms of a hit
 
   -- a hit goes on behind the first atoms with one of the molecule that may stand there
-  pub hit_begins : All (λ bond. bond.first < bond.second) graph.bonds → All (λ bond. 1 ≤ bond.first) graph.bonds → (others : List ℕ) → IsHit graph mol (first ++ (a ∷ others))
+  pub hit_begins : IsGraph graph → IsMolecule mol → (others : List ℕ) → IsHit graph mol (first ++ (a ∷ others))
       → MayStand graph mol first a × (1 ≤ a) × (a ≤ length mol.atoms)
-  hit_begins lower least others hit =
+  hit_begins drawing molecule others hit =
+      let lower = drawing.sketch.lower_first in
+      let least = drawn_first graph drawing in
       let long : length (first ++ (a ∷ others)) ≡ length first + suc (length others) = length-append first (a ∷ others) in
       let here : get_or (first ++ (a ∷ others)) (length first) 0 ≡ a = get_or-append_seam first a others 0 in
       let below : length first < length (first ++ (a ∷ others)) = omega arith in
       let P : ℕ → Type 0 = λ n. (1 ≤ n) × (n ≤ length mol.atoms) in
       let in_range : (1 ≤ a) × (a ≤ length mol.atoms) = subst P here (hit.within (length first) 0 below) in
-      let Q : ℕ → Type 0 = λ n. FitsAtom graph mol (length first + 1) n in
+      let Q : ℕ → Type 0 = λ n. MayLie graph mol (length first + 1) n in
       let up_to : length first + 1 ≤ length graph.atoms = omega (arith, hit.one_each) in
       let from : 1 ≤ length first + 1 = omega arith in (
         record {
-          fits = subst Q (image_next first others a (length first + 1) refl) (hit.atoms (length first + 1) from up_to);
+          fits = subst Q (image_next first others a (length first + 1) refl) (may_lie graph mol (first ++ (a ∷ others)) (length first + 1) drawing molecule hit from up_to);
           new = λ k d within same.
               hit.distinct k (length first) d within below
               (get_or-append first (a ∷ others) d k within ∙ same ∙ sym (get_or-append_seam first a others d));
@@ -110,6 +116,36 @@ module _ (graph : GraphView) (mol : Molecule) (first : List ℕ) (a : ℕ) where
         in_range.0,
         in_range.1,
       )
+
+-- ---- one atom less
+
+-- what may begin a hit may do so without its last atoms
+pub begun_less : (graph : GraphView) (mol : Molecule) (first others : List ℕ) → All (λ bond. bond.first < bond.second) graph.bonds → All (λ bond. 1 ≤ bond.first) graph.bonds → IsBegun graph mol (first ++ others) → IsBegun graph mol first
+begun_less graph mol first others lower least begun =
+    let long = length-append first others in
+    record {
+      short = omega (arith, begun.short);
+      within = λ k d within.
+          (let P : ℕ → Type 0 = λ n. (1 ≤ n) × (n ≤ length mol.atoms) in
+          let below : k < length (first ++ others) = omega arith in
+          subst P (get_or-append first others d k within) (begun.within k d below));
+      distinct = λ i j d order within.
+          (let below : j < length (first ++ others) = omega arith in
+          let early : i < length first = omega arith in
+          λ same. begun.distinct i j d order below (get_or-append first others d i early ∙ same ∙ sym (get_or-append first others d j within)));
+      atoms = λ x from to.
+          (let P : ℕ → Type 0 = λ n. FitsAtom graph mol x n in
+          let up_to : x ≤ length (first ++ others) = omega arith in
+          subst P (image_first first others x from to) (begun.atoms x from up_to));
+      bonds = λ k d within up_to.
+          (let bond : GraphBond = get_or graph.bonds k d in
+          let less : bond.first < bond.second = lower k d within in
+          let from : 1 ≤ bond.first = least k d within in
+          let early : bond.first ≤ length first = omega arith in
+          let from' : 1 ≤ bond.second = omega arith in
+          let within_all : bond.second ≤ length (first ++ others) = omega arith in
+          lies_by mol bond _ _ _ _ (image_first first others bond.first from early) (image_first first others bond.second from' up_to) (begun.bonds k d within within_all));
+    }
 
 -- ---- the whole
 

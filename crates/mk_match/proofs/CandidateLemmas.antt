@@ -12,10 +12,8 @@ use Rattle.mk_model.specs.declared.edge.Edge.{Edge}
 use Rattle.mk_model.specs.declared.molecule.MolBond.{MolBond}
 use Rattle.mk_model.specs.Edges.{HasEnds, numbers_at, touches}
 use Rattle.mk_model.specs.Molecules.{Molecule, edge_of, edges}
-use Rattle.mk_model.proofs.ForCallers.{IsNumberOf, numbers_at-all}
-use Rattle.mk_model.proofs.MoleculeLemmas.{touches-ends}
-use Rattle.mk_model.proofs.PlaceLemmas.{at_place}
-use Rattle.mk_match.specs.Search.{AreBonded, IsCandidate, IsLeastEnd, end_numbered, lesser_end}
+use Rattle.mk_model.proofs.ForCallers.{IsNumberOf, at_place, numbers_at-all, touches-ends}
+use Rattle.mk_match.specs.Candidates.{AreBonded, IsCandidate, IsLeastEnd, end_numbered, lesser_end}
 
 -- ---- one more end
 
@@ -85,7 +83,7 @@ bonded_end mol n b bonded =
     record { place = at.0; within = at.1; is = end_is mol.bonds bond _ k n b below here at.2 ends }
 
 -- the ends of a bond of an atom are the atom and its other end, by which comes first
-ends_by : (edge : Edge) (n : ℕ) (t : Bool) → eqb edge.first n ≡ t → touches n edge ≡ true → HasEnds edge n (cond t edge.second edge.first)
+pub ends_by : (edge : Edge) (n : ℕ) (t : Bool) → eqb edge.first n ≡ t → touches n edge ≡ true → HasEnds edge n (cond t edge.second edge.first)
 ends_by edge n true e touched = inl (grind (arith, nat_tests), refl)
 ends_by edge n false e touched = (let second : edge.second ≡ n = second_by e touched in inr (refl, second))
   where

@@ -7,7 +7,7 @@ use Rattle.std.specs.List.{list_all, list_any, AllByRecursion, AllPairs, Contain
 use Rattle.std.proofs.lemmas.Bool.{ne_eqb}
 use Rattle.std.proofs.lemmas.Bool.Decides.{nat_tests}
 use Rattle.std.proofs.lemmas.List.Kept.{AllPairs-cons}
-use Rattle.mk_text.proofs.TestLemmas.{both, and_true, not_true, neither, or_left, or_right}
+use Rattle.mk_text.proofs.ForCallers.{both, and_true, not_true, neither, or_left, or_right}
 use Rattle.mk_match.specs.Plain.{are_distinct}
 
 -- ---- one by one

@@ -4,8 +4,8 @@ use Rattle.std.proofs.Common.{◌≡◌, ℕ, zero, suc, ◌+◌, ◌-◌, ◌<�
 use Rattle.std.specs.Prelude.{slice_get}
 use Rattle.std.proofs.lemmas.Bool.Decides.{nat_tests}
 use Rattle.mk_text.specs.Choices.{IsPassed}
-use Rattle.mk_text.proofs.ChoiceLemmas.{law as choices_rise}
-use Rattle.mk_text.proofs.TestLemmas.{both, and_true, or_left, or_right}
+use Rattle.mk_text.proofs.ForCallers.{choices_that_pass as choices_rise}
+use Rattle.mk_text.proofs.ForCallers.{both, and_true, or_left, or_right}
 use Rattle.mk_model.specs.declared.edge.Edge.{Edge}
 use Rattle.mk_model.specs.declared.graph.GraphAtom.{GraphAtom}
 use Rattle.mk_model.specs.declared.graph.GraphBond.{GraphBond}
@@ -17,7 +17,7 @@ use Rattle.mk_model.specs.Graphs.{GraphView}
 use Rattle.mk_model.specs.Tests.{meets}
 use Rattle.mk_model.specs.Fitting.{FitsAtom, LiesOn}
 use Rattle.mk_model.specs.Hits.{image, IsHit}
-use Rattle.mk_tests.proofs.FitLemmas.{alone, around, fits_by, meets_around}
+use Rattle.mk_tests.proofs.ForCallers.{alone, around, fits_by, meets_around}
 use Rattle.mk_match.specs.Plain.{HitsAreListed, are_distinct, atoms_fit, bonds_fit, fits_atom, has_ends, hits_of, is_hit, lies_on, meets_some}
 use Rattle.mk_match.proofs.ListTestLemmas.{all_found, all_given, all_places, all_recursion, any_found, any_given, distinct_found, distinct_given}
 

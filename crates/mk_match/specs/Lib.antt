@@ -1,2 +1,11 @@
+pub mod Table
+pub mod Begun
+pub mod EarlierBonds
+pub mod Candidates
+pub mod Counts
+pub mod Walk
+pub mod Outlook
 pub mod Search
+pub mod Maps
+pub mod Lending
 pub mod Plain

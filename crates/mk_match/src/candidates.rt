@@ -4,9 +4,9 @@ ghost use Rattle.std.specs.Option.{ForSome};
 ghost use Rattle.mk_model.specs.declared.molecule.MolBond.{MolBond as Bond};
 ghost use Rattle.mk_model.specs.Edges.{numbers_at};
 ghost use Rattle.mk_model.specs.Molecules.{edges};
-ghost use Rattle.mk_match.specs.Search.{AreBonded, IsCandidate, IsLeastEnd, end_numbered, lesser_end};
+ghost use Rattle.mk_match.specs.Candidates.{AreBonded, IsCandidate, IsLeastEnd, end_numbered, lesser_end};
 
-use mk_model::{Mol, MolBond};
+use mk_model::Mol;
 
 /// The least candidate above a number.
 pub fn next_atom(mol: &Mol, anchor: Option<u32>, above: u32) -> Option<u32>
@@ -63,19 +63,9 @@ fn end_at(mol: &Mol, number: u32, atom: u32) -> u32
     ensures end { result ≡ end_numbered mol.now.bonds number atom }
     ensures within { result ≤ length mol.now.atoms }
 {
-    let bond = bond_numbered(mol, number);
+    let bond = mol.bond(number);
     if bond.first == atom {
         return bond.second;
     }
     bond.first
-}
-
-fn bond_numbered(mol: &Mol, number: u32) -> MolBond
-    requires least { 1 ≤ number }
-    requires most { number ≤ length mol.now.bonds }
-    ensures bond { slice_get mol.now.bonds (number - 1) ≡ Some result }
-    ensures first { result.first ≤ length mol.now.atoms }
-    ensures second { result.second ≤ length mol.now.atoms }
-{
-    mol.bonds()[number as usize - 1]
 }

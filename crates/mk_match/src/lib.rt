@@ -1,20 +1,27 @@
-//! The hits of one graph in one molecule, from a front on.
+//! The hits of one graph in one molecule, in rising order, from a front or a place on.
 //!
 //! Callers use one promise: `least_map` gives the least hit that isn't below a front, and None exactly where there is none
-//! (`IsHit` and `IsLeastFrom` in mk_model's `specs/Hits.antt`). It ticks exactly one begin.
+//! (`IsHit` in mk_model's `specs/Hits.antt`, `IsLeastFrom` in mk_text's `specs/Rising.antt`). `Maps` gives the hits from a place on,
+//! one after another, and its place (`specs/Maps.antt`). Either ticks exactly one begin.
 //!
-//! The search goes through the graph's atoms in order, which is the order of the hits. An atom with an earlier neighbour lies on
-//! a neighbour of that one's image, and these are tried in rising order. Only what is new is tested, and the first number tried
-//! at each atom is that of the front. Codes and libraries aren't known here.
+//! A walk goes through the graph's atoms in order, which is the order of the hits, and keeps its place in flat lists. Before an
+//! image is taken, a look ahead asks whether any hit begins so: it searches in an order of its own, and only its no is proved.
+//! So the walk never enters a part without a hit, and going back is left to the order that is good at it. Counts of elements come
+//! first, and which atom may lie on which is asked once for each pair. Codes and libraries aren't known here.
 #![tactic(auto)]
 
 mod candidates;
-mod fronts;
+mod counts;
+mod earlier_bonds;
 mod laws;
-mod searching;
-mod standing;
+mod maps;
+mod order;
+mod outlook;
+mod search;
+mod table;
 #[cfg(test)]
 mod tests;
+mod walk;
 
-pub use laws::hits_are_listed;
-pub use searching::least_map;
+pub use laws::{hits_are_listed, hits_are_taken_in_order};
+pub use maps::{Maps, least_map};

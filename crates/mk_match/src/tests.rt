@@ -1,10 +1,11 @@
 // The hits of small graphs in small molecules, and the search beside the plain program.
 ghost use Rattle.std.specs.Prelude.{◌≡◌, ◌<◌, length};
 
-use crate::least_map;
+use crate::{Maps, least_map};
 use mk_fixtures::{graph_of, mol_of};
 use mk_model::{
-    Atom, AtomTest, Edge, Elements, Graph, GraphAtom, GraphBond, Kind, Map, Memory, Mol, Steps,
+    Atom, AtomTest, Edge, Elements, Graph, GraphAtom, GraphBond, Kind, Map, Memory, Mol, Place,
+    Steps,
 };
 use mk_tests::{atom_fits, bond_fits};
 use std::alloc::Global;
@@ -147,6 +148,37 @@ fn fronts(rt: HostRuntime) -> Result<(), Fail> {
     Ok(())
 }
 
+#[test]
+fn taken_up(rt: HostRuntime) -> Result<(), Fail> {
+    let graph = query_of(rt.alloc(), CO, 0, 0)?;
+    let mol = molecule_of(rt.alloc(), COC)?;
+    let last = place_at_end::<Brand>(&rt, rt.alloc(), graph, &mol, &[1, 2, 0], Blank::new(1))?;
+    assert_eq!(rt; last.as_slice(), [3, 2, 0].as_slice());
+    Ok(())
+}
+
+// One hit is left from this place, and the place behind it.
+fn place_at_end<L: Ledger>(
+    rt: &impl Abort,
+    alloc: Global,
+    graph: Graph,
+    mol: &Mol,
+    place: &[u32],
+    blank: Blank,
+) -> Result<Place, Memory>
+    requires name { blank.name ≡ L.name }
+    requires parts { blank.parts ≡ L.parts }
+    requires one { 0 < L.parts }
+{
+    let mut steps = Steps::<L>::new(blank);
+    let mut maps = Maps::from_place(alloc, graph, mol, place, &mut steps)?;
+    let first = maps.place(alloc)?;
+    assert!(rt; first.as_slice() == place);
+    assert!(rt; maps.next().is_some());
+    assert!(rt; maps.next().is_none());
+    maps.place(alloc)
+}
+
 // ---- the search beside the plain program
 
 #[test]
@@ -156,21 +188,51 @@ fn the_search_agrees_with_the_plain_program(rt: HostRuntime) -> Result<(), Fail>
         let mol = mol_numbered(rt.alloc(), number)?;
         for other in 0..6u64 {
             let graph = graph_numbered(rt.alloc(), number.wrapping_mul(6).wrapping_add(other))?;
-            found = found.saturating_add(compare(&rt, rt.alloc(), &graph, &mol)?);
+            found = found.saturating_add(compare(&rt, rt.alloc(), graph, &mol)?);
         }
     }
     assert!(rt; found >= 100, "{found}");
     Ok(())
 }
 
-fn compare(rt: &impl Abort, alloc: Global, graph: &Graph, mol: &Mol) -> Result<usize, Memory> {
-    let hits = all_hits(alloc, graph, mol)?;
-    let plain = plain_hits(alloc, graph, mol)?;
+// The hits that are looked for one by one from the front, those that are taken one after another, and those of the plain program.
+fn compare(rt: &impl Abort, alloc: Global, graph: Graph, mol: &Mol) -> Result<usize, Memory> {
+    let hits = all_hits(alloc, &graph, mol)?;
+    let plain = plain_hits(alloc, &graph, mol)?;
     assert!(rt; hits.len() == plain.len(), "{graph:?} {mol:?}");
     for (hit, other) in hits.iter().zip(&plain) {
         assert!(rt; hit.as_slice() == other.as_slice(), "{graph:?} {mol:?}");
     }
+    let taken = hits_taken::<Brand>(alloc, graph, mol, &[], Blank::new(1))?;
+    assert!(rt; taken.len() == plain.len(), "{mol:?}");
+    for (hit, other) in taken.iter().zip(&plain) {
+        assert!(rt; hit.as_slice() == other.as_slice(), "{mol:?}");
+    }
     Ok(hits.len())
+}
+
+// All hits from a place on, taken one after another.
+fn hits_taken<L: Ledger>(
+    alloc: Global,
+    graph: Graph,
+    mol: &Mol,
+    place: &[u32],
+    blank: Blank,
+) -> Result<Vec<Map>, Memory>
+    requires name { blank.name ≡ L.name }
+    requires parts { blank.parts ≡ L.parts }
+    requires one { 0 < L.parts }
+{
+    let mut steps = Steps::<L>::new(blank);
+    let mut maps = Maps::from_place(alloc, graph, mol, place, &mut steps)?;
+    let mut hits = Vec::new(alloc);
+    for _ in 0..=360 {
+        let Some(hit) = maps.next() else {
+            return Ok(hits);
+        };
+        hits.push(Map::of(Vec::from_slice(alloc, hit)?))?;
+    }
+    Ok(hits)
 }
 
 // All hits, each looked for from the place behind the last. There are at most 360 of four atoms among six.
@@ -377,7 +439,12 @@ fn pairs(alloc: Global, atoms: u32) -> Result<Vec<(u32, u32)>, Memory> {
 // ---- graphs and molecules that are drawn
 
 // The graph of elements and bonds, with the ring-bond column of its first atom and the topology of all its bonds.
-fn query_of(alloc: Global, drawing: GraphView, ring_bonds: i8, topology: u8) -> Result<Graph, Fail> {
+fn query_of(
+    alloc: Global,
+    drawing: GraphView,
+    ring_bonds: i8,
+    topology: u8,
+) -> Result<Graph, Fail> {
     let mut atoms = Vec::new(alloc);
     for (x, z) in drawing.0.iter().enumerate() {
         let column = if x == 0 { ring_bonds } else { 0 };

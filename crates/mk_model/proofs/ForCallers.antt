@@ -7,13 +7,28 @@
 --     at_place, place_within, place_is, all_at, all_mapped     items of a list by their places
 --     touches-ends, touches-second     a bond touches its ends
 --     few_bonds                   a graph has fewer than 2^32 bonds
+--     simple_template             a template's bonds are a simple list of edges
+--     hangs .. hangs_closed       atoms that hang together; one_block: no atom is in two blocks
+--     none_in_itself .. one_sizing, ranked_by_size       templates with ranks, and their sizes
+--     one_choice, chooses_of .. standing_is, cut         codes as choices and from the left
+--     no_longer, code_is_short    how long codes are
+--     allows_is .. allowed_same, some_passes .. passes_all      the logic of groups
+--     codes_listed                the plain program lists the structural codes
 use Rattle.std.proofs.Common.{◌≡◌, ◌≤◌, ◌<◌, ◌+◌, ◌-◌, ℕ, zero, suc, Bool, true, false, cond, List, [], ◌∷◌, refl, length, get_or, take, arith}
 use Rattle.mk_model.specs.declared.edge.Edge.{Edge}
 use Rattle.mk_model.specs.Edges.{degree, numbers_from, numbers_at, touches}
-use Rattle.mk_model.proofs.DegreeLemmas.{get_or-numbers_from, degree_within}
-pub use Rattle.mk_model.proofs.DegreeLemmas.{length-numbers_from, length-rows_of, slice_get-rows_of, touches-first, touches-second, touches-ends, touches-other}
+use Rattle.mk_model.proofs.EdgesLemmas.{get_or-numbers_from, degree_within}
+pub use Rattle.mk_model.proofs.EdgesLemmas.{length-numbers_from, length-rows_of, slice_get-rows_of, touches-first, touches-second, touches-ends, touches-other}
 pub use Rattle.mk_model.proofs.PlaceLemmas.{at_place, place_within, place_is, all_at, all_mapped, drawn_between, drawn_first, drawn_second, bonds_between, bond_first, bond_second}
 pub use Rattle.mk_model.proofs.GraphsLemmas.{few_bonds}
+pub use Rattle.mk_model.proofs.TemplatesLemmas.{simple_template}
+pub use Rattle.mk_model.proofs.BlockLemmas.{Hangs, hangs, hangs_tested, hangs_same, hangs_back, hangs_on, hangs_by, GoesAlong, hangs_closed, kept_within, kept_all, one_block}
+pub use Rattle.mk_model.proofs.SizesLemmas.{IsRanked, none_in_itself, size_by_rank, sizing_of, one_sizing, greatest_contains, ranked_by_size}
+pub use Rattle.mk_model.proofs.CodesLemmas.{AreOne, one_choice}
+pub use Rattle.mk_model.proofs.OpenSlotsLemmas.{IsCut, cut, walks, enough, is_code_of, chooses_of, standing_walks, standing_is}
+pub use Rattle.mk_model.proofs.CodeLengthLemmas.{most_numbers, no_longer, code_is_short}
+pub use Rattle.mk_model.proofs.LogicLemmas.{IsPassed, some_passes, passes_some, all_pass, passes_all, allows_is, is_allowed, allowed_same}
+pub use Rattle.mk_model.proofs.PlainCodesLemmas.{ChoosesWithin, codes_listed}
 
 -- among bonds that are numbered from j on, k numbers one of atom n
 pub record IsNumberFrom (j : ℕ) (bonds : List Edge) (n k : ℕ) : Type 0 where

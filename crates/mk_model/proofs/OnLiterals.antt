@@ -1,5 +1,5 @@
 -- The definitions on small queries, computed. A query is given as its tables, as docs/TESTING.md writes them, and its groups.
-use Rattle.std.proofs.Common.{◌≡◌, ℕ, Bool, true, false, pos, List, [], ◌∷◌, replicate, refl, arith}
+use Rattle.std.proofs.Common.{◌≡◌, ℕ, true, false, pos, List, [], ◌∷◌, replicate, refl, arith}
 use Rattle.mk_model.specs.declared.atom_test.AtomTest.{AtomTest}
 use Rattle.mk_model.specs.declared.atom_test.Kind.TheVariants.{Element, Anything}
 use Rattle.mk_model.specs.declared.group.Group.{Group}
@@ -59,7 +59,7 @@ chain_block : is_in_block (chain 3) (Link 2 3 1 3) 1 ≡ false
 unfolding chain hang_together bond
 chain_block = refl
 
--- two plain atoms, and for the link 1 and its greatest length
+-- two fixed atoms, and for the link 1 and its greatest length
 chain_size : size_by (chain_query 509) (λ _. 0) (chain 509) ≡ 512
 unfolding chain chain_query hang_together bond
 chain_size = refl
@@ -207,3 +207,63 @@ star_choice = (omega arith, omega arith, tt, (omega arith, omega arith, tt))
 star_rest : draws_rest_hydrogens star_query (Site 1 1 2 0) ≡ false
 unfolding star_query plain_group group
 star_rest = refl
+
+-- ---- a site with two neighbours: `[C R# O | 1-2 2-3]`, group 1 and `[N | ]` with both points on its one atom
+
+unfoldable pub bridge : TemplateView
+bridge = record { atoms = atom 6 ∷ site_atom ∷ atom 8 ∷ []; bonds = bond 1 2 ∷ bond 2 3 ∷ []; slots = Site 2 1 1 3 ∷ []; points = [] }
+
+unfoldable pub bridge_query : QueryView
+bridge_query = record {
+  templates = bridge ∷ record { atoms = atom 7 ∷ []; bonds = []; slots = []; points = 1 ∷ 1 ∷ [] } ∷ [];
+  groups = plain_group (1 ∷ []) ∷ replicate 31 (plain_group []);
+}
+
+-- 2 fixed atoms; for the site 1, and 2 for its own neighbours, since its member is smaller
+bridge_size : size_by bridge_query (λ _. 1) bridge ≡ 5
+unfolding bridge bridge_query hang_together bond plain_group group range
+bridge_size = refl
+
+-- ---- the claim of docs/MEANING.md: benzene that bears chlorine or -O-R2, where R2 is methyl or ethyl
+
+unfoldable pub ring : TemplateView
+ring = record {
+  atoms = atom 6 ∷ atom 6 ∷ atom 6 ∷ atom 6 ∷ atom 6 ∷ atom 6 ∷ site_atom ∷ [];
+  bonds = bond 1 2 ∷ bond 2 3 ∷ bond 3 4 ∷ bond 4 5 ∷ bond 5 6 ∷ bond 1 6 ∷ bond 1 7 ∷ [];
+  slots = Site 7 1 1 0 ∷ [];
+  points = [];
+}
+
+unfoldable pub ether : TemplateView
+ether = record { atoms = atom 8 ∷ site_atom ∷ []; bonds = bond 1 2 ∷ []; slots = Site 2 2 1 0 ∷ []; points = 1 ∷ [] }
+
+unfoldable pub ethyl : TemplateView
+ethyl = record { atoms = atom 6 ∷ atom 6 ∷ []; bonds = bond 1 2 ∷ []; slots = []; points = 1 ∷ [] }
+
+-- group 2 has this range
+unfoldable pub claim : List Interval → QueryView
+claim many = record {
+  templates = ring ∷ single 17 ∷ ether ∷ single 6 ∷ ethyl ∷ [];
+  groups = plain_group (1 ∷ 2 ∷ []) ∷ group (3 ∷ 4 ∷ []) 0 many ∷ replicate 30 (plain_group []);
+}
+
+claim_codes : codes_of 512 (claim (range 1 999999)) (slots_of (claim (range 1 999999)) 0) ≡ (1 ∷ []) ∷ (2 ∷ 1 ∷ []) ∷ (2 ∷ 2 ∷ []) ∷ (2 ∷ 3 ∷ []) ∷ (3 ∷ []) ∷ []
+unfolding claim ring ether ethyl plain_group group range single
+claim_codes = refl
+
+claim_valid : valid_codes (claim (range 1 999999)) ≡ (1 ∷ []) ∷ (2 ∷ 1 ∷ []) ∷ (2 ∷ 2 ∷ []) ∷ []
+unfolding claim ring ether ethyl plain_group group range single valid_codes is_allowed_code
+claim_valid = refl
+
+claim_with_phenol : valid_codes (claim (range 0 1)) ≡ (1 ∷ []) ∷ (2 ∷ 1 ∷ []) ∷ (2 ∷ 2 ∷ []) ∷ (2 ∷ 3 ∷ []) ∷ []
+unfolding claim ring ether ethyl plain_group group range single valid_codes is_allowed_code
+claim_with_phenol = refl
+
+-- the size of the ether, where ethyl has 2, and of the ring, where the ether has 4
+ether_size : size_by (claim (range 1 999999)) (λ _. 2) ether ≡ 4
+unfolding claim ring ether ethyl hang_together bond plain_group group range single
+ether_size = refl
+
+ring_size : size_by (claim (range 1 999999)) (λ _. 4) ring ≡ 11
+unfolding claim ring ether ethyl hang_together bond plain_group group range single
+ring_size = refl

@@ -1,12 +1,11 @@
 -- The plain program lists all codes, in order.
 --     law             the valid codes are listed
 --     codes_listed    the structural codes at some slots, up to a length
-use Rattle.std.proofs.Common.{◌≡◌, ℕ, zero, suc, ◌+◌, ◌<◌, ◌≤◌, inl, inr, ◌⊎◌, Bool, true, false, cond, List, [], ◌∷◌, ◌++◌, length, map, refl, sym, ap, subst, ◌∙◌, arith}
+use Rattle.std.proofs.Common.{◌≡◌, ℕ, zero, suc, ◌+◌, ◌<◌, ◌≤◌, inl, inr, Bool, true, false, cond, List, [], ◌∷◌, ◌++◌, length, refl, sym, ap, subst, ◌∙◌, arith}
 use Rattle.std.specs.Prelude.{filter, slice_index}
-use Rattle.std.specs.List.{range_with_len}
 use Rattle.std.proofs.lemmas.Bool.{cases_eq}
-use Rattle.mk_text.specs.Rising.{Each, Holds, IsBelow, IsJoined, IsRisingListOfAll, NoneBeginsAnother, Rises, joined_with}
-use Rattle.mk_text.proofs.ForCallers.{each_holds, each_from, holds_each, joined_lists_rise}
+use Rattle.mk_text.specs.Rising.{Holds, IsBelow, IsJoined, IsRisingListOfAll, NoneBeginsAnother, Rises, joined_with}
+use Rattle.mk_text.proofs.ForCallers.{each_holds, holds_each, joined_lists_rise}
 use Rattle.mk_model.specs.declared.template.Slot.{Slot}
 use Rattle.mk_model.specs.Queries.{QueryView, slots_of}
 use Rattle.mk_model.specs.Logic.{IsValid, filled_of, sites_of, standing_sites}
@@ -42,10 +41,11 @@ single_is a (suc n) k least most =
 
 singles_rise : (a n : ℕ) → Rises (singles a n)
 singles_rise a zero = tt
-singles_rise a (suc n) =
-    (holds_each (λ xs. IsBelow (a ∷ []) xs) (singles (a + 1) n)
+singles_rise a (suc n) = (
+  holds_each (λ xs. IsBelow (a ∷ []) xs) (singles (a + 1) n)
       (λ xs held. (let one = is_single (a + 1) n xs held in subst (λ (ys : List ℕ). IsBelow (a ∷ []) ys) one.is (inl (omega (arith, one.least))))),
-    singles_rise (a + 1) n)
+  singles_rise (a + 1) n,
+)
 
 none_begins : (a n : ℕ) → NoneBeginsAnother (singles a n)
 none_begins a n front more held longer =
@@ -166,7 +166,7 @@ unfolding is_allowed_code
 valid_if query code chooses passes =
     let made = is_code_of query 0 code chooses in
     let stand : standing_by query (slots_of query 0) code ≡ standing_sites query (slots_of query 0) made.choice =
-        ap (standing_by query (slots_of query 0)) (sym made.spelt) ∙ standing_is query (slots_of query 0) made.choice made.made in
+    ap (standing_by query (slots_of query 0)) (sym made.spelt) ∙ standing_is query (slots_of query 0) made.choice made.made in
     record {
       choice = made.choice;
       made = made.made;
@@ -180,7 +180,7 @@ if_valid : (query : QueryView) (code : List ℕ) → IsValid query code → is_a
 unfolding is_allowed_code
 if_valid query code is =
     let stand : standing_by query (slots_of query 0) code ≡ standing_sites query (slots_of query 0) is.choice =
-        ap (standing_by query (slots_of query 0)) (sym is.spelt) ∙ standing_is query (slots_of query 0) is.choice is.made in
+    ap (standing_by query (slots_of query 0)) (sym is.spelt) ∙ standing_is query (slots_of query 0) is.choice is.made in
     is_allowed query (sites_of (standing_by query (slots_of query 0) code)) (filled_of query (standing_by query (slots_of query 0) code))
     (allowed_same query _ _ _ _ (λ g least. ap (λ standing. sites_of standing g) (sym stand)) (λ g least. ap (λ standing. filled_of query standing g) (sym stand)) is.logic)
 

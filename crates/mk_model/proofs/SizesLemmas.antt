@@ -10,7 +10,7 @@ use Rattle.mk_model.specs.declared.template.Slot.TheVariants.{Link, Site}
 use Rattle.mk_model.specs.Templates.{TemplateView, neighbour_count}
 use Rattle.mk_model.specs.Queries.{QueryView}
 use Rattle.mk_model.specs.Labels.{IsChain, PutsIn, members_at}
-use Rattle.mk_model.specs.Sizes.{IsSizing, atom_numbers, greatest, is_plain, size_by, size_of_slot}
+use Rattle.mk_model.specs.Sizes.{IsSizing, atom_numbers, greatest, is_fixed, size_by, size_of_slot}
 
 -- a template's rank is above that of each template that a site of it may be filled by
 abbrev pub IsRanked : QueryView → (ℕ → ℕ) → Type 0
@@ -54,7 +54,7 @@ sums_same f g (slot ∷ slots) same =
 size_same : (query : QueryView) (size other : ℕ → ℕ) (t : ℕ) (template : TemplateView) → slice_get query.templates t ≡ Some template → ((u : ℕ) → PutsIn query t u → size u ≡ other u)
     → size_by query size template ≡ size_by query other template
 size_same query size other t template at same =
-    ap (λ (n : ℕ). count_by (is_plain template) (atom_numbers template) + n)
+    ap (λ (n : ℕ). count_by (is_fixed template) (atom_numbers template) + n)
     (sums_same (size_of_slot query size template) (size_of_slot query other template) template.slots
     (λ slot within. slot_same query size other template slot (λ u fills. same u (record { slot = slot; at = rw at within; fills = fills }))))
 

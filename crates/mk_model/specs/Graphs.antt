@@ -35,7 +35,8 @@ pub record HasGraphMarks (bonds : List Edge) (b : ℕ) (bond : GraphBond) : Type
   pub ring : IsTrue bond.ring ↔ IsRingBond bonds b
   pub aromatic : IsTrue bond.aromatic ↔ IsAromatic bonds b
 
--- at most 512 atoms, all tests in range, each bond with its lower end first and the bonds in order, and no pair twice
+-- The conditions of a graph but for its marks: at most 512 atoms, all tests in range, each bond with its lower end first, the bonds
+-- in order, and no pair twice.
 pub record IsUnmarked (seen : GraphView) : Type 0 where
   pub few : length seen.atoms ≤ 512
   pub tests : All (λ atom. IsTestInRange atom.test) seen.atoms
@@ -44,10 +45,12 @@ pub record IsUnmarked (seen : GraphView) : Type 0 where
   pub lower_first : All (λ bond. bond.first < bond.second) seen.bonds
   pub order : AllPairs IsBefore seen.bonds
 
--- and the marks of the bonds are right
+-- what every `Graph` keeps: these conditions, and the marks of its bonds are right
 pub record IsGraph (seen : GraphView) : Type 0 where
   pub sketch : IsUnmarked seen
   pub marks : (b : ℕ) (bond : GraphBond) → slice_get seen.bonds b ≡ Some bond → HasGraphMarks (graph_edges seen.bonds) b bond
+
+-- ---- for the code
 
 -- what a `Graph` keeps beside: the lists of its atoms' bonds
 pub record IsKeptGraph (seen : GraphView) (kept : List (List ℕ)) : Type 0 where

@@ -47,6 +47,8 @@ pub record IsMolecule (mol : Molecule) : Type 0 where
 abbrev pub IsBondOf : Molecule → ℕ → ℕ → MolBond → Type 0
 IsBondOf mol a b bond = Contains mol.bonds bond × HasEnds (edge_of bond) a b
 
+-- ---- for the code
+
 -- what a `Mol` keeps beside: the lists of its atoms' bonds
 pub record IsKept (mol : Molecule) (kept : List (List ℕ)) : Type 0 where
   pub molecule : IsMolecule mol

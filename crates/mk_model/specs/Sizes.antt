@@ -1,5 +1,5 @@
 -- The size of a template: how many atoms and slots there can be where it stands.
---     is_plain template x         no slot takes the atom: it is none and in no block
+--     is_fixed template x         no slot takes the atom: it stands once, whatever is chosen
 --     size_of_slot query size template slot     what a slot adds, where the templates have these sizes
 --     IsSizing query size         each template has the size that its atoms and slots add up to
 use Rattle.std.specs.Prelude.{◌≡◌, ◌+◌, ◌*◌, ◌==◌, ◌||◌, ℕ, Bool, not, max, List, [], ◌∷◌, Some, length, count_by, sum_by, slice_get}
@@ -18,9 +18,9 @@ atom_numbers template = range_with_len 1 (length template.atoms)
 abbrev pub takes_atom : TemplateView → ℕ → Slot → Bool
 takes_atom template x slot = (slot_atom slot == x) || is_in_block template slot x
 
--- a plain atom outside the blocks: no slot takes it
-abbrev pub is_plain : TemplateView → ℕ → Bool
-is_plain template x = not (list_any (takes_atom template x) template.slots)
+-- a fixed atom: no slot takes it, so it stands once, whatever is chosen
+abbrev pub is_fixed : TemplateView → ℕ → Bool
+is_fixed template x = not (list_any (takes_atom template x) template.slots)
 
 -- the greatest of the sizes of some templates, 0 where there are none
 abbrev pub greatest : (ℕ → ℕ) → List ℕ → ℕ
@@ -35,9 +35,9 @@ size_of_slot query size template (Link atom most from to) =
 size_of_slot query size template (Site atom group first second) =
     1 + max (greatest size (members_at query (Site atom group first second))) (neighbour_count (Site atom group first second))
 
--- 1 for each plain atom outside the blocks, and what the slots add
+-- 1 for each fixed atom, and what the slots add
 abbrev pub size_by : QueryView → (ℕ → ℕ) → TemplateView → ℕ
-size_by query size template = count_by (is_plain template) (atom_numbers template) + sum_by (size_of_slot query size template) template.slots
+size_by query size template = count_by (is_fixed template) (atom_numbers template) + sum_by (size_of_slot query size template) template.slots
 
 -- Each template has the size that its atoms and slots add up to. Where no template uses itself there is just one sizing.
 abbrev pub IsSizing : QueryView → (ℕ → ℕ) → Type 0

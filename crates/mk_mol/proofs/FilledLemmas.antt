@@ -87,6 +87,15 @@ filled_graph atoms new old more gains size is filled bonded =
     (graph-filled (length atoms) old os is
     (All-weaker (λ (o : ℕ). (1 ≤ o) × (o < 1 + length gains)) (λ (o : ℕ). (1 ≤ o) × (o ≤ length atoms)) (λ o h. (h.0, omega (arith, h.1, size))) os (owners-within 1 gains)))
 
+-- there are few of them
+pub few_filled : (atoms new : List Atom) (old plain : List Edge) (gains : List ℕ) → length old ≤ 999 → length new < 2 ^ 20 → new ≡ atoms ++ replicate (length (owners 1 gains)) hydrogen → plain ≡ old ++ hydrogen_bonds (length atoms + 1) (owners 1 gains) → length plain < 2 ^ 32
+few_filled atoms new old plain gains few_old few filled bonded =
+    let os = owners 1 gains in
+    let many : length new ≡ length atoms + length os = ap length filled ∙ length-append atoms (replicate (length os) hydrogen) ∙ ap (λ (k : ℕ). length atoms + k) (length-replicate (length os) hydrogen) in
+    let size : length plain ≡ length old + length os =
+    ap length bonded ∙ length-append old (hydrogen_bonds (length atoms + 1) os) ∙ ap (λ (k : ℕ). length old + k) (length-hydrogen_bonds (length atoms + 1) os) in
+    omega arith
+
 -- ---- the molecule
 
 -- the atoms, filled, and their marked bonds are a molecule

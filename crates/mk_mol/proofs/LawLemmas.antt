@@ -14,7 +14,7 @@ use Rattle.mk_model.specs.declared.molecule.MolBond.{MolBond}
 use Rattle.mk_model.specs.Molecules.{Molecule, HasMarks, edge_of, edges}
 use Rattle.mk_ctab.specs.declared.raw.RawAtom.{RawAtom}
 use Rattle.mk_ctab.specs.declared.raw.RawTable.{RawTable}
-use Rattle.mk_ctab.specs.TableFacts.{HoldsNoText}
+use Rattle.mk_ctab.specs.KeptTables.{EndsWithoutCr, HoldsNoText}
 use Rattle.mk_ctab.specs.Bonds.{edges_of}
 use Rattle.mk_mol.specs.Checks.{IsKnownAtom, IsOfMolecules}
 use Rattle.mk_mol.specs.Filled.{AreGains, AreWrittenAtoms, IsWrittenAtom, hydrogen, hydrogen_bonds, owners}
@@ -139,10 +139,20 @@ no_text (kinds.Radical pairs) is = tt
 no_text (kinds.Isotope pairs) is = tt
 no_text other is = absurd is
 
+-- so none ends with CR
+no_text_ends : (property : Property) → IsOfMolecules property → EndsWithoutCr property
+no_text_ends (kinds.Charge pairs) is = tt
+no_text_ends (kinds.Radical pairs) is = tt
+no_text_ends (kinds.Isotope pairs) is = tt
+no_text_ends other is = absurd is
+
 pub keeps_text : PassingTablesKeepTheirText
-keeps_text table atoms properties = record {
-  symbols = λ k d below ends.
-      let known = all_of IsKnownAtom table.atoms atoms k d below in
-      no_end (get_or table.atoms k d).symbol ends.0 (named-no_cr _ known.symbol.element known.symbol.names) ends.1;
-  properties = λ k d below. no_text (get_or table.props k d) (all_of IsOfMolecules table.props (λ item. (properties item).1) k d below);
-}
+keeps_text table atoms properties = (
+  record {
+    symbols = λ k d below ends.
+        let known = all_of IsKnownAtom table.atoms atoms k d below in
+        no_end (get_or table.atoms k d).symbol ends.0 (named-no_cr _ known.symbol.element known.symbol.names) ends.1;
+    properties = λ k d below. no_text_ends (get_or table.props k d) (all_of IsOfMolecules table.props (λ item. (properties item).1) k d below);
+  },
+  λ k d below. no_text (get_or table.props k d) (all_of IsOfMolecules table.props (λ item. (properties item).1) k d below),
+)

@@ -6,3 +6,4 @@ pub mod GainLemmas
 pub mod FilledLemmas
 pub mod LawLemmas
 pub mod MolOnLiterals
+pub mod ForCallers

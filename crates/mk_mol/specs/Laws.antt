@@ -6,7 +6,7 @@
 use Rattle.std.specs.Prelude.{◌≡◌, ℕ}
 use Rattle.mk_model.specs.Molecules.{Molecule, IsMolecule}
 use Rattle.mk_ctab.specs.declared.raw.RawTable.{RawTable}
-use Rattle.mk_ctab.specs.TableFacts.{KeepsItsText}
+use Rattle.mk_ctab.specs.KeptTables.{HoldNoTexts, KeepsItsText}
 use Rattle.mk_mol.specs.FirstFault.{IsFirstFault, Passes, PassesAll, known_atoms, known_properties}
 use Rattle.mk_mol.specs.Filled.{IsFilled}
 
@@ -24,4 +24,4 @@ OneFilledMolecule = (table : RawTable) (a b : Molecule) → IsMolecule a → IsM
 
 -- no symbol of a table whose atoms are known ends with CR, and among known properties is no `M  ALS` and no `M  LOG`
 abbrev pub PassingTablesKeepTheirText : Type 0
-PassingTablesKeepTheirText = (table : RawTable) → Passes table known_atoms → Passes table known_properties → KeepsItsText table
+PassingTablesKeepTheirText = (table : RawTable) → Passes table known_atoms → Passes table known_properties → KeepsItsText table × HoldNoTexts table.props

@@ -6,7 +6,6 @@ use Rattle.mk_model.specs.declared.edge.Edge.{Edge}
 use Rattle.mk_model.specs.declared.molecule.Atom.{Atom}
 use Rattle.mk_model.specs.Molecules.{IsElement}
 
-
 -- an element with a radical that there is
 pub record IsSound (atom : Atom) : Type 0 where
   pub element : IsElement atom.element

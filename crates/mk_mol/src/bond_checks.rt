@@ -9,9 +9,7 @@ ghost use Rattle.mk_mol.specs.FirstFault.{IsFirstFault, PassesBelow};
 ghost use Rattle.mk_mol.specs.Search.{IsDrawn};
 
 use crate::PrepareFault;
-use mk_ctab::{
-    RawBond, RawTable, edges_between, first_crowded_atom, first_no_new_bond, is_within,
-};
+use mk_ctab::{RawBond, RawTable, edges_between, first_crowded_atom, first_no_new_bond, is_within};
 use mk_model::{Edge, Neighbours};
 use std::alloc::Global;
 

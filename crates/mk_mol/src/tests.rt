@@ -1,7 +1,7 @@
 // Tables with the first check that they fail, or with their filled molecules. Each is written as its lines.
 
 use crate::{PrepareFault, prepare};
-use mk_ctab::read_table;
+use mk_ctab::{TableFault, read_table};
 use mk_model::Mol;
 use mk_text::lines;
 use std::alloc::Global;
@@ -127,7 +127,7 @@ const REFUSED: [(&str, &str, u8, u32); 19] = [
 #[test]
 fn refuses_the_first_check_at_its_least_item(rt: HostRuntime) -> Result<(), Fail> {
     for (name, text, check, item) in REFUSED {
-        assert!(rt; is_refused(rt.alloc(), text, check, item), "{name}");
+        assert!(rt; is_refused(rt.alloc(), text, check, item)?, "{name}");
     }
     Ok(())
 }
@@ -147,14 +147,16 @@ fn refuses_a_crowded_atom(rt: HostRuntime) -> Result<(), Fail> {
         text.push_str("  1\n")?;
     }
     text.push_str("M  END\n")?;
-    assert!(rt; is_refused(rt.alloc(), text.as_str(), 4, 1));
+    assert!(rt; is_refused(rt.alloc(), text.as_str(), 4, 1)?);
     Ok(())
 }
 
-fn is_refused(alloc: Global, text: &str, check: u8, item: u32) -> bool {
+// Want of memory is no answer to the question.
+fn is_refused(alloc: Global, text: &str, check: u8, item: u32) -> Result<bool, PrepareFault> {
     match prepared(alloc, text) {
-        Ok(_) => false,
-        Err(fault) => fault == PrepareFault::Check { check, item },
+        Ok(_) => Ok(false),
+        Err(PrepareFault::Memory) => Err(PrepareFault::Memory),
+        Err(fault) => Ok(fault == PrepareFault::Check { check, item }),
     }
 }
 
@@ -290,11 +292,12 @@ fn has_bonds(mol: &Mol, want: &[(u32, u32, u8)]) -> bool {
     true
 }
 
+// The molecule of a table. Check 0 stands for a text that is no table.
 fn prepared(alloc: Global, text: &str) -> Result<Mol, PrepareFault> {
     let spans = lines(alloc, text.as_bytes())?;
     match read_table(alloc, text.as_bytes(), &spans, 0) {
         Ok((table, _)) if table.props.as_slice().len() < 100 => prepare(alloc, &table),
-        Ok(_) => Err(PrepareFault::Memory),
-        Err(_) => Err(PrepareFault::Memory),
+        Err(TableFault::Memory) => Err(PrepareFault::Memory),
+        _ => Err(PrepareFault::Check { check: 0, item: 0 }),
     }
 }

@@ -1,2 +1,4 @@
 pub mod RowsLemmas
 pub mod StreamsLemmas
+pub mod RisingRowsLemmas
+pub mod TablesLemmas

@@ -3,7 +3,9 @@
 --     after_change change t      the tables after one change
 --     after_batch batch t        the tables after all changes, in order
 --     CanKeep change             what a keeper can be asked to keep
-use Rattle.std.specs.Prelude.{ℕ, ◌+◌, ◌≤◌, max, List, [], ◌∷◌, filter, not, bytes_eq, ⊤}
+--     AreRising t                the rows of each table stand by rising number
+--     BatchesKeepRising          a law: rising tables stay rising
+use Rattle.std.specs.Prelude.{ℕ, ◌+◌, ◌<◌, ◌≤◌, max, AllPairs, List, [], ◌∷◌, filter, not, bytes_eq, ⊤}
 use Rattle.std.specs.Str.{IsAscii}
 use Rattle.mk_outside.specs.declared.tables.RecordRow.{RecordRow}
 use Rattle.mk_outside.specs.declared.tables.QueryRow.{QueryRow}
@@ -59,3 +61,13 @@ CanKeep (PutQuery number name text) = IsAscii name
 CanKeep (DropQuery name) = IsAscii name
 CanKeep (PutCursor number name place) = (number ≤ 999999999) × IsAscii name
 CanKeep (DropCursor number) = ⊤
+
+-- the rows of each table stand by rising number
+pub record AreRising (t : Tables) : Type 0 where
+  pub records : AllPairs (λ (a b : RecordRow). a.number < b.number) t.records
+  pub queries : AllPairs (λ (a b : QueryRow). a.number < b.number) t.queries
+  pub cursors : AllPairs (λ (a b : CursorRow). a.number < b.number) t.cursors
+
+-- a batch leaves rising tables rising
+abbrev pub BatchesKeepRising : Type 0
+BatchesKeepRising = (batch : List Change) (t : Tables) → AreRising t → AreRising (after_batch batch t)

@@ -9,12 +9,17 @@
 //! parts tell, and so nothing of a real file, input or output. What bytes mean isn't known here.
 #![tactic(auto)]
 
+#[cfg(test)]
+mod adapter_tests;
 mod adapters;
 mod answers;
 mod calls;
 mod causes;
 mod files;
+#[cfg(test)]
+mod keeper_tests;
 mod keepers;
+mod laws;
 mod rows;
 mod sinks;
 mod sources;
@@ -28,10 +33,14 @@ mod traits;
 pub use adapters::{DiskFiles, StdSink, StdSource};
 pub use answers::{Failed, FileFail, KeepFail, PutFail, ReadEnd};
 pub use calls::CallNumbers;
+pub use causes::{Cause, cause_of};
 pub use files::{FileRow, FileRows, MemFiles, SureFiles};
 pub use keepers::{MemKeeper, SureKeeper};
+pub use laws::rising_tables_stay_rising;
 pub use mk_text::{Bytes, Listed, Memory, Place, Text};
 pub use sinks::{MemSink, SureSink};
 pub use sources::{MemSource, SureSource};
-pub use tables::{Change, CursorRow, CursorRows, QueryRow, QueryRows, RecordRow, RecordRows, Tables};
+pub use tables::{
+    Change, CursorRow, CursorRows, QueryRow, QueryRows, RecordRow, RecordRows, Tables,
+};
 pub use traits::{Files, Keeper, Sink, Source};

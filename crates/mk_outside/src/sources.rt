@@ -1,5 +1,5 @@
 // Sources in memory.
-ghost use Rattle.std.specs.Prelude.{◌≡◌, ◌≤◌, ◌-◌, false, length, min, take, drop, Some, IfOk, is_err};
+ghost use Rattle.std.specs.Prelude.{◌≡◌, ◌≤◌, false, length, min, take, drop, Some, IfOk, is_err};
 ghost use Rattle.std.specs.Io.KnownBytes.{ReadConsumes};
 ghost use Rattle.mk_outside.specs.Counts.{Counts};
 ghost use Rattle.mk_outside.specs.Calls.{before_calls, fails_next};
@@ -9,34 +9,56 @@ use crate::calls::Calls;
 use crate::{Bytes, CallNumbers, Failed, Source};
 use std::marker::Model;
 
-// Moves the first bytes that are left into the buffer, and gives their number.
-fn give(bytes: &[u8], from: usize, buf: &mut [u8]) -> usize
-    requires { from ≤ length bytes.now }
-    ensures count { result ≡ min (length buf.old) (length bytes.now - from) }
-    ensures moved { take result buf.new ≡ take result (drop from bytes.now) }
-{
-    let left = &bytes[from..];
-    let count = left.len().min(buf.len());
-    buf[..count].copy_from_slice(&left[..count]);
-    count
+// Bytes of which some were given. Contracts see those that are left.
+#[derive(Debug, Drop)]
+struct Left {
+    bytes: Bytes,
+    from: usize,
+    ghost within: { from ≤ length bytes },
+}
+
+impl Model for Left {
+    ghost use Rattle.std.specs.Prelude.{List, ℕ, drop};
+
+    ghost Value = { List ℕ };
+
+    ghost view = { λ left. drop left.from left.bytes };
+}
+
+impl Left {
+    fn of(bytes: Bytes) -> Left
+        ensures { result ≡ bytes }
+    {
+        Left { bytes, from: 0 }
+    }
+
+    // Moves the first bytes into the buffer, and gives their number.
+    fn give(&mut self, buf: &mut [u8]) -> usize
+        ensures count { result ≡ min (length buf.old) (length self.old) }
+        ensures moved { take result buf.new ≡ take result self.old }
+        ensures left { self.new ≡ drop result self.old }
+    {
+        let left = &self.bytes.as_slice()[self.from..];
+        let count = left.len().min(buf.len());
+        buf[..count].copy_from_slice(&left[..count]);
+        self.from += count;
+        count
+    }
 }
 
 /// A source in memory, whose calls fail by their numbers. A call that fails takes nothing.
 #[derive(Debug, Drop)]
 pub struct MemSource {
-    bytes: Bytes,
-    from: usize,
+    left: Left,
     calls: Calls,
-    ghost within: { from ≤ length bytes },
 }
 
 impl Model for MemSource {
-    ghost use Rattle.std.specs.Prelude.{drop};
     ghost use Rattle.mk_outside.specs.Sources.{SourceState};
 
     ghost Value = { SourceState };
 
-    ghost view = { λ s. record { left = drop s.from s.bytes; calls = s.calls } };
+    ghost view = { λ s. record { left = s.left; calls = s.calls } };
 }
 
 impl MemSource {
@@ -44,8 +66,7 @@ impl MemSource {
         ensures { result ≡ record { left = left; calls = before_calls failing } }
     {
         MemSource {
-            bytes: left,
-            from: 0,
+            left: Left::of(left),
             calls: Calls::new(failing),
         }
     }
@@ -67,26 +88,22 @@ impl Source for MemSource {
             self.calls.fault();
             return Err(Failed);
         }
-        let count = give(self.bytes.as_slice(), self.from, buf);
-        self.from += count;
-        Ok(count)
+        Ok(self.left.give(buf))
     }
 }
 
 /// A source in memory that never fails.
 #[derive(Debug, Drop)]
 pub struct SureSource {
-    bytes: Bytes,
-    from: usize,
-    ghost within: { from ≤ length bytes },
+    left: Left,
 }
 
 impl Model for SureSource {
-    ghost use Rattle.std.specs.Prelude.{List, ℕ, drop};
+    ghost use Rattle.std.specs.Prelude.{List, ℕ};
 
     ghost Value = { List ℕ };
 
-    ghost view = { λ s. drop s.from s.bytes };
+    ghost view = { λ s. s.left };
 }
 
 impl SureSource {
@@ -94,8 +111,7 @@ impl SureSource {
         ensures { result ≡ left }
     {
         SureSource {
-            bytes: left,
-            from: 0,
+            left: Left::of(left),
         }
     }
 }
@@ -112,8 +128,6 @@ impl Source for SureSource {
         ensures sure { is_err result ≡ false }
         ensures after { self.new ≡ left_after self.old result }
     {
-        let count = give(self.bytes.as_slice(), self.from, buf);
-        self.from += count;
-        Ok(count)
+        Ok(self.left.give(buf))
     }
 }

@@ -2,10 +2,10 @@
 --     put_none, put_more      the marks that are put so far
 --     marked_sketch           a sketch is one whatever its marks are
 --     marked_drawing          and a graph with the marks of its own bonds
-use Rattle.std.proofs.Common.{◌≡◌, ℕ, zero, suc, ◌+◌, ◌<◌, ◌≤◌, inl, inr, Bool, false, List, [], ◌∷◌, Some, length, get_or, set, map, refl, sym, ap, subst, ◌∙◌, arith, All, length-set, get_or-set_other, get_or-set_same}
-use Rattle.std.specs.Prelude.{AllPairs, ◌≢◌, ◌↔◌, IsTrue, slice_get}
+use Rattle.std.proofs.Common.{◌≡◌, ℕ, ◌+◌, ◌<◌, inl, inr, Bool, false, List, length, get_or, set, refl, sym, ap, subst, ◌∙◌, arith, All, length-set, get_or-set_other, get_or-set_same}
+use Rattle.std.specs.Prelude.{◌↔◌, IsTrue}
 use Rattle.std.proofs.lemmas.Bool.{cases_eq}
-use Rattle.std.proofs.lemmas.List.{length-map, get_or-map, get_or_default}
+use Rattle.std.proofs.lemmas.List.{length-map}
 use Rattle.std.proofs.lemmas.List.Elements.{All-map}
 use Rattle.std.proofs.Math.Seq.{map-set_same}
 use Rattle.mk_model.specs.declared.edge.Edge.{Edge}
@@ -15,8 +15,8 @@ use Rattle.mk_model.specs.Edges.{IsSimple}
 use Rattle.mk_model.specs.Rings.{IsRingBond}
 use Rattle.mk_model.specs.Aromatic.{IsAromatic}
 use Rattle.mk_model.specs.Tests.{IsBondInRange}
-use Rattle.mk_model.specs.Graphs.{GraphView, HasGraphMarks, IsBefore, IsGraph, IsUnmarked, graph_edge, graph_edges}
-use Rattle.mk_model.proofs.PlaceLemmas.{all_mapped, place_is, place_within}
+use Rattle.mk_model.specs.Graphs.{HasGraphMarks, IsBefore, IsGraph, IsUnmarked, graph_edge, graph_edges}
+use Rattle.mk_model.proofs.ForCallers.{all_mapped, place_is, place_within}
 use Rattle.mk_rings.specs.Bare.{bare_bond, bare_bonds}
 use Rattle.mk_rings.specs.Marks.{Marks}
 use Rattle.mk_rings.proofs.ForCallers.{same_at, same_edges, same_length}
@@ -75,7 +75,7 @@ pub marked_sketch : (atoms : List GraphAtom) (old new : List GraphBond) → bare
 marked_sketch atoms old new same is = record {
   few = is.few;
   tests = is.tests;
-  bond_tests = all_bare IsBondInRange old new (λ bond r. record { kind = r.kind; topology = r.topology }) (λ bond r. record { kind = r.kind; topology = r.topology }) same is.bond_tests;
+  bond_tests = all_bare (λ bond. IsBondInRange bond.kind bond.topology) old new (λ bond r. record { kind = r.kind; topology = r.topology }) (λ bond r. record { kind = r.kind; topology = r.topology }) same is.bond_tests;
   graph = subst (IsSimple (length atoms)) (sym (same_edges old new same)) is.graph;
   lower_first = all_bare (λ bond. bond.first < bond.second) old new (λ bond h. h) (λ bond h. h) same is.lower_first;
   order = λ i j d below within.

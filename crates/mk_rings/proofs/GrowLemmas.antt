@@ -1,7 +1,7 @@
 -- A forest grows: an atom is reached over a bond, all bonds of an atom are followed, and a tree is done.
 use Rattle.std.proofs.Common.{◌≡◌, ◌≢◌, ◌≤◌, ◌<◌, ◌+◌, ◌-◌, ◌*◌, ℕ, true, cond, eqb, List, [], ◌∷◌, ◌++◌, Some, refl, ap, sym, ◌∙◌, subst, inl, inr, ⊎_elim, arith, length, get_or, set}
 use Rattle.std.specs.Prelude.{Contains, slice_get}
-use Rattle.mk_model.proofs.DegreeLemmas.{slice_get-rows_of}
+use Rattle.mk_model.proofs.ForCallers.{slice_get-rows_of}
 use Rattle.std.proofs.lemmas.Bool.{cases_eq, cases_lt, eq-eqb, ne_eqb}
 use Rattle.std.proofs.lemmas.List.{get_or-set_same, get_or-set_other, length-set, length_push}
 use Rattle.std.proofs.lemmas.List.Elements.{All-push, All-weaker, All-contains, Contains-append_left, Contains-push}
@@ -14,7 +14,7 @@ use Rattle.mk_rings.specs.Growing.{IsDone, IsInTree, IsReaching, StayReached}
 use Rattle.mk_rings.proofs.WayLemmas.{joins_back, same_ends}
 use Rattle.mk_rings.proofs.WalkLemmas.{joins_within, slice_get-at, get_or-from_get}
 use Rattle.mk_model.proofs.ForCallers.{numbers_at-all, numbers_at-each, IsNumberOf}
-use Rattle.mk_model.proofs.MoleculeLemmas.{touches-ends}
+use Rattle.mk_model.proofs.ForCallers.{touches-ends}
 
 -- a bond that joins x to something ends at x
 pub touches_joined : (bonds : List Edge) (b x w : ℕ) (d : Edge) → Joins bonds b x w → touches x (get_or bonds b d) ≡ true

@@ -1,5 +1,5 @@
 -- The marks determine the bonds.
-use Rattle.std.proofs.Common.{◌≡◌, ◌<◌, ℕ, Bool, true, false, List, refl, ap, sym, subst, ◌∙◌, length, get_or, arith, IsTrue}
+use Rattle.std.proofs.Common.{◌≡◌, ◌<◌, Bool, true, false, List, refl, ap, sym, subst, ◌∙◌, length, get_or, arith, IsTrue}
 use Rattle.std.specs.Prelude.{◌↔◌}
 use Rattle.std.proofs.lemmas.List.{same_lists, length-map, get_or-map}
 use Rattle.mk_model.specs.declared.edge.Edge.{Edge}
@@ -7,7 +7,7 @@ use Rattle.mk_model.specs.declared.molecule.MolBond.{MolBond}
 use Rattle.mk_model.specs.declared.graph.GraphBond.{GraphBond}
 use Rattle.mk_model.specs.Graphs.{HasGraphMarks, graph_edges}
 use Rattle.mk_model.specs.Molecules.{HasMarks, edge_of, edges}
-use Rattle.mk_model.proofs.PlaceLemmas.{at_place}
+use Rattle.mk_model.proofs.ForCallers.{at_place}
 use Rattle.mk_rings.specs.Bare.{bare_bond}
 use Rattle.mk_rings.specs.Laws.{OneListOfGraphBonds, OneListOfMolBonds}
 use Rattle.mk_rings.proofs.ForCallers.{same_at, same_edges, same_length}

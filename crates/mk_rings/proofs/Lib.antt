@@ -11,3 +11,5 @@ pub mod SearchLemmas
 pub mod GraphLemmas
 pub mod LawLemmas
 pub mod MoleculeLemmas
+pub mod ReachLemmas
+pub mod BridgeLemmas

@@ -1,15 +1,17 @@
 -- Rounds: what one round keeps, and what holds when a round adds nothing.
 use Rattle.std.proofs.Common.{◌≡◌, ◌≢◌, ◌≤◌, ◌<◌, ◌+◌, ◌-◌, ◌%◌, ℕ, zero, suc, Bool, true, false, cond, eqb, not, List, [], ◌∷◌, Some, refl, ap, sym, ◌∙◌, subst, inl, inr, ⊎_elim, arith, length, get_or, set}
-use Rattle.std.specs.Prelude.{◌⊎◌, ◌↔◌, IsTrue}
+use Rattle.std.specs.Prelude.{◌⊎◌, ◌↔◌, IsTrue, slice_get}
 use Rattle.std.proofs.lemmas.Bool.{cases_eq, cases_lt, true≢false, eqb-true, eq-eqb}
 use Rattle.std.proofs.lemmas.List.{get_or-set_other, get_or_past}
 use Rattle.std.proofs.lemmas.List.Sums.{sum_by-set}
 use Rattle.mk_model.specs.declared.edge.Edge.{Edge}
-use Rattle.mk_model.specs.Edges.{AreBetween, IsBetween, Joins, HasKind}
+use Rattle.mk_model.specs.Edges.{AreBetween, IsBetween, Joins, HasKind, numbers_at}
 use Rattle.mk_model.specs.Aromatic.{Takes, IsClosed, IsAromatic}
 use Rattle.mk_rings.specs.Marks.{IsMarked, Marks}
-use Rattle.mk_rings.specs.SixRings.{CanClose, ClosesRing, LieIn, Spreads, StayWithin, set_of, unmarked}
+use Rattle.mk_rings.specs.Reach.{IsReached, MaySkip}
+use Rattle.mk_rings.specs.SixRings.{CanClose, ClosesRing, Follows, Grows, IsDone, LieIn, Spreads, set_of, unmarked}
 use Rattle.mk_rings.proofs.SixLemmas.{IsRound, round_of_rule, turned, reversed, CanClose-round, round_from, closed_round}
+use Rattle.mk_rings.proofs.ReachLemmas.{MaySkip-reached, each_bond}
 use Rattle.mk_rings.proofs.WalkLemmas.{joins_within, get_or-from_get, slice_get-at, marked-kept}
 
 -- ---- a bond that closes a six-ring is in each closed set
@@ -26,57 +28,7 @@ closed_ring atoms bonds marks set' b ends closed lie c =
     let P : ℕ → Type 0 = λ n. IsTrue (set' n) in
     subst P round.3 held
 
--- ---- one round
-
--- what holds when the first n bonds are looked at in a round
-pub record IsRounded (bonds : List Edge) (old : List Bool) (n : ℕ) (found : Bool) (marks : List Bool) : Type 0 where
-  pub kept : (b : ℕ) → IsMarked old b → IsMarked marks b
-  pub within : StayWithin bonds old marks
-  pub more : IsTrue found → unmarked marks < unmarked old
-  pub no_more : unmarked marks ≤ unmarked old
-  pub still : found ≡ false → marks ≡ old
-  pub done : found ≡ false → (b : ℕ) → b < n → IsMarked marks b ⊎ (ClosesRing bonds (set_of marks) b → ⊥)
-
--- before the first
-pub IsRounded-none : (bonds : List Edge) (marks : List Bool) → IsRounded bonds marks 0 false marks
-IsRounded-none bonds marks = record {
-  kept = λ b marked. marked;
-  within = λ s closed lie. lie;
-  more = λ t. absurd (true≢false (sym t));
-  no_more = omega arith;
-  still = λ _. refl;
-  done = λ _ b below. absurd (omega arith);
-}
-
--- a bond that is marked is passed over
-pub IsRounded-marked : (bonds : List Edge) (old : List Bool) (n : ℕ) (found : Bool) (marks : List Bool) → IsMarked marks n → IsRounded bonds old n found marks → IsRounded bonds old (n + 1) found marks
-IsRounded-marked bonds old n found marks marked r = record {
-  kept = r.kept;
-  within = r.within;
-  more = r.more;
-  no_more = r.no_more;
-  still = r.still;
-  done = λ none b below.
-      ⊎_elim
-      (λ earlier. r.done none b earlier)
-      (λ last. let is : n ≡ b = omega arith in let P : ℕ → Type 0 = λ k. IsMarked marks k in inl (subst P is marked))
-      (cases_lt b n);
-}
-
--- and so is one that closes no six-ring
-pub IsRounded-open : (bonds : List Edge) (old : List Bool) (n : ℕ) (found : Bool) (marks : List Bool) → (ClosesRing bonds (set_of marks) n → ⊥) → IsRounded bonds old n found marks → IsRounded bonds old (n + 1) found marks
-IsRounded-open bonds old n found marks not_closed r = record {
-  kept = r.kept;
-  within = r.within;
-  more = r.more;
-  no_more = r.no_more;
-  still = r.still;
-  done = λ none b below.
-      ⊎_elim
-      (λ earlier. r.done none b earlier)
-      (λ last. let is : b ≡ n = omega arith in let P : ℕ → Type 0 = λ k. ClosesRing bonds (set_of marks) k in inr (λ closes. not_closed (subst P is closes)))
-      (cases_lt b n);
-}
+-- ---- marks that are added
 
 -- one mark more
 unmarked-set : (marks : List Bool) (n : ℕ) → n < length marks → get_or marks n false ≡ false → unmarked (set marks n true) + 1 ≡ unmarked marks
@@ -85,25 +37,10 @@ unmarked-set marks n below is =
     let was : ◌≡◌ {A = ℕ} (cond (not (get_or marks n false)) 1 0) 1 = rw is refl in
     omega (arith, all, was)
 
--- one that closes a six-ring is marked
-pub IsRounded-closed : (atoms : ℕ) (bonds : List Edge) (old : List Bool) (n : ℕ) (found : Bool) (marks : List Bool) → AreBetween atoms bonds → n < length marks → get_or marks n false ≡ false → ClosesRing bonds (set_of marks) n → IsRounded bonds old n found marks → IsRounded bonds old (n + 1) true (set marks n true)
-IsRounded-closed atoms bonds old n found marks ends below new closes r = record {
-  kept = λ b marked. marked-kept marks n b below (r.kept b marked);
-  within = λ s closed lie b marked.
-      ⊎_elim
-      (λ same. let P : ℕ → Type 0 = λ k. IsTrue (s k) in subst P (sym same) (closed_ring atoms bonds marks s n ends closed (r.within s closed lie) closes))
-      (λ other. r.within s closed lie b (sym (get_or-set_other marks n b true false other) ∙ marked))
-      (cases_eq b n);
-  more = λ _. omega (arith, unmarked-set marks n below new, r.no_more);
-  no_more = omega (arith, unmarked-set marks n below new, r.no_more);
-  still = λ e. absurd (true≢false e);
-  done = λ e. absurd (true≢false e);
-}
-
 -- ---- when a round adds nothing
 
 -- a cycle may be walked from its n-th bond on
-nth_round : (bonds : List Edge) (s : ℕ → Bool) (n l : ℕ) (x k : ℕ → ℕ) → (l ≡ 1) ⊎ (l ≡ 2) → IsRound bonds s l x k → (l' : ℕ) × (x' : ℕ → ℕ) × (k' : ℕ → ℕ) × ((l' ≡ 1) ⊎ (l' ≡ 2)) × IsRound bonds s l' x' k' × (k' 0 ≡ k (n % 6))
+pub nth_round : (bonds : List Edge) (s : ℕ → Bool) (n l : ℕ) (x k : ℕ → ℕ) → (l ≡ 1) ⊎ (l ≡ 2) → IsRound bonds s l x k → (l' : ℕ) × (x' : ℕ → ℕ) × (k' : ℕ → ℕ) × ((l' ≡ 1) ⊎ (l' ≡ 2)) × IsRound bonds s l' x' k' × (k' 0 ≡ k (n % 6))
 nth_round bonds s zero l x k one_or_two r = (l, x, k, one_or_two, r, refl)
 nth_round bonds s (suc n) l x k one_or_two r =
     let other : (3 - l ≡ 1) ⊎ (3 - l ≡ 2) = ⊎_elim (λ e. inr (omega (arith, e))) (λ e. inl (omega (arith, e))) one_or_two in
@@ -186,15 +123,19 @@ marked_within marks b marked =
 
 -- ---- the search from a bond
 
--- a bond of type 1 or 2 closes a six-ring exactly where its path can be closed
-pub closes-exact : (bonds : List Edge) (s : ℕ → Bool) (b : ℕ) (d : Edge) (r : Bool) → b < length bonds → ((get_or bonds b d).kind ≡ 1) ⊎ ((get_or bonds b d).kind ≡ 2) → IsTrue r ↔ CanClose bonds s (get_or bonds b d).first ((get_or bonds b d).second ∷ (get_or bonds b d).first ∷ []) (get_or bonds b d).second (3 - (get_or bonds b d).kind) 4 → IsTrue r ↔ ClosesRing bonds s b
-closes-exact bonds s b d r below kind can = (
-  λ yes. record { edge = get_or bonds b d; at = slice_get-at bonds b d below; kind = kind; closes = can.0 yes },
-  λ c.
-      let at : get_or bonds b d ≡ c.edge = get_or-from_get bonds b d c.edge c.at in
-      let P : Edge → Type 0 = λ e. CanClose bonds s e.first (e.second ∷ e.first ∷ []) e.second (3 - e.kind) 4 in
-      can.1 (subst P (sym at) c.closes),
-)
+-- where the stamps tell that no path from the bond can be closed it closes no six-ring
+pub closes_none : (bonds : List Edge) (s : ℕ → Bool) (b : ℕ) (edge d : Edge) (two three : List ℕ) (stamp : ℕ) → slice_get bonds b ≡ Some edge → 1 ≤ (get_or bonds b d).kind → (get_or bonds b d).kind ≤ 2 → IsReached bonds s edge.first (3 - edge.kind) two three stamp
+    → (MaySkip bonds s (get_or bonds b d).first two three stamp (3 - (get_or bonds b d).kind) 4 → CanClose bonds s (get_or bonds b d).first ((get_or bonds b d).second ∷ (get_or bonds b d).first ∷ []) (get_or bonds b d).second (3 - (get_or bonds b d).kind) 4 → ⊥) → ClosesRing bonds s b → ⊥
+closes_none bonds s b edge d two three stamp at least most reached opened c =
+    let here : get_or bonds b d ≡ edge = get_or-from_get bonds b d edge at in
+    let kind : edge.kind ≡ (get_or bonds b d).kind = ap (λ m. m.kind) (sym here) in
+    let there : get_or bonds b d ≡ c.edge = get_or-from_get bonds b d c.edge c.at in
+    let label : (3 - edge.kind ≡ 1) ⊎ (3 - edge.kind ≡ 2) =
+    ⊎_elim (λ one. inr (omega (arith, one, kind))) (λ other. inl (omega (arith, other, kind, least, most))) (cases_eq edge.kind 1) in
+    let skip = MaySkip-reached bonds s edge.first (3 - edge.kind) two three stamp label reached in
+    let P : Edge → Type 0 = λ e. MaySkip bonds s e.first two three stamp (3 - e.kind) 4 in
+    let Q : Edge → Type 0 = λ e. CanClose bonds s e.first (e.second ∷ e.first ∷ []) e.second (3 - e.kind) 4 in
+    opened (subst P (sym here) skip) (subst Q (sym there) c.closes)
 
 -- a bond of another type closes none
 pub closes-other : (bonds : List Edge) (s : ℕ → Bool) (b : ℕ) (d : Edge) → (get_or bonds b d).kind ≢ 1 → (get_or bonds b d).kind ≢ 2 → ClosesRing bonds s b → ⊥
@@ -230,13 +171,108 @@ Spreads-more atoms bonds old n marks ends below new closes before =
     } in
     Spreads-on bonds old marks (set marks n true) before one
 
--- a round in which a mark spreads
-pub IsRounded-spread : (bonds : List Edge) (old : List Bool) (n : ℕ) (marks new : List Bool) → IsRounded bonds old n true marks → Spreads bonds marks new → IsRounded bonds old n true new
-IsRounded-spread bonds old n marks new r s = record {
-  kept = λ b marked. s.kept b (r.kept b marked);
-  within = λ t closed lie. s.within t closed (r.within t closed lie);
-  more = λ t. omega (arith, r.more t, s.no_more);
-  no_more = omega (arith, r.no_more, s.no_more);
-  still = λ e. absurd (true≢false e);
-  done = λ e. absurd (true≢false e);
+-- one mark more, of a bond that follows from the old marks
+pub Spreads-follows : (bonds : List Edge) (old : List Bool) (n : ℕ) (marks : List Bool) → n < length marks → get_or marks n false ≡ false → Follows bonds old n → Spreads bonds old marks → Spreads bonds old (set marks n true)
+Spreads-follows bonds old n marks below new follows before = record {
+  kept = λ b marked. marked-kept marks n b below (before.kept b marked);
+  within = λ s closed lie b marked.
+      ⊎_elim
+      (λ same. let P : ℕ → Type 0 = λ k. IsTrue (s k) in subst P (sym same) (follows s closed lie))
+      (λ other. before.within s closed lie b (sym (get_or-set_other marks n b true false other) ∙ marked))
+      (cases_eq b n);
+  no_more = omega (arith, unmarked-set marks n below new, before.no_more);
 }
+
+-- the bonds of a ring that takes the labels follow from the marks
+pub Follows-round : (bonds : List Edge) (marks : List Bool) (l : ℕ) (x k : ℕ → ℕ) → (l ≡ 1) ⊎ (l ≡ 2) → IsRound bonds (set_of marks) l x k → (i : ℕ) → i < 6 → Follows bonds marks (k i)
+Follows-round bonds marks l x k one_or_two round i below s closed lie =
+    let r = nth_round bonds (set_of marks) i l x k one_or_two round in
+    let place : i % 6 ≡ i = omega arith in
+    let P : ℕ → Type 0 = λ b. IsTrue (s b) in
+    subst P (r.5 ∙ ap k place) (closed_round bonds (set_of marks) s lie closed r.0 r.1 r.2 r.3 r.4)
+
+-- ---- marks that grow
+
+-- no mark more
+pub Grows-none : (bonds : List Edge) (marks : List Bool) → Grows bonds marks marks false
+Grows-none bonds marks = record { spreads = Spreads-none bonds marks; more = λ t. absurd (true≢false (sym t)); same = λ _. refl }
+
+-- more marks, and then none
+pub Grows-still : (bonds : List Edge) (a b c : List Bool) (f : Bool) → Grows bonds a b f → Grows bonds b c false → Grows bonds a c f
+Grows-still bonds a b c f first second = let is : c ≡ b = second.same refl in let P : List Bool → Type 0 = λ m. Grows bonds a m f in subst P (sym is) first
+
+-- and then some
+pub Grows-on : (bonds : List Edge) (a b c : List Bool) (f : Bool) → Grows bonds a b f → Grows bonds b c true → Grows bonds a c true
+Grows-on bonds a b c f first second = record {
+  spreads = Spreads-on bonds a b c first.spreads second.spreads;
+  more = λ t. omega (arith, second.more refl, first.spreads.no_more);
+  same = λ e. absurd (true≢false e);
+}
+
+-- one mark more, of a bond that closes a six-ring
+pub Grows-more : (atoms : ℕ) (bonds : List Edge) (old : List Bool) (n : ℕ) (marks : List Bool) (f : Bool) → AreBetween atoms bonds → n < length marks → get_or marks n false ≡ false → ClosesRing bonds (set_of marks) n → Grows bonds old marks f → Grows bonds old (set marks n true) true
+Grows-more atoms bonds old n marks f ends below new closes before = record {
+  spreads = Spreads-more atoms bonds old n marks ends below new closes before.spreads;
+  more = λ t. omega (arith, unmarked-set marks n below new, before.spreads.no_more);
+  same = λ e. absurd (true≢false e);
+}
+
+-- ---- the bonds that begin at an atom
+
+-- a bond of this type that begins at the start is done
+abbrev pub IsDoneFrom : List Edge → List Bool → ℕ → ℕ → ℕ → Type 0
+IsDoneFrom bonds marks start kind b = (edge : Edge) → slice_get bonds b ≡ Some edge → edge.first ≡ start → edge.kind ≡ kind → IsDone bonds marks b
+
+-- a bond that begins at the start is done where it is for both types, since one of another type closes no ring
+pub both_types : (bonds : List Edge) (marks : List Bool) (start b : ℕ) (edge : Edge) → slice_get bonds b ≡ Some edge → edge.first ≡ start → IsDoneFrom bonds marks start 1 b → IsDoneFrom bonds marks start 2 b → IsDone bonds marks b
+both_types bonds marks start b edge at first one two =
+    ⊎_elim (λ e. one edge at first e)
+    (λ ne. ⊎_elim (λ e. two edge at first e)
+    (λ nf. inr (λ c.
+    let same : Some c.edge ≡ Some edge = sym c.at ∙ at in
+    let is : c.edge ≡ edge = cc in
+    ⊎_elim (λ k. ne (ap (λ m. m.kind) (sym is) ∙ k)) (λ k. nf (ap (λ m. m.kind) (sym is) ∙ k)) c.kind))
+    (eq_or_not edge.kind 2))
+    (eq_or_not edge.kind 1)
+  where
+    eq_or_not : (m n : ℕ) → (m ≡ n) ⊎ (m ≢ n)
+    eq_or_not m n = cases_eq m n
+
+-- among the first n numbers of the start, the bonds of this type that begin there are done, unless some were found
+abbrev pub AreDoneFrom : List Edge → List Bool → ℕ → ℕ → List ℕ → ℕ → Bool → Type 0
+AreDoneFrom bonds marks start kind numbers n found = found ≡ false → (i : ℕ) → i < n → IsDoneFrom bonds marks start kind (get_or numbers i 0 - 1)
+
+-- one number more
+pub AreDoneFrom-more : (bonds : List Edge) (marks : List Bool) (start kind : ℕ) (numbers : List ℕ) (n b : ℕ) (found : Bool) → b ≡ get_or numbers n 0 - 1 → (found ≡ false → IsDoneFrom bonds marks start kind b) → AreDoneFrom bonds marks start kind numbers n found → AreDoneFrom bonds marks start kind numbers (n + 1) found
+AreDoneFrom-more bonds marks start kind numbers n b found is done each = λ none i below.
+    ⊎_elim
+    (λ earlier. each none i earlier)
+    (λ last.
+    let here : n ≡ i = omega arith in
+    let P : ℕ → Type 0 = λ k. IsDoneFrom bonds marks start kind k in
+    subst P (is ∙ ap (λ k. get_or numbers k 0 - 1) here) (done none))
+    (cases_lt i n)
+
+-- behind the last number all are done
+pub AreDoneFrom-all : (bonds : List Edge) (marks : List Bool) (start kind : ℕ) (numbers : List ℕ) (n : ℕ) → numbers ≡ numbers_at bonds start → length numbers ≤ n → AreDoneFrom bonds marks start kind numbers n false → (b : ℕ) → IsDoneFrom bonds marks start kind b
+AreDoneFrom-all bonds marks start kind numbers n are all each b edge at first is =
+    let joined : Joins bonds b start edge.second = record { edge = edge; at = at; ends = inl (first, refl) } in
+    each_bond (λ k. IsDoneFrom bonds marks start kind k) bonds start numbers n are all (each refl) b edge.second joined edge at first is
+
+-- ---- all bonds
+
+-- the bonds whose first atom is among the first n atoms are done, unless some were found
+abbrev pub AreDone : List Edge → List Bool → ℕ → Bool → Type 0
+AreDone bonds marks n found = found ≡ false → (b : ℕ) (edge : Edge) → slice_get bonds b ≡ Some edge → edge.first ≤ n → IsDone bonds marks b
+
+-- one atom more
+pub AreDone-more : (bonds : List Edge) (marks : List Bool) (n : ℕ) (found : Bool) → (found ≡ false → (b : ℕ) (edge : Edge) → slice_get bonds b ≡ Some edge → edge.first ≡ n + 1 → IsDone bonds marks b) → AreDone bonds marks n found → AreDone bonds marks (n + 1) found
+AreDone-more bonds marks n found here each none b edge at most =
+    ⊎_elim (λ same. here none b edge at same) (λ other. each none b edge at (omega (arith, other, most))) (cases_eq edge.first (n + 1))
+
+-- behind the last atom all are done
+pub AreDone-all : (atoms : ℕ) (bonds : List Edge) (marks : List Bool) (n : ℕ) → AreBetween atoms bonds → atoms ≤ n → AreDone bonds marks n false → (b : ℕ) → b < length bonds → IsDone bonds marks b
+AreDone-all atoms bonds marks n ends all each b below =
+    let d : Edge = record { first = 0; second = 0; kind = 0 } in
+    let between = ends b d below in
+    each refl b (get_or bonds b d) (slice_get-at bonds b d below) (omega (arith, between.first.1))

@@ -40,17 +40,16 @@ module _ (bonds : List Edge) (s : ℕ → Bool) (start : ℕ) (path : List ℕ) 
   not_over (suc left) not by = not by.2
 
   -- from a new atom the path has to be closed
-  pub on_from_new : (left : ℕ) (r : Bool) → left ≢ 0 → Takes bonds s b label → NotAmong path y → IsTrue r ↔ CanClose bonds s start (y ∷ path) y (3 - label) (left - 1) → IsTrue r ↔ ClosesBy bonds s start path at label left b
-  on_from_new zero r some takes new rest = absurd (some refl)
-  on_from_new (suc left) r some takes new rest =
+  pub on_from_new : (left : ℕ) → left ≢ 0 → Takes bonds s b label → NotAmong path y → CanClose bonds s start (y ∷ path) y (3 - label) (left - 1) ↔ ClosesBy bonds s start path at label left b
+  on_from_new zero some takes new = absurd (some refl)
+  on_from_new (suc left) some takes new =
       let one_less : suc left - 1 ≡ left = omega arith in
-      let P : ℕ → Type 0 = λ n. IsTrue r ↔ CanClose bonds s start (y ∷ path) y (3 - label) n in
-      let rest' = subst P one_less rest in (
-        λ yes. (y, joined, takes, new, rest'.0 yes),
+      let P : ℕ → Type 0 = λ n. CanClose bonds s start (y ∷ path) y (3 - label) n in (
+        λ rest. (y, joined, takes, new, subst P one_less rest),
         λ by.
             let same : by.0 ≡ y = end_is by.0 by.1 in
             let Q : ℕ → Type 0 = λ z. CanClose bonds s start (z ∷ path) z (3 - label) left in
-            rest'.1 (subst Q same by.4),
+            subst P (sym one_less) (subst Q same by.4),
       )
 
 -- the path with one atom more in front

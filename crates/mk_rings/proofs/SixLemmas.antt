@@ -13,7 +13,7 @@ use Rattle.mk_rings.specs.SixRings.{CanClose, NotAmong}
 use Rattle.mk_rings.proofs.WayLemmas.{joins_back}
 
 -- a fact of each of six numbers
-below_six : (P : ℕ → Type 0) → P 0 → P 1 → P 2 → P 3 → P 4 → P 5 → (i : ℕ) → i < 6 → P i
+pub below_six : (P : ℕ → Type 0) → P 0 → P 1 → P 2 → P 3 → P 4 → P 5 → (i : ℕ) → i < 6 → P i
 below_six P a b c d e f zero h = a
 below_six P a b c d e f (suc zero) h = b
 below_six P a b c d e f (suc (suc zero)) h = c

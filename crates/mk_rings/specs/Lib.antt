@@ -4,3 +4,5 @@ pub mod Marks
 pub mod SixRings
 pub mod Bare
 pub mod Laws
+pub mod Bridges
+pub mod Reach

@@ -4,7 +4,10 @@
 --     CanClose bonds set start path at label left     so many atoms further the path can be closed
 --     ClosesRing bonds set b            a six-ring that takes the labels goes through bond b
 --     StayWithin bonds old new          a closed set that held the old marks holds the new ones
+--     Follows bonds marks b             a closed set that holds the marks holds the bond
 --     Spreads bonds old new             the old marks, and others that follow from them
+--     IsDone bonds marks b              the bond is marked, or it closes no six-ring with the marks
+--     Grows bonds old new found         marks that follow from the old ones were added, or none
 --     AllBelow bound list               each number of the list is below the bound
 use Rattle.std.specs.Prelude.{◌≡◌, ◌≢◌, ◌≤◌, ◌<◌, ◌-◌, ◌⊎◌, ℕ, zero, suc, Bool, false, List, [], ◌∷◌, Some, IsTrue, length, count_by, not, slice_get, slice_index, slice_index_or}
 use Rattle.mk_model.specs.declared.edge.Edge.{Edge}
@@ -46,6 +49,10 @@ LieIn set marks = (b : ℕ) → IsMarked marks b → IsTrue (set b)
 abbrev pub StayWithin : List Edge → List Bool → List Bool → Type 0
 StayWithin bonds old new = (set : ℕ → Bool) → IsClosed bonds set → LieIn set old → LieIn set new
 
+-- each closed set that the marks lie in holds the bond
+abbrev pub Follows : List Edge → List Bool → ℕ → Type 0
+Follows bonds marks b = (set : ℕ → Bool) → IsClosed bonds set → LieIn set marks → IsTrue (set b)
+
 -- how many bonds aren't marked
 abbrev pub unmarked : List Bool → ℕ
 unmarked marks = count_by not marks
@@ -55,6 +62,16 @@ pub record Spreads (bonds : List Edge) (old new : List Bool) : Type 0 where
   pub kept : (b : ℕ) → IsMarked old b → IsMarked new b
   pub within : StayWithin bonds old new
   pub no_more : unmarked new ≤ unmarked old
+
+-- marks that follow from the old ones were added where some were found, and none where not
+pub record Grows (bonds : List Edge) (old new : List Bool) (found : Bool) : Type 0 where
+  pub spreads : Spreads bonds old new
+  pub more : IsTrue found → unmarked new < unmarked old
+  pub same : found ≡ false → new ≡ old
+
+-- the bond is marked, or it closes no six-ring with the marks
+abbrev pub IsDone : List Edge → List Bool → ℕ → Type 0
+IsDone bonds marks b = IsMarked marks b ⊎ ¬ (ClosesRing bonds (set_of marks) b)
 
 -- each number of the list is below the bound
 abbrev pub AllBelow : ℕ → List ℕ → Type 0

@@ -1,14 +1,16 @@
 // The aromatic set, by rounds until a whole round adds nothing.
-ghost use Rattle.std.specs.Prelude.{◌≡◌, ◌≤◌, ◌<◌, ◌↔◌, ◌⊎◌, ℕ, Bool, false, IfOk, IsTrue, MatchBool, length};
+ghost use Rattle.std.specs.Prelude.{◌≡◌, ◌<◌, ◌+◌, ◌↔◌, ℕ, IfOk, length};
 ghost use Rattle.mk_model.specs.Edges.{AreBetween, HasKind, IsSimple, rows_of};
 ghost use Rattle.mk_model.specs.Aromatic.{IsAromatic};
 ghost use Rattle.mk_model.specs.Rings.{IsRingBond};
 ghost use Rattle.mk_rings.specs.Marks.{IsMarked, Marks};
-ghost use Rattle.mk_rings.specs.SixRings.{AllBelow, ClosesRing, set_of, StayWithin, unmarked};
+ghost use Rattle.mk_rings.specs.SixRings.{AllBelow};
+ghost use Rattle.mk_rings.specs.Bridges.{AreWithoutBridges, label_if};
 
-use crate::marking::ring_bonds_over;
-use crate::six_rings::closes_ring;
-use crate::spreading::spread;
+use crate::marking::{neighbours_of, ring_bonds_over};
+use crate::ring_search::Spot;
+use crate::rounds::mark_round;
+use crate::spreading::{NOWHERE, spread};
 use mk_model::{Edge, Memory, Neighbours};
 use std::alloc::Global;
 
@@ -17,7 +19,7 @@ pub fn aromatic_bonds(alloc: Global, atoms: u32, bonds: &[Edge]) -> Result<Vec<b
     requires { IsSimple atoms bonds.now }
     ensures { IfOk result (λ marks. Marks (IsAromatic bonds.now) bonds.now marks.items) }
 {
-    let near = Neighbours::of(alloc, atoms, bonds)?;
+    let near = neighbours_of(alloc, atoms, bonds)?;
     let rings = ring_bonds_over(alloc, &near, atoms, bonds)?;
     aromatic_bonds_over(alloc, &near, atoms, bonds, &rings)
 }
@@ -35,26 +37,79 @@ pub fn aromatic_bonds_over(
     requires rings { Marks (IsRingBond bonds.now) bonds.now rings.now }
     ensures { IfOk result (λ marks. Marks (IsAromatic bonds.now) bonds.now marks.items) }
 {
+    let ring_edges = without_bridges(alloc, bonds, rings)?;
     let mut marks = vec![in alloc; false; bonds.len()]?;
+    let mut two = vec![in alloc; 0usize; atoms as usize + 1]?;
+    let mut three = vec![in alloc; 0usize; atoms as usize + 1]?;
+    let mut told = vec![in alloc; false; bonds.len()]?;
     let mut queue = vec![in alloc; 0usize; bonds.len()]?;
-    mark_aromatic(near, bonds, &mut marks, &mut queue);
+    let mut spots = vec![in alloc; NOWHERE; atoms as usize + 1]?;
+    mark_aromatic(
+        near,
+        atoms,
+        &ring_edges,
+        &mut marks,
+        &mut two,
+        &mut three,
+        &mut told,
+        &mut queue,
+        &mut spots,
+    );
     Ok(marks)
 }
 
+// The bonds, where one that is no ring bond has no type that could take a label. Bonds of type 4 keep theirs.
+fn without_bridges(alloc: Global, bonds: &[Edge], rings: &[bool]) -> Result<Vec<Edge>, Memory>
+    requires { length rings.now ≡ length bonds.now }
+    ensures { IfOk result (λ edges. AreWithoutBridges bonds.now rings.now edges.items) }
+{
+    let mut edges = Vec::with_capacity(alloc, bonds.len())?;
+    for b in 0..bonds.len() {
+        edges.push(without_label(bonds[b], rings[b]))?;
+    }
+    Ok(edges)
+}
+
+fn without_label(edge: Edge, ring: bool) -> Edge
+    ensures { result ≡ label_if ring edge }
+{
+    if ring || edge.kind == 4 {
+        return edge;
+    }
+    Edge { kind: 0, ..edge }
+}
+
 // Marks the bonds of type 4, and then round by round those that close a six-ring.
-fn mark_aromatic(near: &Neighbours, bonds: &[Edge], marks: &mut [bool], queue: &mut [usize])
+fn mark_aromatic(
+    near: &Neighbours,
+    atoms: u32,
+    bonds: &[Edge],
+    marks: &mut [bool],
+    two: &mut [usize],
+    three: &mut [usize],
+    told: &mut [bool],
+    queue: &mut [usize],
+    spots: &mut [Spot],
+)
+    requires atoms { atoms ≡ length near.now }
     requires ends { AreBetween (length near.now) bonds.now }
     requires rows { near.now ≡ rows_of (length near.now) bonds.now }
     requires size { length marks.old ≡ length bonds.now }
-    requires none { (b : ℕ) → ¬ (IsMarked marks.old b) }
-    requires places { AllBelow (length bonds.now) queue.old }
+    requires two { length two.old ≡ length near.now + 1 }
+    requires three { length three.old ≡ length near.now + 1 }
+    requires told { length told.old ≡ length bonds.now }
+    requires queue { AllBelow (length bonds.now) queue.old }
+    requires spots { length spots.old ≡ length near.now + 1 }
     ensures { Marks (IsAromatic bonds.now) bonds.now marks.new }
 {
     mark_type_four(bonds, marks);
-    while mark_round(near, bonds, marks, queue) {}
+    mark_type_four(bonds, told);
+    while mark_round(near, atoms, bonds, marks, two, three) {
+        spread(near, atoms, bonds, marks, told, queue, spots);
+    }
 }
 
-// Marks the bonds of type 4.
+// Marks the bonds of type 4, and no others.
 fn mark_type_four(bonds: &[Edge], marks: &mut [bool])
     requires size { length marks.old ≡ length bonds.now }
     ensures { (b : ℕ) → b < length bonds.now → IsMarked marks.new b ↔ HasKind bonds.now b 4 }
@@ -62,32 +117,4 @@ fn mark_type_four(bonds: &[Edge], marks: &mut [bool])
     for b in 0..bonds.len() {
         marks[b] = bonds[b].kind == 4;
     }
-}
-
-// Marks each bond that closes a six-ring with the bonds that are marked so far, and those to which its mark spreads. Tells
-// whether there was one.
-fn mark_round(near: &Neighbours, bonds: &[Edge], marks: &mut [bool], queue: &mut [usize]) -> bool
-    requires ends { AreBetween (length near.now) bonds.now }
-    requires rows { near.now ≡ rows_of (length near.now) bonds.now }
-    requires size { length marks.old ≡ length bonds.now }
-    requires places { AllBelow (length bonds.now) queue.old }
-    ensures places { AllBelow (length bonds.now) queue.new }
-    ensures kept { (b : ℕ) → IsMarked marks.old b → IsMarked marks.new b }
-    ensures within { StayWithin bonds.now marks.old marks.new }
-    ensures more { IsTrue result → unmarked marks.new < unmarked marks.old }
-    ensures done { result ≡ false → (b : ℕ) → b < length bonds.now → IsMarked marks.new b ⊎ ¬ (ClosesRing bonds.now (set_of marks.new) b) }
-{
-    let mut found = false;
-    for b in 0..bonds.len() {
-        if marks[b] {
-            continue;
-        }
-        if !closes_ring(near, bonds, marks, b) {
-            continue;
-        }
-        marks[b] = true;
-        spread(near, bonds, marks, queue, b);
-        found = true;
-    }
-    found
 }

@@ -5,8 +5,8 @@ ghost use Rattle.mk_model.specs.Graphs.{IsUnmarked};
 ghost use Rattle.mk_rings.specs.Bare.{bare_bonds};
 
 use crate::aromatic::aromatic_bonds_over;
-use crate::marking::ring_bonds_over;
-use mk_model::{Graph, GraphAtom, GraphBond, Memory, Neighbours, edges_of_graph};
+use crate::marking::{neighbours_of, ring_bonds_over};
+use mk_model::{Graph, GraphAtom, GraphBond, Memory, edges_of_graph};
 use std::alloc::Global;
 
 /// Keeps atoms and bonds as a graph, with the marks of its own bonds in place of those that are given.
@@ -21,7 +21,7 @@ pub fn marked_graph(
 {
     let count = atoms.len() as u32;
     let edges = edges_of_graph(alloc, &bonds)?;
-    let near = Neighbours::of(alloc, count, &edges)?;
+    let near = neighbours_of(alloc, count, &edges)?;
     let rings = ring_bonds_over(alloc, &near, count, &edges)?;
     let aromatics = aromatic_bonds_over(alloc, &near, count, &edges, &rings)?;
     let mut marked = bonds;

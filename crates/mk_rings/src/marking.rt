@@ -15,7 +15,7 @@ pub fn ring_bonds(alloc: Global, atoms: u32, bonds: &[Edge]) -> Result<Vec<bool>
     requires { IsSimple atoms bonds.now }
     ensures { IfOk result (λ marks. Marks (IsRingBond bonds.now) bonds.now marks.items) }
 {
-    let near = Neighbours::of(alloc, atoms, bonds)?;
+    let near = neighbours_of(alloc, atoms, bonds)?;
     ring_bonds_over(alloc, &near, atoms, bonds)
 }
 
@@ -34,6 +34,17 @@ pub fn ring_bonds_over(
     let mut marks = vec![in alloc; false; bonds.len()]?;
     mark_rings(&nodes, bonds, &mut marks);
     Ok(marks)
+}
+
+/// Lists the bonds of each of the atoms. Numbers of bonds are of 32 bits: more bonds have no memory here.
+pub fn neighbours_of(alloc: Global, atoms: u32, bonds: &[Edge]) -> Result<Neighbours, Memory>
+    requires { AreBetween atoms bonds.now }
+    ensures { IfOk result (λ near. near ≡ rows_of atoms bonds.now) }
+{
+    if bonds.len() > u32::MAX as usize {
+        return Err(Memory);
+    }
+    Neighbours::of(alloc, atoms, bonds)
 }
 
 // Marks each bond by which no atom hangs, and the bonds of the forest between its ends.

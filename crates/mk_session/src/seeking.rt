@@ -108,7 +108,7 @@ fn answer_of(alloc: Global, wanted: &PlainTable, held: Held) -> Result<Outcome, 
         }),
         Held::Molecule(mol) => {
             let graph = query_graph(alloc, wanted)?;
-            let hits = first_hits(alloc, &graph, &mol)?;
+            let hits = first_hits(alloc, graph, &mol)?;
             let answer = hits_answer(alloc, &hits, MOST_HITS)?;
             Ok(Outcome {
                 bytes: Bytes::of(answer),

@@ -13,7 +13,7 @@ use Rattle.std.proofs.lemmas.List.Sums.{sum_by-cons}
 use Rattle.std.proofs.lemmas.Option.{slice_get_within, get_or_from_slice_get}
 use Rattle.mk_model.specs.declared.edge.Edge.{Edge}
 use Rattle.mk_model.specs.Edges.{AreBetween, IsBetween, numbers_from, numbers_at, touches}
-use Rattle.mk_model.specs.Fitting.{other_end}
+use Rattle.mk_model.specs.Edges.{other_end}
 use Rattle.mk_model.proofs.ForCallers.{numbers_at-each}
 use Rattle.mk_tests.specs.Numbered.{passes_at}
 

@@ -2,7 +2,8 @@
 ghost use Rattle.std.specs.Prelude.{◌≡◌, ◌≤◌, All, count_by, length};
 ghost use Rattle.std.specs.List.{list_any};
 ghost use Rattle.mk_model.specs.Edges.{AreBetween};
-ghost use Rattle.mk_model.specs.Fitting.{hydrogens_at, is_hydrogen, is_unsaturated_at, other_end, others_at, rings_at};
+ghost use Rattle.mk_model.specs.Fitting.{hydrogens_at, is_hydrogen, is_unsaturated_at, others_at, rings_at};
+ghost use Rattle.mk_model.specs.Edges.{other_end};
 ghost use Rattle.mk_model.specs.Molecules.{edge_of, edges};
 ghost use Rattle.mk_model.specs.Tests.{is_unsaturated};
 ghost use Rattle.mk_tests.specs.Numbered.{passes_at};

@@ -9,7 +9,7 @@ use crate::columns::{
 };
 use crate::drawn_counts::{count_drawn_hydrogens, count_drawn_others, count_drawn_rings};
 use crate::kinds::accepts_element;
-use crate::numbered::drawn_atom_numbered;
+use crate::numbered::graph_atom_numbered;
 use mk_model::{Atom, AtomTest, Graph, GraphAtom, Mol};
 
 /// Tells whether atom x of the graph accepts atom m of the molecule.
@@ -20,7 +20,7 @@ pub fn atom_fits(graph: &Graph, x: u32, mol: &Mol, m: u32) -> bool
     requires atom_most { m ≤ length mol.now.atoms }
     ensures { IsTrue result ↔ FitsAtom graph.now mol.now x m }
 {
-    let asked = drawn_atom_numbered(graph.atoms(), x);
+    let asked = graph_atom_numbered(graph.atoms(), x);
     let atom = mol.atom(m);
     meets_alone(&asked.test, atom) && meets_around(asked, graph, x, mol, m)
 }

@@ -1,12 +1,13 @@
 // What is drawn at an atom of a graph.
 ghost use Rattle.std.specs.Prelude.{◌≡◌, ◌≤◌, All, count_by, length};
 ghost use Rattle.mk_model.specs.Edges.{AreBetween};
-ghost use Rattle.mk_model.specs.Fitting.{drawn_hydrogens, drawn_others, drawn_rings, is_drawn_hydrogen, other_end};
+ghost use Rattle.mk_model.specs.Fitting.{drawn_hydrogens, drawn_others, drawn_rings, is_drawn_hydrogen};
+ghost use Rattle.mk_model.specs.Edges.{other_end};
 ghost use Rattle.mk_model.specs.Graphs.{graph_edge, graph_edges};
 ghost use Rattle.mk_tests.specs.Numbered.{passes_at};
 
 use crate::ends::leads_to_drawn_hydrogen;
-use crate::numbered::drawn_bond_numbered;
+use crate::numbered::graph_bond_numbered;
 use mk_model::{Graph, GraphAtom, GraphBond};
 
 /// The bonds of atom x that lead to a drawn hydrogen.
@@ -58,7 +59,7 @@ fn drawn_rings_among(bonds: &[GraphBond], numbers: &[u32]) -> usize
 {
     let mut count = 0;
     for number in numbers {
-        if drawn_bond_numbered(bonds, *number).ring {
+        if graph_bond_numbered(bonds, *number).ring {
             count += 1;
         }
     }

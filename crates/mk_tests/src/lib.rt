@@ -1,4 +1,4 @@
-//! What the atoms and the bonds of a query ask of a molecule, tested.
+//! The tests that a query puts: what its atoms and its bonds ask of those of a molecule.
 //!
 //! Callers use two promises. `atom_fits` tells whether an atom of a graph accepts an atom of a molecule, and `bond_fits`
 //! whether a bond of the molecule joins two atoms and meets the test of a bond of the graph, by the definitions of mk_model

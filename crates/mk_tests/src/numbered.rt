@@ -11,7 +11,7 @@ pub fn bond_numbered(bonds: &[MolBond], number: u32) -> MolBond
     bonds[number as usize - 1]
 }
 
-pub fn drawn_bond_numbered(bonds: &[GraphBond], number: u32) -> GraphBond
+pub fn graph_bond_numbered(bonds: &[GraphBond], number: u32) -> GraphBond
     requires least { 1 ≤ number }
     requires most { number ≤ length bonds.now }
     ensures { slice_get bonds.now (number - 1) ≡ Some result }
@@ -19,7 +19,7 @@ pub fn drawn_bond_numbered(bonds: &[GraphBond], number: u32) -> GraphBond
     bonds[number as usize - 1]
 }
 
-pub fn drawn_atom_numbered(atoms: &[GraphAtom], number: u32) -> &GraphAtom
+pub fn graph_atom_numbered(atoms: &[GraphAtom], number: u32) -> &GraphAtom
     requires least { 1 ≤ number }
     requires most { number ≤ length atoms.now }
     ensures { slice_get atoms.now (number - 1) ≡ Some result.now }

@@ -11,7 +11,7 @@ pub use Rattle.mk_text.proofs.TestLemmas.{both, and_true, neither, or_left, or_r
 pub use Rattle.mk_text.proofs.ItemLemmas.{of_item-here, of_item-at, of_item-past, items-none, items-more, items-fail, items-more_at, items-fail_at, items-more_get, items-fail_get, items-all, all_of, one_item}
 pub use Rattle.mk_text.proofs.OptionLemmas.{both_read, test_passed, read_behind, entries_none, entries_more, entries_fail, entries_all}
 pub use Rattle.mk_text.proofs.PieceLemmas.{pieces_at, without_cr-at_other}
-pub use Rattle.mk_text.proofs.KeptLinesLemmas.{no_lf_at, lines_hold_no_lf, lines_few, text_of_lines_is_read, without_cr_same, without_crs_end, without_crs_same, kept_lines_are_read, kept_lines_stay}
+pub use Rattle.mk_text.proofs.KeptLinesLemmas.{range_item_more, kept-push, no_lf_at, lines_hold_no_lf, lines_few, text_of_lines_is_read, without_cr_same, without_crs_end, without_crs_same, kept_lines_are_read, kept_lines_stay}
 pub use Rattle.mk_text.proofs.SpanLemmas.{parts_length, behind_within, parts_behind}
 pub use Rattle.mk_text.proofs.TrimLemmas.{trimmed_padded, trimmed-columns, trimmed_between, trimmed_blank, list_all_at, AreBetween, trimmed_is_between}
 pub use Rattle.mk_text.proofs.DigitLemmas.{all_digits}

@@ -1,9 +1,9 @@
 -- The lines of a text and the text of lines, and kept lines.
-use Rattle.std.proofs.Common.{◌≡◌, ℕ, zero, suc, ◌+◌, ◌-◌, ◌<◌, ◌≤◌, Bool, true, false, cond, eqb, All, List, [], ◌∷◌, ◌++◌, length, get_or, take, map, refl, sym, ap, ◌∙◌, append_assoc, arith}
+use Rattle.std.proofs.Common.{◌≡◌, ℕ, zero, suc, ◌+◌, ◌-◌, ◌<◌, ◌≤◌, Bool, true, false, cond, eqb, All, List, [], ◌∷◌, ◌++◌, length, get_or, take, drop, map, refl, sym, ap, ◌∙◌, append_assoc, arith}
 use Rattle.std.specs.Prelude.{Contains, reverse, slice_range}
 use Rattle.std.specs.List.{AllByRecursion, flat_map, suffix_len}
 use Rattle.std.proofs.lemmas.Bool.{eqb-true, true≢false}
-use Rattle.std.proofs.lemmas.List.{get_or_default, get_or-take, get_or-reverse, get_or_at, length-append, length-map, length-take-le, take_all, take_more, length-reverse, append-nil, map_more, map_push}
+use Rattle.std.proofs.lemmas.List.{get_or_default, get_or-take, get_or-drop, get_or-reverse, get_or_at, length-append, length-map, length-drop, length-take-le, take_all, take_more, length-reverse, append-nil, map_more, map_push}
 use Rattle.std.proofs.lemmas.List.Concat.{flat_map-append}
 use Rattle.std.proofs.lemmas.List.Elements.{All-from_recursion, recursion_from_All, All-map}
 use Rattle.std.proofs.lemmas.List.Sums.{prefix_len_passes, prefix_len_stops, suffix_len-le-length}
@@ -191,13 +191,30 @@ kept_lines_stay lines none = ap (λ (ls : List (List ℕ)). text_of (map without
 
 -- ---- one line more
 
--- the kept lines of the first so many parts and one more
+-- the kept lines of some lines and one more
+pub kept-push : (lines : List (List ℕ)) (line : List ℕ) → kept_lines (lines ++ line ∷ []) ≡ kept_lines lines ++ ended (without_crs line)
+kept-push lines line =
+    ap text_of (map_push without_crs lines line)
+    ∙ flat_map-append ended (map without_crs lines) (without_crs line ∷ [])
+    ∙ ap (λ (end : List ℕ). kept_lines lines ++ end) (append-nil (ended (without_crs line)))
+
+-- those of the first so many parts and one more
 pub kept_more : (text : List ℕ) (spans : List Span) (k : ℕ) (d : Span) → k < length spans → kept_lines (parts text (take (k + 1) spans)) ≡ kept_lines (parts text (take k spans)) ++ ended (without_crs (slice_range text (get_or spans k d).from (get_or spans k d).to))
 kept_more text spans k d below =
     let part : Span → List ℕ = λ (s : Span). slice_range text s.from s.to in
-    let line : List ℕ = part (get_or spans k d) in
-    let before : List (List ℕ) = parts text (take k spans) in
-    ap kept_lines (map_more part spans k d below)
-    ∙ ap text_of (map_push without_crs before line)
-    ∙ flat_map-append ended (map without_crs before) (without_crs line ∷ [])
-    ∙ ap (λ (end : List ℕ). kept_lines before ++ end) (append-nil (ended (without_crs line)))
+    ap kept_lines (map_more part spans k d below) ∙ kept-push (parts text (take k spans)) (part (get_or spans k d))
+
+-- the items from one on up to another and one more
+pub range_item_more : {X : Type 0} (items : List X) (from i : ℕ) (d : X) → from ≤ i → i < length items → slice_range items from (i + 1) ≡ slice_range items from i ++ get_or items i d ∷ []
+range_item_more {X} items from i d le lt =
+    let n : (i + 1) - from ≡ (i - from) + 1 = omega arith in
+    let there : get_or (drop from items) (i - from) d ≡ get_or items i d = get_or-drop from items (i - from) d ∙ ap (λ (k : ℕ). get_or items k d) (let k : from + (i - from) ≡ i = omega arith in k) in
+    ap (λ (k : ℕ). take k (drop from items)) n ∙ take_more (drop from items) (i - from) d (omega (arith, length-drop from items)) ∙ ap (λ (x : X). take (i - from) (drop from items) ++ x ∷ []) there
+
+-- the kept lines from one line on up to another and one more
+pub kept_one_more : (lines : List (List ℕ)) (from i : ℕ) → from ≤ i → i < length lines → kept_lines (slice_range lines from (i + 1)) ≡ kept_lines (slice_range lines from i) ++ ended (without_crs (get_or lines i []))
+kept_one_more lines from i le lt = ap kept_lines (range_item_more lines from i [] le lt) ∙ kept-push (slice_range lines from i) (get_or lines i [])
+
+-- and those of none
+pub kept_none : (lines : List (List ℕ)) (from : ℕ) → kept_lines (slice_range lines from from) ≡ []
+kept_none lines from = ap (λ (k : ℕ). kept_lines (take k (drop from lines))) (let k : from - from ≡ 0 = omega arith in k)

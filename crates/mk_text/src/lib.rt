@@ -25,7 +25,7 @@ pub use columns::{column, is_blank, trimmed_column};
 pub use cutting::{Span, lines, words};
 pub use decimals::put_number;
 pub use fields::field;
-pub use kept::kept_lines;
+pub use kept::{kept_lines, kept_lines_between};
 pub use laws::{
     choices_rise, field_is_exact, first_of_rising, joined_lists_rise, kept_lines_stay,
     lines_are_read, one_rising_list, right_justified_is_read, rising_from_place,

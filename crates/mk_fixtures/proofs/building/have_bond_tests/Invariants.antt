@@ -4,4 +4,4 @@ use Rattle.mk_model.specs.Tests.{IsBondInRange}
 use Rattle.mk_fixtures.proofs.building.have_bond_tests.Given as goal
 
 abbrev pub invariant-loop-bond : goal.invariant-loop-bond
-invariant-loop-bond l = (k : ℕ) (d : GraphBond) → k < l.bond-index → IsBondInRange (get_or l.bonds k d)
+invariant-loop-bond l = (k : ℕ) (d : GraphBond) → k < l.bond-index → IsBondInRange (get_or l.bonds k d).kind (get_or l.bonds k d).topology

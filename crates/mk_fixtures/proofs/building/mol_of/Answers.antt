@@ -1,25 +1,27 @@
-use Rattle.std.proofs.Common.{◌∙◌, ap, arith}
+use Rattle.std.proofs.Common.{◌≡◌, ◌∙◌, ap, arith, length, sym}
+use Rattle.mk_model.specs.Edges.{rows_of}
 use Rattle.mk_model.specs.Molecules.{Molecule, edges}
-use Rattle.mk_fixtures.proofs.FixtureLemmas.{edges-marked, graph-in_order, molecule-built}
+use Rattle.mk_fixtures.proofs.FixtureLemmas.{graph-in_order, molecule-built}
 use Rattle.mk_fixtures.proofs.building.mol_of.Goals as goal
 
-pub ring_bonds-requires : goal.ring_bonds-requires
-ring_bonds-requires c = graph-in_order _ _ (c.are_in_order.ensures c.if-not-are_in_order.false)
+pub of-requires-clause-ends : goal.of-requires-clause-ends
+of-requires-clause-ends c = (graph-in_order _ _ (c.are_in_order.ensures c.if-not-are_in_order.false)).ends
 
-pub aromatic_bonds-requires : goal.aromatic_bonds-requires
-aromatic_bonds-requires c = graph-in_order _ _ (c.are_in_order.ensures c.if-not-are_in_order.false)
+pub marked_bonds-requires-clause-simple : goal.marked_bonds-requires-clause-simple
+marked_bonds-requires-clause-simple c = graph-in_order _ _ (c.are_in_order.ensures c.if-not-are_in_order.false)
 
-pub of-requires : goal.of-requires
-of-requires c =
-    molecule-built c.len-count.result c.args.atoms.items c.args.drawn.now c.in_ok-rings.rings.items c.in_ok-aromatics.aromatics.items c.in_ok-bonds.bonds.items
+pub over-requires-clause-molecule : goal.over-requires-clause-molecule
+over-requires-clause-molecule c =
+    molecule-built c.len-count.result c.args.atoms.items c.args.drawn.now c.in_ok-bonds.bonds.items
     (omega arith) (omega arith) (omega arith)
     (rw c.deref.ensures.value at (c.have_elements.ensures c.if-not-have_elements.false))
     (c.are_in_order.ensures c.if-not-are_in_order.false)
-    c.in_ok-rings.ensures c.in_ok-aromatics.ensures c.in_ok-bonds.ensures.size
-    (rw (c.deref-2.ensures.value, c.deref-3.ensures.value) at c.in_ok-bonds.ensures.marks)
+    c.in_ok-bonds.ensures.edges c.in_ok-bonds.ensures.marks
+
+pub over-requires-clause-rows : goal.over-requires-clause-rows
+over-requires-clause-rows c =
+    let count : c.len-count.result ≡ length c.args.atoms.items = omega arith in
+    c.in_ok-near.ensures.rows ∙ ap (λ n. rows_of n c.args.drawn.now) count ∙ ap (λ es. rows_of (length c.args.atoms.items) es) (sym c.in_ok-bonds.ensures.edges)
 
 pub returns-clause-bonds : goal.returns-clause-bonds
-returns-clause-bonds c =
-    ap (λ (mol : Molecule). edges mol.bonds) c.in_ok-of.ensures
-    ∙ edges-marked c.args.drawn.now c.in_ok-rings.rings.items c.in_ok-aromatics.aromatics.items c.in_ok-bonds.bonds.items c.in_ok-bonds.ensures.size
-    (rw (c.deref-2.ensures.value, c.deref-3.ensures.value) at c.in_ok-bonds.ensures.marks)
+returns-clause-bonds c = ap (λ (mol : Molecule). edges mol.bonds) c.over.ensures ∙ c.in_ok-bonds.ensures.edges

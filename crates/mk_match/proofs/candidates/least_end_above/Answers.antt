@@ -2,7 +2,7 @@ use Rattle.std.proofs.Common.{◌<◌, ◌≤◌, get_or, take, length, arith}
 use Rattle.std.proofs.lemmas.List.{take_more}
 use Rattle.mk_model.specs.Molecules.{edges}
 use Rattle.mk_model.proofs.ForCallers.{IsNumberOf, numbers_at-each}
-use Rattle.mk_match.specs.Search.{AreBonded}
+use Rattle.mk_match.specs.Candidates.{AreBonded}
 use Rattle.mk_match.proofs.CandidateLemmas.{end_bonded, least_end_more, lesser_has}
 use Rattle.mk_match.proofs.candidates.least_end_above.Goals as goal
 

@@ -1,6 +1,6 @@
 use Rattle.std.proofs.Common.{◌≤◌, take, length}
 use Rattle.std.specs.Prelude.{IfSome}
-use Rattle.mk_match.specs.Search.{AreBonded, IsLeastEnd}
+use Rattle.mk_match.specs.Candidates.{AreBonded, IsLeastEnd}
 use Rattle.mk_match.proofs.candidates.least_end_above.Given as goal
 
 abbrev pub invariant-loop-number : goal.invariant-loop-number

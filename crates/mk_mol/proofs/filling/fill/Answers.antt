@@ -1,9 +1,10 @@
-use Rattle.std.proofs.Common.{◌≡◌, ◌∙◌, ◌+◌, ◌++◌, ◌≤◌, ◌<◌, ◌^◌, ap, sym, length, replicate, arith}
+use Rattle.std.proofs.Common.{◌≡◌, ◌∙◌, ◌+◌, ◌++◌, ◌≤◌, ◌<◌, ◌^◌, List, ap, sym, length, replicate, arith, ℕ}
 use Rattle.std.proofs.lemmas.List.{length-map}
-use Rattle.mk_model.specs.Edges.{IsSimple}
+use Rattle.mk_model.specs.declared.edge.Edge.{Edge}
+use Rattle.mk_model.specs.Edges.{IsSimple, rows_of}
 use Rattle.mk_ctab.specs.Bonds.{edge_of}
 use Rattle.mk_mol.specs.Filled.{AreGains, hydrogen, hydrogen_bonds, owners}
-use Rattle.mk_mol.proofs.FilledLemmas.{filled_graph, molecule, is_filled}
+use Rattle.mk_mol.proofs.FilledLemmas.{few_filled, filled_graph, molecule, is_filled}
 use Rattle.mk_mol.proofs.filling.fill.Goals as goal
 
 pub overflow_cast-count : goal.overflow_cast-count
@@ -11,21 +12,90 @@ overflow_cast-count c =
     let few : c.len-count.result < 2 ^ 32 = omega (arith, c.len-count.ensures, c.add_hydrogens.new.atoms.ok.0, c.in_ok-add_hydrogens.ensures.few) in
     record { fits = few }
 
--- the edges with those of all hydrogens are a graph over all atoms
-pub of-neighbours-requires : goal.of-neighbours-requires
-of-neighbours-requires c = ?
+pub of-requires-clause-few : goal.of-requires-clause-few
+of-requires-clause-few c =
+    let atoms = c.in_ok-atoms.atoms.items in
+    let gains = c.in_ok-gains.gains.items in
+    let new = c.add_hydrogens.new.atoms.items in
+    let plain = c.add_hydrogens.new.edges.items in
+    let old = c.args.drawn.edges.items in
+    let are : AreGains c.args.table.now atoms gains = rw c.deref.ensures.value at c.in_ok-gains.ensures in
+    let size : length gains ≡ length atoms = are.size ∙ sym c.in_ok-atoms.ensures.written.size in
+    let graph : IsSimple (length atoms) old = rw c.in_ok-atoms.ensures.written.size c.requires.drawn.graph in
+    let filled : new ≡ atoms ++ replicate (length (owners 1 gains)) hydrogen = rw c.deref-2.ensures.value at c.in_ok-add_hydrogens.ensures.atoms in
+    let bonded : plain ≡ old ++ hydrogen_bonds (length atoms + 1) (owners 1 gains) = rw c.deref-2.ensures.value at c.in_ok-add_hydrogens.ensures.edges in
+    let few : length old ≤ 999 = omega (arith, ap length c.requires.drawn.edges, length-map c.args.table.now.bonds edge_of, c.requires.few_bonds) in
+    rw c.deref-3.ensures.value (few_filled atoms new old plain gains few c.in_ok-add_hydrogens.ensures.few filled bonded)
 
-pub marked_bonds-bonds-requires-clause-simple : goal.marked_bonds-bonds-requires-clause-simple
-marked_bonds-bonds-requires-clause-simple c = ?
+pub of-requires-clause-ends : goal.of-requires-clause-ends
+of-requires-clause-ends c =
+    let atoms = c.in_ok-atoms.atoms.items in
+    let gains = c.in_ok-gains.gains.items in
+    let new = c.add_hydrogens.new.atoms.items in
+    let plain = c.add_hydrogens.new.edges.items in
+    let old = c.args.drawn.edges.items in
+    let are : AreGains c.args.table.now atoms gains = rw c.deref.ensures.value at c.in_ok-gains.ensures in
+    let size : length gains ≡ length atoms = are.size ∙ sym c.in_ok-atoms.ensures.written.size in
+    let graph : IsSimple (length atoms) old = rw c.in_ok-atoms.ensures.written.size c.requires.drawn.graph in
+    let filled : new ≡ atoms ++ replicate (length (owners 1 gains)) hydrogen = rw c.deref-2.ensures.value at c.in_ok-add_hydrogens.ensures.atoms in
+    let bonded : plain ≡ old ++ hydrogen_bonds (length atoms + 1) (owners 1 gains) = rw c.deref-2.ensures.value at c.in_ok-add_hydrogens.ensures.edges in
+    let many : c.len-count.result ≡ length new = omega (arith, c.len-count.ensures, c.add_hydrogens.new.atoms.ok.0) in
+    rw (many, c.deref-3.ensures.value) (filled_graph atoms new old plain gains size graph filled bonded).ends
 
-pub marked_bonds-bonds-requires-clause-rows : goal.marked_bonds-bonds-requires-clause-rows
-marked_bonds-bonds-requires-clause-rows c = ?
+pub marked_bonds-requires-clause-simple : goal.marked_bonds-requires-clause-simple
+marked_bonds-requires-clause-simple c =
+    let atoms = c.in_ok-atoms.atoms.items in
+    let gains = c.in_ok-gains.gains.items in
+    let new = c.add_hydrogens.new.atoms.items in
+    let plain = c.add_hydrogens.new.edges.items in
+    let old = c.args.drawn.edges.items in
+    let are : AreGains c.args.table.now atoms gains = rw c.deref.ensures.value at c.in_ok-gains.ensures in
+    let size : length gains ≡ length atoms = are.size ∙ sym c.in_ok-atoms.ensures.written.size in
+    let graph : IsSimple (length atoms) old = rw c.in_ok-atoms.ensures.written.size c.requires.drawn.graph in
+    let filled : new ≡ atoms ++ replicate (length (owners 1 gains)) hydrogen = rw c.deref-2.ensures.value at c.in_ok-add_hydrogens.ensures.atoms in
+    let bonded : plain ≡ old ++ hydrogen_bonds (length atoms + 1) (owners 1 gains) = rw c.deref-2.ensures.value at c.in_ok-add_hydrogens.ensures.edges in
+    let many : c.len-count.result ≡ length new = omega (arith, c.len-count.ensures, c.add_hydrogens.new.atoms.ok.0) in
+    rw (many, c.deref-4.ensures.value) (filled_graph atoms new old plain gains size graph filled bonded)
+
+pub marked_bonds-requires-clause-rows : goal.marked_bonds-requires-clause-rows
+marked_bonds-requires-clause-rows c =
+    c.in_ok-neighbours.ensures.rows ∙ ap (λ (es : List Edge). rows_of c.len-count.result es) (c.deref-3.ensures.value ∙ sym c.deref-4.ensures.value)
 
 pub over-requires-clause-molecule : goal.over-requires-clause-molecule
-over-requires-clause-molecule c = ?
+over-requires-clause-molecule c =
+    let atoms = c.in_ok-atoms.atoms.items in
+    let gains = c.in_ok-gains.gains.items in
+    let new = c.add_hydrogens.new.atoms.items in
+    let plain = c.add_hydrogens.new.edges.items in
+    let old = c.args.drawn.edges.items in
+    let are : AreGains c.args.table.now atoms gains = rw c.deref.ensures.value at c.in_ok-gains.ensures in
+    let size : length gains ≡ length atoms = are.size ∙ sym c.in_ok-atoms.ensures.written.size in
+    let graph : IsSimple (length atoms) old = rw c.in_ok-atoms.ensures.written.size c.requires.drawn.graph in
+    let filled : new ≡ atoms ++ replicate (length (owners 1 gains)) hydrogen = rw c.deref-2.ensures.value at c.in_ok-add_hydrogens.ensures.atoms in
+    let bonded : plain ≡ old ++ hydrogen_bonds (length atoms + 1) (owners 1 gains) = rw c.deref-2.ensures.value at c.in_ok-add_hydrogens.ensures.edges in
+    let few : length old ≤ 999 = omega (arith, ap length c.requires.drawn.edges, length-map c.args.table.now.bonds edge_of, c.requires.few_bonds) in
+    molecule atoms new old plain gains c.len-written.result c.in_ok-bonds.bonds.items
+    (omega (arith, c.len-written.ensures, c.in_ok-atoms.atoms.ok.0)) size few c.in_ok-add_hydrogens.ensures.few c.in_ok-atoms.ensures.sound graph filled bonded
+    (c.in_ok-bonds.ensures.edges ∙ c.deref-4.ensures.value) (rw c.deref-4.ensures.value at c.in_ok-bonds.ensures.marks)
 
 pub over-requires-clause-rows : goal.over-requires-clause-rows
-over-requires-clause-rows c = ?
+over-requires-clause-rows c =
+    let many : c.len-count.result ≡ length c.add_hydrogens.new.atoms.items = omega (arith, c.len-count.ensures, c.add_hydrogens.new.atoms.ok.0) in
+    c.in_ok-neighbours.ensures.rows ∙ ap (λ (n : ℕ). rows_of n c.deref-3.result.now) many
+    ∙ ap (λ (es : List Edge). rows_of (length c.add_hydrogens.new.atoms.items) es) (c.deref-3.ensures.value ∙ sym (c.in_ok-bonds.ensures.edges ∙ c.deref-4.ensures.value))
 
 pub returns : goal.returns
-returns c = ?
+returns c =
+    let atoms = c.in_ok-atoms.atoms.items in
+    let gains = c.in_ok-gains.gains.items in
+    let new = c.add_hydrogens.new.atoms.items in
+    let plain = c.add_hydrogens.new.edges.items in
+    let old = c.args.drawn.edges.items in
+    let are : AreGains c.args.table.now atoms gains = rw c.deref.ensures.value at c.in_ok-gains.ensures in
+    let size : length gains ≡ length atoms = are.size ∙ sym c.in_ok-atoms.ensures.written.size in
+    let graph : IsSimple (length atoms) old = rw c.in_ok-atoms.ensures.written.size c.requires.drawn.graph in
+    let filled : new ≡ atoms ++ replicate (length (owners 1 gains)) hydrogen = rw c.deref-2.ensures.value at c.in_ok-add_hydrogens.ensures.atoms in
+    let bonded : plain ≡ old ++ hydrogen_bonds (length atoms + 1) (owners 1 gains) = rw c.deref-2.ensures.value at c.in_ok-add_hydrogens.ensures.edges in
+    is_filled c.args.table.now c.over.result atoms new old plain gains c.len-written.result c.in_ok-bonds.bonds.items
+    (omega (arith, c.len-written.ensures, c.in_ok-atoms.atoms.ok.0)) c.in_ok-atoms.ensures.written are c.requires.drawn.edges filled bonded
+    (c.in_ok-bonds.ensures.edges ∙ c.deref-4.ensures.value) c.over.ensures

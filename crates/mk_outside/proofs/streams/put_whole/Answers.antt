@@ -16,17 +16,17 @@ returns-in_default-2 g c = fails_behind _ _ _ _ c.args.piece.now c.loop.done c.l
 
 pub loop-preserved : goal.loop-preserved
 loop-preserved g c = elim c.match-write.branch [
-    in-Ok w ↦
+  | in-Ok w ↦
       let left : length c.args.piece.now - c.loop.done ≡ length (take (length c.args.piece.now - c.loop.done) (drop c.loop.done c.args.piece.now)) = rw (left_all, length-drop) refl in
       rw w.done-is record {
         within = omega (arith, left, w.in-Ok.ensures.bound);
         appended = writes_more _ _ _ c.args.piece.now c.loop.done w.in-Ok.count c.loop.invariant.appended w.in-Ok.ensures.bytes;
       }
   | in-Err+in-Interrupted w ↦ rw w.done-is record {
-      within = c.loop.invariant.within;
-      appended = writes_kept _ _ _ _ c.loop.invariant.appended w.in-Err.ensures.bytes;
-    }
-  ]
+    within = c.loop.invariant.within;
+    appended = writes_kept _ _ _ _ c.loop.invariant.appended w.in-Err.ensures.bytes;
+  }
+]
 
 pub returns : goal.returns
 returns g c = fails_behind _ _ _ _ c.args.piece.now c.loop.done c.loop.invariant.appended (Keeps-refl _)

@@ -15,12 +15,12 @@ returns-in_err-extend_from_slice-in-Ok-clause-taken g c =
 
 pub loop-preserved : goal.loop-preserved
 loop-preserved g c = elim c.match-read.branch [
-    in-Ok+else-count-most+in_ok-extend_from_slice-in-Ok w ↦ rw w.out-is record {
-      fills = rw w.in_ok-extend_from_slice-in-Ok.ensures.items (rw (length-append, length-take) (omega arith));
-      taken = rw w.in_ok-extend_from_slice-in-Ok.ensures.items (Consumes-trans _ _ _ c.loop.out.items (take w.in-Ok.count c.read.new.buf) c.loop.invariant.taken w.in-Ok.ensures.bytes.0);
-    }
+  | in-Ok+else-count-most+in_ok-extend_from_slice-in-Ok w ↦ rw w.out-is record {
+    fills = rw w.in_ok-extend_from_slice-in-Ok.ensures.items (rw (length-append, length-take) (omega arith));
+    taken = rw w.in_ok-extend_from_slice-in-Ok.ensures.items (Consumes-trans _ _ _ c.loop.out.items (take w.in-Ok.count c.read.new.buf) c.loop.invariant.taken w.in-Ok.ensures.bytes.0);
+  }
   | in-Err+in-Interrupted w ↦ rw w.out-is record {
-      fills = c.loop.invariant.fills;
-      taken = Consumes-kept _ _ _ _ c.loop.invariant.taken w.in-Err.ensures.bytes;
-    }
-  ]
+    fills = c.loop.invariant.fills;
+    taken = Consumes-kept _ _ _ _ c.loop.invariant.taken w.in-Err.ensures.bytes;
+  }
+]

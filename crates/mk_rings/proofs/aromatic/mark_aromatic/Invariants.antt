@@ -5,12 +5,12 @@ use Rattle.mk_rings.specs.Marks.{IsMarked}
 use Rattle.mk_rings.specs.SixRings.{AllBelow, LieIn, unmarked}
 use Rattle.mk_rings.proofs.aromatic.mark_aromatic.Given as goal
 
-abbrev pub invariant-loop : goal.invariant-loop
-invariant-loop l = record {
+abbrev pub invariant-loop-marks : goal.invariant-loop-marks
+invariant-loop-marks l = record {
   four : (b : ℕ) → HasKind l.bonds b 4 → IsMarked l.marks b;
-  places : AllBelow (length l.bonds) l.queue;
+  queue : AllBelow (length l.bonds) l.queue;
   within : (set : ℕ → Bool) → IsClosed l.bonds set → LieIn set l.marks;
 }
 
-abbrev pub decreases-loop : goal.decreases-loop
-decreases-loop l = unmarked l.marks
+abbrev pub decreases-loop-marks : goal.decreases-loop-marks
+decreases-loop-marks l = unmarked l.marks

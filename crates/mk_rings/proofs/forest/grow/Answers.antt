@@ -1,6 +1,6 @@
 use Rattle.std.proofs.Common.{◌≡◌, ◌-◌, ◌++◌, [], ◌∷◌, ℕ, refl, ap, sym, subst, ◌∙◌, length, arith}
 use Rattle.std.proofs.lemmas.List.{length-set, nil_from_length}
-use Rattle.mk_model.proofs.DegreeLemmas.{length-rows_of}
+use Rattle.mk_model.proofs.ForCallers.{length-rows_of}
 use Rattle.mk_model.specs.Edges.{AreBetween}
 use Rattle.mk_rings.specs.Growing.{IsReaching, IsInTree}
 use Rattle.mk_rings.proofs.GrowLemmas.{numbers-row}

@@ -1,4 +1,4 @@
-use Rattle.std.proofs.Common.{◌≡◌, ◌∙◌, ℕ, false, List, ap, arith, get_or, length, subst, sym}
+use Rattle.std.proofs.Common.{◌≡◌, ◌∙◌, false, List, ap, arith, get_or, length, subst, sym}
 use Rattle.mk_model.specs.declared.edge.Edge.{Edge}
 use Rattle.mk_model.specs.Aromatic.{IsAromatic}
 use Rattle.mk_model.specs.Edges.{rows_of}
@@ -25,4 +25,4 @@ over-requires-clause-rows c =
     let count : c.len-count.result ≡ length c.args.atoms.items = omega arith in
     let given : c.deref-2.result.now ≡ graph_edges bonds = c.deref-2.ensures.value ∙ c.in_ok-edges.ensures ∙ ap graph_edges c.deref.ensures.value in
     let marked : graph_edges c.put_marks.new.bonds.items ≡ graph_edges bonds = same_edges bonds c.put_marks.new.bonds.items c.put_marks.ensures.same in
-    c.in_ok-near.ensures.rows ∙ ap (λ n. rows_of n c.deref-2.result.now) count ∙ ap (λ (es : List Edge). rows_of (length c.args.atoms.items) es) (given ∙ sym marked)
+    c.in_ok-near.ensures ∙ ap (λ n. rows_of n c.deref-2.result.now) count ∙ ap (λ (es : List Edge). rows_of (length c.args.atoms.items) es) (given ∙ sym marked)

@@ -5,7 +5,7 @@ use Rattle.mk_rings.proofs.spreading.spread.Given as goal
 abbrev pub invariant-loop-head : goal.invariant-loop-head
 invariant-loop-head l = record {
   spreads : Spreads l.bonds l.fn.marks l.marks;
-  places : AllBelow (length l.bonds) l.queue;
+  queue : AllBelow (length l.bonds) l.queue;
   room : l.tail ≤ length l.queue;
 }
 

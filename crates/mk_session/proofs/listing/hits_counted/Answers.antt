@@ -1,30 +1,40 @@
-use Rattle.std.proofs.Common.{◌≡◌, ◌++◌, ◌∷◌, [], None, ◌+◌, length, length-append, arith}
+use Rattle.std.proofs.Common.{◌≡◌, ◌++◌, ◌∷◌, [], None, ◌+◌, length, length-append, subst, ◌∙◌, refl, arith}
+use Rattle.mk_model.specs.Molecules.{Molecule}
+use Rattle.mk_model.specs.Graphs.{GraphView}
 use Rattle.mk_model.specs.Hits.{IsHit}
 use Rattle.mk_text.specs.Rising.{IsLeast, IsLeastFrom}
 use Rattle.mk_match.specs.Plain.{hits_of}
-use Rattle.mk_match.proofs.PlainLemmas.{law}
+use Rattle.mk_match.proofs.ForCallers.{law}
 use Rattle.mk_session.proofs.ListingLemmas.{listed_all, listed_first, listed_more, listed_none, listed_whole}
 use Rattle.mk_session.proofs.listing.hits_counted.Goals as goal
 
 pub loop-alloc-init : goal.loop-alloc-init
-loop-alloc-init g c = rw (c.new-hits.ensures.items, c.new-place.ensures.items) (listed_none (hits_of c.args.graph.now c.args.mol.now), omega arith)
+loop-alloc-init g c = rw (c.new-hits.ensures.items, c.in_ok-maps.ensures.left) (listed_none (hits_of c.args.graph c.args.mol.now), omega arith, refl, refl)
 
 pub loop-alloc-preserved : goal.loop-alloc-preserved
 loop-alloc-preserved g c =
-    let all = hits_of c.args.graph.now c.args.mol.now in
-    let least : IsLeast c.loop-alloc.place.items (IsHit c.args.graph.now c.args.mol.now) c.in-Some.hit =
-    rw c.in-Some.is at (rw c.deref.ensures.value at c.in_ok-hit.ensures.least) in
-    let more = listed_more (IsHit c.args.graph.now c.args.mol.now) all c.loop-alloc.hits.items c.loop-alloc.place.items (law c.args.graph.now c.args.mol.now) c.in-Some.hit least c.loop-alloc.invariant.0 in
-    let long : length (c.loop-alloc.hits.items ++ (c.in-Some.hit ∷ [])) ≡ length c.loop-alloc.hits.items + 1 = length-append c.loop-alloc.hits.items (c.in-Some.hit ∷ []) in
-    rw (c.in_ok-push-in-Some.ensures.items, c.in_ok-put_place-in-Some.ensures, c.as_slice.ensures) (more, omega arith)
+    let maps = c.loop-alloc.maps in
+    let kept = c.loop-alloc.invariant in
+    let all = hits_of c.args.graph c.args.mol.now in
+    let next = rw c.in-Some.is at c.next.follows.holds-at-none in
+    let least : IsLeast maps.place (IsHit c.args.graph c.args.mol.now) c.in-Some.hit.now =
+    subst (λ (m : Molecule). IsLeast maps.place (IsHit c.args.graph m) c.in-Some.hit.now) kept.3
+    (subst (λ (d : GraphView). IsLeast maps.place (IsHit d maps.mol) c.in-Some.hit.now) kept.2 next.least) in
+    let more = listed_more (IsHit c.args.graph c.args.mol.now) all c.loop-alloc.hits.items maps.place (law c.args.graph c.args.mol.now) c.in-Some.hit.now least kept.0 in
+    let long : length (c.loop-alloc.hits.items ++ (c.in-Some.hit.now ∷ [])) ≡ length c.loop-alloc.hits.items + 1 = length-append c.loop-alloc.hits.items (c.in-Some.hit.now ∷ []) in
+    rw (c.in_ok-push.ensures.items, c.of.ensures, c.in_ok-from_slice.ensures.items, next.place) (more, omega arith, next.graph ∙ kept.2, next.mol ∙ kept.3)
 
-pub returns-in-None : goal.returns-in-None
-returns-in-None g c =
-    let all = hits_of c.args.graph.now c.args.mol.now in
-    let none : IsLeastFrom c.loop-alloc.place.items (IsHit c.args.graph.now c.args.mol.now) None =
-    rw c.in-None.is at (rw c.deref.ensures.value at c.in_ok-hit.ensures.least) in
-    listed_whole all c.loop-alloc.hits.items 10000 c.loop-alloc.invariant.1
-    (listed_all (IsHit c.args.graph.now c.args.mol.now) all c.loop-alloc.hits.items c.loop-alloc.place.items (law c.args.graph.now c.args.mol.now) none c.loop-alloc.invariant.0)
+pub returns-in_default : goal.returns-in_default
+returns-in_default g c =
+    let maps = c.loop-alloc.maps in
+    let kept = c.loop-alloc.invariant in
+    let all = hits_of c.args.graph c.args.mol.now in
+    let is = rw c.in_default.is at c.next.follows.holds-at-none in
+    let none : IsLeastFrom maps.place (IsHit c.args.graph c.args.mol.now) None =
+    subst (λ (m : Molecule). IsLeastFrom maps.place (IsHit c.args.graph m) None) kept.3
+    (subst (λ (d : GraphView). IsLeastFrom maps.place (IsHit d maps.mol) None) kept.2 is.0) in
+    listed_whole all c.loop-alloc.hits.items 10000 kept.1
+    (listed_all (IsHit c.args.graph c.args.mol.now) all c.loop-alloc.hits.items maps.place (law c.args.graph c.args.mol.now) none kept.0)
 
 pub returns : goal.returns
-returns g c = listed_first (hits_of c.args.graph.now c.args.mol.now) c.loop-alloc.hits.items c.loop-alloc.place.items 10000 (omega (arith, c.loop-alloc.invariant.1)) c.loop-alloc.invariant.0
+returns g c = listed_first (hits_of c.args.graph c.args.mol.now) c.loop-alloc.hits.items c.loop-alloc.maps.place 10000 (omega (arith, c.loop-alloc.invariant.1)) c.loop-alloc.invariant.0

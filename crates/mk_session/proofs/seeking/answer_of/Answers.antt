@@ -1,6 +1,6 @@
 use Rattle.std.proofs.Common.{◌≡◌, ◌∙◌, List, ℕ, ap, refl, take}
 use Rattle.mk_match.specs.Plain.{hits_of}
-use Rattle.mk_match.proofs.PlainLemmas.{law}
+use Rattle.mk_match.proofs.ForCallers.{law}
 use Rattle.mk_session.specs.declared.outcome.Outcome.{Outcome}
 use Rattle.mk_session.specs.declared.status.Status.TheVariants as status
 use Rattle.mk_session.specs.Answers.{hits_text}

@@ -1,5 +1,6 @@
 use Rattle.std.proofs.Common.{◌∙◌}
-use Rattle.mk_model.specs.Fitting.{is_hydrogen, other_end}
+use Rattle.mk_model.specs.Fitting.{is_hydrogen}
+use Rattle.mk_model.specs.Edges.{other_end}
 use Rattle.mk_model.specs.Molecules.{edge_of}
 use Rattle.mk_tests.proofs.NumberLemmas.{count-numbers, numbers-within}
 use Rattle.mk_tests.proofs.atom_counts.count_hydrogens.Goals as goal

@@ -1,5 +1,6 @@
 use Rattle.std.proofs.Common.{◌≡◌, ◌+◌, length, arith}
-use Rattle.mk_model.specs.Fitting.{hydrogens_at, is_hydrogen, other_end, others_at}
+use Rattle.mk_model.specs.Fitting.{hydrogens_at, is_hydrogen, others_at}
+use Rattle.mk_model.specs.Edges.{other_end}
 use Rattle.mk_model.specs.Molecules.{edge_of}
 use Rattle.mk_tests.proofs.NumberLemmas.{split-numbers}
 use Rattle.mk_tests.proofs.atom_counts.count_others.Goals as goal

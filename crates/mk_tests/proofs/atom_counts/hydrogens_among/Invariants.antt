@@ -1,6 +1,7 @@
 use Rattle.std.proofs.Common.{◌≡◌, take}
 use Rattle.std.specs.Prelude.{count_by}
-use Rattle.mk_model.specs.Fitting.{is_hydrogen, other_end}
+use Rattle.mk_model.specs.Fitting.{is_hydrogen}
+use Rattle.mk_model.specs.Edges.{other_end}
 use Rattle.mk_model.specs.Molecules.{edge_of}
 use Rattle.mk_tests.specs.Numbered.{passes_at}
 use Rattle.mk_tests.proofs.atom_counts.hydrogens_among.Given as goal

@@ -1,5 +1,6 @@
 use Rattle.std.proofs.Common.{◌∙◌}
-use Rattle.mk_model.specs.Fitting.{is_drawn_hydrogen, other_end}
+use Rattle.mk_model.specs.Fitting.{is_drawn_hydrogen}
+use Rattle.mk_model.specs.Edges.{other_end}
 use Rattle.mk_model.specs.Graphs.{graph_edge}
 use Rattle.mk_tests.proofs.NumberLemmas.{count-numbers, numbers-within}
 use Rattle.mk_tests.proofs.drawn_counts.count_drawn_hydrogens.Goals as goal

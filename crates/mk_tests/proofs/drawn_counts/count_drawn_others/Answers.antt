@@ -1,5 +1,6 @@
 use Rattle.std.proofs.Common.{◌≡◌, ◌+◌, length, arith}
-use Rattle.mk_model.specs.Fitting.{drawn_hydrogens, is_drawn_hydrogen, other_end, drawn_others}
+use Rattle.mk_model.specs.Fitting.{drawn_hydrogens, is_drawn_hydrogen, drawn_others}
+use Rattle.mk_model.specs.Edges.{other_end}
 use Rattle.mk_model.specs.Graphs.{graph_edge}
 use Rattle.mk_tests.proofs.NumberLemmas.{split-numbers}
 use Rattle.mk_tests.proofs.drawn_counts.count_drawn_others.Goals as goal

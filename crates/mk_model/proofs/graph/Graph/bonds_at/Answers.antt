@@ -2,8 +2,8 @@ use Rattle.std.proofs.Common.{◌≡◌, ◌+◌, ◌-◌, ◌∙◌, Some, ap, 
 use Rattle.std.specs.Prelude.{slice_get}
 use Rattle.mk_model.specs.Edges.{rows_of, numbers_at}
 use Rattle.mk_model.specs.Graphs.{graph_edge, graph_edges}
-use Rattle.mk_model.proofs.DegreeLemmas.{length-rows_of, slice_get-rows_of}
-use Rattle.mk_model.proofs.MoleculeLemmas.{numbers_within}
+use Rattle.mk_model.proofs.EdgesLemmas.{length-rows_of, slice_get-rows_of}
+use Rattle.mk_model.proofs.MoleculesLemmas.{numbers_within}
 use Rattle.mk_model.proofs.graph.Graph.bonds_at.Goals as goal
 
 pub at-requires-clause-most : goal.at-requires-clause-most

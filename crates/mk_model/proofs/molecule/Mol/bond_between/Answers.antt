@@ -1,4 +1,4 @@
-use Rattle.mk_model.proofs.MoleculeLemmas.{bond-exact}
+use Rattle.mk_model.proofs.MoleculesLemmas.{bond-exact}
 use Rattle.mk_model.proofs.molecule.Mol.bond_between.Goals as goal
 
 pub returns : goal.returns

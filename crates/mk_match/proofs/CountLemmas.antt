@@ -1,0 +1,149 @@
+-- The atoms of an element in a graph and in a molecule: a hit needs as many there.
+--     enough      where there is a hit, the molecule has as many atoms of an element as the graph asks for
+use Rattle.std.proofs.Common.{◌≡◌, ◌≢◌, ℕ, zero, suc, ◌+◌, ◌<◌, ◌≤◌, ◌-◌, inl, inr, Bool, true, false, cond, eqb, List, [], ◌∷◌, length, get_or, map, Some, refl, sym, ap, subst, ◌∙◌, arith, All, AllPairs, Contains}
+use Rattle.std.specs.Prelude.{count_by, slice_get}
+use Rattle.std.proofs.lemmas.Bool.{cases_lt}
+use Rattle.std.proofs.lemmas.Bool.Decides.{nat_tests}
+use Rattle.std.proofs.lemmas.List.{get_or-map, length-map}
+use Rattle.std.proofs.lemmas.List.Kept.{AllPairs-cons}
+use Rattle.std.proofs.lemmas.List.Sums.{sum_by-cons}
+use Rattle.mk_model.specs.declared.atom_test.Kind.{Kind}
+use Rattle.mk_model.specs.declared.atom_test.Kind.TheVariants.{Element, OneOf, NoneOf, NotHydrogen, Hetero, Anything}
+use Rattle.mk_model.specs.declared.graph.GraphAtom.{GraphAtom}
+use Rattle.mk_model.specs.declared.molecule.Atom.{Atom}
+use Rattle.mk_model.specs.Molecules.{Molecule}
+use Rattle.mk_model.specs.Graphs.{GraphView}
+use Rattle.mk_model.specs.Tests.{accepts}
+use Rattle.mk_model.specs.Hits.{image, IsHit}
+use Rattle.mk_model.proofs.ForCallers.{place_is, place_within}
+use Rattle.mk_match.specs.Counts.{asks_for, is_of, names}
+use Rattle.mk_match.proofs.BondCountLemmas.{fits_in}
+use Rattle.mk_match.proofs.ListTestLemmas.{all_cons}
+
+-- ---- the numbers of the items that pass a test
+
+module _ {X : Type 0} (p : X → Bool) where
+  -- the numbers of those that pass, where the first item has the number k
+  abbrev numbers_where : ℕ → List X → List ℕ
+  numbers_where k [] = []
+  numbers_where k (x ∷ xs) =
+      let later = numbers_where (k + 1) xs in
+      cond (p x) (k ∷ later) later
+
+  length-numbers_where : (k : ℕ) (xs : List X) → length (numbers_where k xs) ≡ count_by p xs
+  length-numbers_where k [] = refl
+  length-numbers_where k (x ∷ xs) =
+      let later = length-numbers_where (k + 1) xs in
+      (elim (p x) as (λ b. length (cond b (k ∷ numbers_where (k + 1) xs) (numbers_where (k + 1) xs)) ≡ cond b 1 0 + count_by p xs) [
+        | true ↦ omega arith
+        | false ↦ omega arith
+      ]) ∙ sym (sum_by-cons (λ y. cond (p y) 1 0) x xs)
+
+  -- the number of an item that passes
+  record IsNumberWhere (k : ℕ) (xs : List X) (n : ℕ) : Type 0 where
+    least : k ≤ n
+    most : n < k + length xs
+    passes : (d : X) → p (get_or xs (n - k) d) ≡ true
+
+  one_more : (k n : ℕ) (x : X) (xs : List X) → IsNumberWhere (k + 1) xs n → IsNumberWhere k (x ∷ xs) n
+  one_more k n x xs is = record {
+    least = omega (arith, is.least);
+    most = omega (arith, is.most);
+    passes = λ d. (let place : n - k ≡ suc (n - (k + 1)) = omega (arith, is.least) in rw place (is.passes d));
+  }
+
+  each_by : (k : ℕ) (x : X) (xs : List X) (b : Bool) → p x ≡ b → All (IsNumberWhere (k + 1) xs) (numbers_where (k + 1) xs) → All (IsNumberWhere k (x ∷ xs)) (cond b (k ∷ numbers_where (k + 1) xs) (numbers_where (k + 1) xs))
+  each_by k x xs true is later =
+      all_cons (IsNumberWhere k (x ∷ xs)) k (numbers_where (k + 1) xs)
+      (record { least = omega arith; most = omega arith; passes = λ d. (let place : k - k ≡ 0 = omega arith in rw place is) })
+      (λ i d within. one_more k (get_or (numbers_where (k + 1) xs) i d) x xs (later i d within))
+  each_by k x xs false is later = λ i d within. one_more k (get_or (numbers_where (k + 1) xs) i d) x xs (later i d within)
+
+  each_where : (k : ℕ) (xs : List X) → All (IsNumberWhere k xs) (numbers_where k xs)
+  each_where k [] = λ i d within. absurd (omega arith)
+  each_where k (x ∷ xs) = each_by k x xs (p x) refl (each_where (k + 1) xs)
+
+  -- no number stands twice
+  distinct_by : (k : ℕ) (x : X) (xs : List X) (b : Bool) → AllPairs (λ m n. m ≢ n) (numbers_where (k + 1) xs) → AllPairs (λ m n. m ≢ n) (cond b (k ∷ numbers_where (k + 1) xs) (numbers_where (k + 1) xs))
+  distinct_by k x xs true later =
+      AllPairs-cons (λ (m n : ℕ). m ≢ n) k (numbers_where (k + 1) xs) (λ i d within. (let is = each_where (k + 1) xs i d within in omega (arith, is.least))) later
+  distinct_by k x xs false later = later
+
+  distinct_where : (k : ℕ) (xs : List X) → AllPairs (λ m n. m ≢ n) (numbers_where k xs)
+  distinct_where k [] = λ i j d order within. absurd (omega arith)
+  distinct_where k (x ∷ xs) = distinct_by k x xs (p x) (distinct_where (k + 1) xs)
+
+  -- each item that passes has its number there
+  behind_by : (k n : ℕ) (x : X) (xs : List X) (b : Bool) → Contains (numbers_where (k + 1) xs) n → Contains (cond b (k ∷ numbers_where (k + 1) xs) (numbers_where (k + 1) xs)) n
+  behind_by k n x xs true has = (suc has.0, (let within = has.1 in omega arith), has.2)
+  behind_by k n x xs false has = has
+
+  first_by : (k : ℕ) (x : X) (xs : List X) (b : Bool) → p x ≡ b → p x ≡ true → Contains (cond b (k ∷ numbers_where (k + 1) xs) (numbers_where (k + 1) xs)) (k + 0)
+  first_by k x xs true is passes = (0, omega arith, omega arith)
+  first_by k x xs false is passes = absurd cc
+
+  has_where : (k : ℕ) (xs : List X) (b : ℕ) (d : X) → b < length xs → p (get_or xs b d) ≡ true → Contains (numbers_where k xs) (k + b)
+  has_where k [] b d below passes = absurd (omega arith)
+  has_where k (x ∷ xs) zero d below passes = first_by k x xs (p x) refl passes
+  has_where k (x ∷ xs) (suc b) d below passes =
+      let place : k + 1 + b ≡ k + suc b = omega arith in
+      behind_by k (k + suc b) x xs (p x) (subst (Contains (numbers_where (k + 1) xs)) place (has_where (k + 1) xs b d (omega arith) passes))
+
+-- ---- what asks for an element lies on one
+
+accepted : (z : ℕ) (kind : Kind) (element : ℕ) → names z kind ≡ true → accepts kind element ≡ true → eqb element z ≡ true
+accepted z (Element e) element is takes = grind (arith, nat_tests)
+accepted z (OneOf list) element is takes = absurd cc
+accepted z (NoneOf list) element is takes = absurd cc
+accepted z NotHydrogen element is takes = absurd cc
+accepted z Hetero element is takes = absurd cc
+accepted z Anything element is takes = absurd cc
+
+module _ (graph : GraphView) (mol : Molecule) (z : ℕ) (hit : List ℕ) (is : IsHit graph mol hit) where
+  -- the image of an atom that asks for the element is one of its atoms
+  image_of : (x : ℕ) → IsNumberWhere (asks_for z) 1 graph.atoms x → Contains (numbers_where (is_of z) 1 mol.atoms) (image hit x)
+  image_of x asks =
+      let least = asks.least in
+      let most : x ≤ length graph.atoms = omega (arith, asks.most) in
+      let fits = is.atoms x least most in
+      let within : x - 1 < length hit = omega (arith, is.one_each) in
+      let range = is.within (x - 1) 0 within in
+      let asked_is : get_or graph.atoms (x - 1) fits.asked ≡ fits.asked = place_is graph.atoms (x - 1) fits.asked fits.asked fits.asked_at in
+      let named : names z fits.asked.test.kind ≡ true = subst (λ (a : GraphAtom). asks_for z a ≡ true) asked_is (asks.passes fits.asked) in
+      let of : is_of z fits.atom ≡ true = accepted z fits.asked.test.kind fits.atom.element named fits.kind in
+      let atom_is : get_or mol.atoms (image hit x - 1) fits.atom ≡ fits.atom = place_is mol.atoms (image hit x - 1) fits.atom fits.atom fits.atom_at in
+      let below : image hit x - 1 < length mol.atoms = place_within mol.atoms (image hit x - 1) fits.atom fits.atom_at in
+      let number : 1 + (image hit x - 1) ≡ image hit x = omega (arith, range.0) in
+      subst (Contains (numbers_where (is_of z) 1 mol.atoms)) number
+      (has_where (is_of z) 1 mol.atoms (image hit x - 1) fits.atom below (subst (λ (a : Atom). is_of z a ≡ true) (sym atom_is) of))
+
+  -- the molecule has as many atoms of an element as the graph asks for
+  pub enough : count_by (asks_for z) graph.atoms ≤ count_by (is_of z) mol.atoms
+  enough =
+      let asking = numbers_where (asks_for z) 1 graph.atoms in
+      omega (arith, fits_in (map (image hit) asking) (numbers_where (is_of z) 1 mol.atoms) distinct there, length-map asking (image hit), length-numbers_where (asks_for z) 1 graph.atoms, length-numbers_where (is_of z) 1 mol.atoms)
+    where
+      distinct : AllPairs (λ a b. a ≢ b) (map (image hit) (numbers_where (asks_for z) 1 graph.atoms))
+      distinct i j d order within same =
+          let asking = numbers_where (asks_for z) 1 graph.atoms in
+          let below : j < length asking = omega (arith, length-map asking (image hit)) in
+          let below' : i < length asking = omega arith in
+          let here = get_or-map (image hit) asking i 0 d below' in
+          let there = get_or-map (image hit) asking j 0 d below in
+          let a = get_or asking i 0 in
+          let b = get_or asking j 0 in
+          let is_a = each_where (asks_for z) 1 graph.atoms i 0 below' in
+          let is_b = each_where (asks_for z) 1 graph.atoms j 0 below in
+          let other = distinct_where (asks_for z) 1 graph.atoms i j 0 order below in
+          let one : image hit a ≡ image hit b = sym here ∙ same ∙ there in
+          elim (cases_lt a b) [
+            | inl less ↦ is.distinct (a - 1) (b - 1) 0 (omega (arith, is_a.least)) (omega (arith, is_b.least, is_b.most, is.one_each)) one
+            | inr more ↦ is.distinct (b - 1) (a - 1) 0 (omega (arith, is_b.least)) (omega (arith, is_a.least, is_a.most, is.one_each)) (sym one)
+          ]
+
+      there : All (Contains (numbers_where (is_of z) 1 mol.atoms)) (map (image hit) (numbers_where (asks_for z) 1 graph.atoms))
+      there i d within =
+          let asking = numbers_where (asks_for z) 1 graph.atoms in
+          let below : i < length asking = omega (arith, length-map asking (image hit)) in
+          let here = get_or-map (image hit) asking i 0 d below in
+          subst (Contains (numbers_where (is_of z) 1 mol.atoms)) (sym here) (image_of (get_or asking i 0) (each_where (asks_for z) 1 graph.atoms i 0 below))

@@ -1,9 +1,0 @@
-use Rattle.std.proofs.Common.{◌-◌, arith}
-use Rattle.mk_model.proofs.PlaceLemmas.{bond_first, bond_second}
-use Rattle.mk_match.proofs.candidates.bond_numbered.Goals as goal
-
-pub returns-clause-first : goal.returns-clause-first
-returns-clause-first c = rw c.bonds.ensures.list (bond_first c.args.mol.now c.bonds.ensures.kept (c.args.number - 1) _ (omega arith))
-
-pub returns-clause-second : goal.returns-clause-second
-returns-clause-second c = rw c.bonds.ensures.list (bond_second c.args.mol.now c.bonds.ensures.kept (c.args.number - 1) _ (omega arith))

@@ -1,0 +1,28 @@
+use Rattle.std.proofs.Common.{◌≡◌, ◌+◌, ◌-◌, ◌<◌, ◌≤◌, length, get_or, take, refl, arith}
+use Rattle.mk_match.proofs.WalkLemmas.{seek_last, seek_more, seek_past, seek_whole}
+use Rattle.mk_match.proofs.walk.Walk.seek.Goals as goal
+
+pub returns-then-i-len-clause-same : goal.returns-then-i-len-clause-same
+returns-then-i-len-clause-same c =
+    let w = c.loop-i.self in
+    seek_last c.args.graph.now c.args.mol.now c.requires.kept.drawing c.requires.kept.molecule c.args.front.now c.loop-i.i w.images.items w.levels.items w.depth w.above c.loop-i.invariant
+    c.loop-i-test.true (omega (arith, c.loop-i.invariant.walk.room, c.if-i-len.true)) c.min-self.result (rw (c.passed.ensures, c.atom_count.ensures) at c.min-self.ensures)
+
+pub returns-then-not-stands-clause-same : goal.returns-then-not-stands-clause-same
+returns-then-not-stands-clause-same c =
+    let w = c.loop-i.self in
+    seek_past c.args.graph.now c.args.mol.now c.requires.kept.drawing c.requires.kept.molecule c.args.front.now c.loop-i.i w.images.items w.levels.items w.depth w.above c.loop-i.invariant
+    c.loop-i-test.true c.min-self-then-not-stands.result (omega (arith, c.min-self-then-not-stands.ensures, c.atom_count-then-not-stands.ensures)) (λ stands. (let never = c.if-not-stands.ensures.1 stands in absurd cc))
+
+pub loop-i-preserved : goal.loop-i-preserved
+loop-i-preserved c =
+    let w = c.loop-i.self in
+    let is = c.if-not-stands.ensures.0 refl in
+    rw (c.put.ensures.images, c.put.ensures.levels, c.put.ensures.depth, c.put.ensures.above)
+    (seek_more c.args.graph.now c.args.mol.now c.requires.kept.drawing c.requires.kept.molecule c.args.front.now c.loop-i.i w.images.items w.levels.items w.depth w.above c.loop-i.invariant
+    c.loop-i-test.true (get_or c.args.front.now c.loop-i.i 0) refl is.0 is.1 is.2 (λ whole. c.if-i-len.false (omega (arith, c.loop-i.invariant.walk.room))))
+
+pub returns-clause-same : goal.returns-clause-same
+returns-clause-same c =
+    let w = c.loop-i.self in
+    seek_whole c.args.graph.now c.args.mol.now c.requires.kept.drawing c.requires.kept.molecule c.args.front.now c.loop-i.i w.images.items w.levels.items w.depth w.above c.loop-i.invariant c.loop-i-test.false

@@ -1,0 +1,27 @@
+-- Which atom of a graph may lie on which atom of a molecule, as a table. This file serves the code alone.
+--     MayLie graph mol x m               atom x accepts atom m, which has as many bonds at least
+--     cell mol x m                       the place of the two in the table
+--     IsTable graph mol fits             each cell of the table says whether the one may lie on the other
+use Rattle.std.specs.Prelude.{◌≡◌, ◌≤◌, ◌+◌, ◌*◌, ◌-◌, ◌↔◌, ℕ, Bool, false, List, length, slice_index_or, IsTrue}
+use Rattle.mk_model.specs.Edges.{numbers_at}
+use Rattle.mk_model.specs.Molecules.{Molecule, edges}
+use Rattle.mk_model.specs.Graphs.{GraphView, graph_edges}
+use Rattle.mk_model.specs.Fitting.{FitsAtom}
+
+-- atom x of the graph accepts atom m of the molecule, which has at least as many bonds
+pub record MayLie (graph : GraphView) (mol : Molecule) (x m : ℕ) : Type 0 where
+  pub fits : FitsAtom graph mol x m
+  pub bonded : length (numbers_at (graph_edges graph.bonds) x) ≤ length (numbers_at (edges mol.bonds) m)
+
+-- the place of atom x and atom m in a table with a row for each atom of the graph
+abbrev pub cell : Molecule → ℕ → ℕ → ℕ
+cell mol x m = (x - 1) * length mol.atoms + (m - 1)
+
+-- the first rows of the table say on which atoms of the molecule each of the first atoms of the graph may lie
+pub record AreRows (graph : GraphView) (mol : Molecule) (rows : ℕ) (fits : List Bool) : Type 0 where
+  pub size : length fits ≡ rows * length mol.atoms
+  pub says : (x m : ℕ) → 1 ≤ x → x ≤ rows → 1 ≤ m → m ≤ length mol.atoms → IsTrue (slice_index_or fits (cell mol x m) false) ↔ MayLie graph mol x m
+
+-- the table has a row for each atom of the graph
+abbrev pub IsTable : GraphView → Molecule → List Bool → Type 0
+IsTable graph mol fits = AreRows graph mol (length graph.atoms) fits

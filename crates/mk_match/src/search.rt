@@ -1,0 +1,97 @@
+// A search in one molecule, made once for a graph and a front.
+ghost use Rattle.std.specs.Prelude.{◌≡◌, IfOk, IsTrue};
+ghost use Rattle.mk_model.specs.Hits.{IsHit};
+ghost use Rattle.mk_text.specs.Rising.{IsLeast, IsLeastFrom};
+
+use crate::counts::has_too_few;
+use crate::outlook::Outlook;
+use crate::table::table_of;
+use crate::walk::Walk;
+use mk_model::{Graph, Memory, Mol};
+use std::alloc::Global;
+
+/// What a search still has to do: a walk, or to give the one hit of a graph without atoms, or nothing.
+#[derive(Clone, Copy, Debug)]
+pub enum Stage {
+    Walking,
+    Once,
+    Ended,
+}
+
+/// A search: on which atoms those of the graph may lie, where its walk stands, and the look ahead.
+#[derive(Debug, Drop)]
+pub struct Search {
+    pub fits: Vec<bool>,
+    pub outlook: Outlook,
+    pub walk: Walk,
+    pub stage: Stage,
+}
+
+impl Search {
+    ghost use Rattle.std.specs.Prelude.{◌∷◌, ◌++◌, [], None, List, ℕ, false};
+    ghost use Rattle.mk_match.specs.Search.{IsLeft, IsSearch};
+
+    /// A search for the hits that aren't below the front.
+    pub fn of(alloc: Global, graph: &Graph, mol: &Mol, front: &[u32]) -> Result<Search, Memory>
+        ensures kept { IfOk result (IsSearch graph.now mol.now) }
+        ensures left { IfOk result (IsLeft graph.now mol.now front.now) }
+    {
+        if graph.atom_count() == 0 {
+            if front.is_empty() {
+                return Ok(Search::at_rest(alloc, Stage::Once));
+            }
+            return Ok(Search::at_rest(alloc, Stage::Ended));
+        }
+        if has_too_few(graph, mol) {
+            return Ok(Search::at_rest(alloc, Stage::Ended));
+        }
+        let fits = table_of(alloc, graph, mol)?;
+        let outlook = Outlook::new(alloc, graph, mol, &fits)?;
+        let mut walk = Walk::new(alloc, graph, mol)?;
+        walk.seek(graph, mol, &fits, front);
+        Ok(Search {
+            fits,
+            outlook,
+            walk,
+            stage: Stage::Walking,
+        })
+    }
+
+    // A search that doesn't walk.
+    fn at_rest(alloc: Global, stage: Stage) -> Search
+        ensures stage { result.stage ≡ stage }
+        ensures images { result.walk.images.items ≡ [] }
+    {
+        Search {
+            fits: Vec::new(alloc),
+            outlook: Outlook::at_rest(alloc),
+            walk: Walk::at_rest(alloc),
+            stage,
+        }
+    }
+
+    /// Goes on to the least hit that is left, where there is one: it lies in the walk's images.
+    pub fn go_on(&mut self, graph: &Graph, mol: &Mol) -> bool
+        requires { IsSearch graph.now mol.now self.old }
+        ensures kept { IsSearch graph.now mol.now self.new }
+        ensures least { IsTrue result → (place : List ℕ) → IsLeft graph.now mol.now place self.old → IsLeast place (IsHit graph.now mol.now) self.new.walk.images.items }
+        ensures left { IsTrue result → IsLeft graph.now mol.now (self.new.walk.images.items ++ 0 ∷ []) self.new }
+        ensures none { result ≡ false → (place : List ℕ) → IsLeft graph.now mol.now place self.old → IsLeastFrom place (IsHit graph.now mol.now) None }
+        ensures ended { result ≡ false → (place : List ℕ) → IsLeft graph.now mol.now place self.old → IsLeft graph.now mol.now place self.new }
+    {
+        match self.stage {
+            Stage::Walking => {
+                if self.walk.go_on(graph, mol, &self.fits, &mut self.outlook) {
+                    return true;
+                }
+                self.stage = Stage::Ended;
+                false
+            }
+            Stage::Once => {
+                self.stage = Stage::Ended;
+                true
+            }
+            Stage::Ended => false,
+        }
+    }
+}

@@ -1,0 +1,6 @@
+pub mod QueryLineLemmas
+pub mod QueryPartLemmas
+pub mod QueryFileLemmas
+pub mod QueryLawLemmas
+pub mod QueryFactLemmas
+pub mod QueryReadingLemmas

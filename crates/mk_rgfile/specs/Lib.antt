@@ -1,0 +1,4 @@
+pub mod QueryLines
+pub mod QueryFile
+pub mod QueryFacts
+pub mod QueryReading

@@ -1,0 +1,10 @@
+use Rattle.std.proofs.Common.{◌≤◌, length}
+use Rattle.mk_rings.specs.SixRings.{AllBelow, Spreads}
+use Rattle.mk_rings.proofs.spreading.spread_from.Given as goal
+
+abbrev pub invariant-loop-again : goal.invariant-loop-again
+invariant-loop-again l = record {
+  spreads : Spreads l.bonds l.fn.marks l.marks;
+  queue : AllBelow (length l.bonds) l.queue;
+  room : l.tail ≤ length l.queue;
+}

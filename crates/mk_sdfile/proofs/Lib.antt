@@ -1,0 +1,4 @@
+pub mod SdfileLemmas
+pub mod SdfileStepsLemmas
+pub mod SdfileFactLemmas
+pub mod SdfileTextLemmas

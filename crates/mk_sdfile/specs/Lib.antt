@@ -1,0 +1,3 @@
+pub mod Sdfile
+pub mod SdfileReading
+pub mod SdfileSteps
