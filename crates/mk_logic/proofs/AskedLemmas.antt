@@ -3,7 +3,7 @@
 --     meets_by        what the group of one number has to meet
 use Rattle.std.proofs.Common.{◌≡◌, ℕ, zero, suc, ◌+◌, ◌-◌, ◌<◌, ◌≤◌, Bool, true, false, not, ◌&&◌, ◌||◌, inl, inr, List, [], ◌∷◌, length, Option, Some, None, refl, sym, ap, subst, ◌∙◌, arith}
 use Rattle.std.specs.Prelude.{◌==◌, ◌↔◌, nat_lt, slice_get, IsTrue, zip}
-use Rattle.std.specs.List.{list_all, list_any}
+use Rattle.std.specs.List.{list_any}
 use Rattle.std.proofs.lemmas.Bool.Decides.{nat_tests}
 use Rattle.mk_text.proofs.ForCallers.{both, and_true, or_left, or_right}
 use Rattle.mk_model.specs.declared.group.Group.{Group}
@@ -11,7 +11,7 @@ use Rattle.mk_model.specs.declared.query.Count.{Count}
 use Rattle.mk_model.specs.Queries.{QueryView}
 use Rattle.mk_model.specs.Logic.{IsAllowed, IsAsked, IsGroupAt, MeetsRange, Names, is_in_range}
 use Rattle.mk_model.proofs.ForCallers.{place_within}
-use Rattle.mk_logic.specs.Counts.{IsOver, filled_at, is_asked, sites_at}
+use Rattle.mk_logic.specs.Counts.{filled_at, is_asked, sites_at}
 
 -- ---- some of a list
 
@@ -150,14 +150,6 @@ module _ (query : QueryView) (counts : List Count) where
       let below = place_within query.groups (g - 1) group at.1 in
       let place : g - 1 + 1 ≡ g = omega (arith, at.0) in
       rw place at (each (g - 1) (omega (arith, below))) group at
-
-  -- ---- more than a range says
-
-  pub over_at : (k : ℕ) (group : Group) (count : Count) → slice_get query.groups k ≡ Some group → slice_get counts k ≡ Some count → 0 < count.sites → is_asked query.groups counts (k + 1) ≡ true
-      → list_all (λ interval. nat_lt interval.most count.filled) group.range ≡ true → IsOver query counts (k + 1)
-  over_at k group count at at' some asked above =
-      let place : k + 1 - 1 ≡ k = omega arith in
-      record { group = group; at = group_at k group at; some = rw (place, at') some; asked = asked_found (k + 1) asked; above = rw (filled_is k count at') above }
 
   -- the count of the sites of the group of a number
   pub sites_is : (k : ℕ) (count : Count) → slice_get counts k ≡ Some count → sites_at counts (k + 1) ≡ count.sites

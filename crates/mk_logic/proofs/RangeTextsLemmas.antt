@@ -1,22 +1,22 @@
 -- A text is a range exactly where the computation gives that range.
 --     range_is_read     the two agree
 --     one_range         so a text is at most one range
-use Rattle.std.proofs.Common.{◌≡◌, ℕ, zero, suc, ◌+◌, ◌-◌, ◌<◌, ◌≤◌, Bool, true, false, not, cond, eqb, leb, ltb, ◌&&◌, ◌||◌, List, [], ◌∷◌, ◌++◌, length, get_or, take, drop, All, Option, Some, None, refl, sym, ap, subst, ◌∙◌, append_assoc, arith, ◌⊎◌, inl, inr, lit<, lit≤}
+use Rattle.std.proofs.Common.{◌≡◌, ℕ, zero, suc, ◌+◌, ◌-◌, ◌<◌, ◌≤◌, Bool, true, false, not, cond, eqb, leb, ltb, List, [], ◌∷◌, ◌++◌, length, get_or, take, drop, All, Option, Some, None, refl, sym, ap, subst, ◌∙◌, append_assoc, arith, lit<, lit≤}
 use Rattle.std.specs.Prelude.{◌↔◌, IfNone, IfSome}
 use Rattle.std.specs.List.{list_all, join_with_byte, position_or_len, prefix_len, before_first, after_first, slice_split}
 use Rattle.std.specs.Char.{is_ascii_digit}
 use Rattle.std.specs.Str.Parse.{digits_value}
 use Rattle.std.proofs.lemmas.Bool.{le-leb, leb-true, lt-ltb, ltb-false, ltb-true}
 use Rattle.std.proofs.lemmas.Bool.Decides.{nat_tests}
-use Rattle.std.proofs.lemmas.List.{append-nil, take-append-drop, length-append, get_or-append_right}
+use Rattle.std.proofs.lemmas.List.{length-append}
 use Rattle.std.proofs.lemmas.List.Folds.{list_all-append}
 use Rattle.std.proofs.lemmas.List.Splits.{slice_split_at, slice_split_none, slice_split_first, join_with_byte-slice_split, length-slice_split}
 use Rattle.std.proofs.lemmas.List.Sums.{split_at_first, fails_before_first, passes_at_first, prefix_len_is, prefix_len-le-length}
 use Rattle.mk_text.specs.Columns.{columns, is_space, are_blank, trimmed, without_first_blanks}
-use Rattle.mk_text.specs.Options.{◌>>=◌, when}
-use Rattle.mk_text.proofs.ForCallers.{both, and_true, both_read, test_passed, list_all_at, trimmed_between, trimmed_is_between, AreBetween, read_behind, trimmed-columns}
+use Rattle.mk_text.specs.Options.{◌>>=◌}
+use Rattle.mk_text.proofs.ForCallers.{both, and_true, both_read, test_passed, list_all_at, trimmed_between, trimmed_is_between, read_behind, trimmed-columns}
 use Rattle.mk_model.specs.declared.group.Interval.{Interval}
-use Rattle.mk_logic.specs.RangeTexts.{IsNumeral, IsSigned, IsSpan, IsRangeItem, AreRangeItems, IsRangeText, OneRange, from_to, above, below}
+use Rattle.mk_logic.specs.RangeTexts.{IsNumeral, IsSigned, IsRangeItem, AreRangeItems, IsRangeText, OneRange, from_to, above, below}
 use Rattle.mk_logic.specs.RangeTexts.IsRangeItem.{one_number, two_numbers, more_than, less_than}
 use Rattle.mk_logic.specs.RangeTexts.IsRangeText.{blank_text, item_text}
 use Rattle.mk_logic.specs.RangeReading.{digits_number, numeral, one_number_in, two_numbers_in, numbers_in, item_by, range_item, items_of, range_of}

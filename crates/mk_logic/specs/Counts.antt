@@ -1,10 +1,9 @@
 -- The counts of the groups as a list, from group 1 on.
 --     sites_at counts g       the sites of group g
 --     filled_at counts g      those of them that are filled
-use Rattle.std.specs.Prelude.{◌-◌, ◌<◌, ◌==◌, ◌&&◌, ◌||◌, nat_lt, ℕ, Bool, not, IsTrue, List, Option, Some, None, slice_get, zip}
-use Rattle.std.specs.List.{list_all, list_any}
-use Rattle.mk_model.specs.Queries.{QueryView}
-use Rattle.mk_model.specs.Logic.{IsAsked, IsGroupAt}
+--     is_asked groups counts g    no group names group g, or one that does has a filled site
+use Rattle.std.specs.Prelude.{◌-◌, ◌==◌, ◌&&◌, ◌||◌, nat_lt, ℕ, Bool, not, List, Option, Some, None, slice_get, zip}
+use Rattle.std.specs.List.{list_any}
 use Rattle.mk_model.specs.declared.group.Group.{Group}
 use Rattle.mk_model.specs.declared.query.Count.{Count}
 
@@ -29,12 +28,3 @@ abbrev pub is_asked : List Group → List Count → ℕ → Bool
 is_asked groups counts g =
     not (list_any (λ group. group.then_group == g) groups)
     || list_any (λ (group, count). (group.then_group == g) && nat_lt 0 count.filled) (zip groups counts)
-
--- Group g has a site, its range is asked for, and each interval of the range ends below the number of its filled sites: it
--- can't be allowed with more sites either.
-pub record IsOver (query : QueryView) (counts : List Count) (g : ℕ) : Type 0 where
-  pub group : Group
-  pub at : IsGroupAt query g group
-  pub some : 0 < sites_at counts g
-  pub asked : IsAsked query (filled_at counts) g
-  pub above : IsTrue (list_all (λ interval. nat_lt interval.most (filled_at counts g)) group.range)

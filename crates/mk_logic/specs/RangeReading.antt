@@ -2,7 +2,7 @@
 --     numeral text        the number of one to three digits
 --     range_item text     the interval of an item
 --     range_of text       the intervals of a range text
-use Rattle.std.specs.Prelude.{ℕ, zero, suc, ◌+◌, ◌==◌, ◌&&◌, nat_le, nat_lt, Bool, true, false, List, [], ◌∷◌, length, Option, Some, None, if◌then◌else◌}
+use Rattle.std.specs.Prelude.{ℕ, ◌==◌, ◌&&◌, nat_le, nat_lt, List, [], ◌∷◌, length, Option, Some, None, if◌then◌else◌}
 use Rattle.std.specs.List.{list_all, position_or_len, before_first, after_first, slice_split}
 use Rattle.std.specs.Char.{is_ascii_digit}
 use Rattle.std.specs.Str.Parse.{digits_value}

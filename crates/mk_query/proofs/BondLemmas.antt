@@ -1,13 +1,13 @@
 -- The first bond that a query can't have.
 --     counts_more, few_more, leaves, crowds     the bonds of each atom, counted one bond after the other
 --     least_both                                the least item at which one of two demands fails
-use Rattle.std.proofs.Common.{◌≡◌, ℕ, suc, ◌+◌, ◌-◌, ◌<◌, ◌≤◌, Bool, true, false, cond, eqb, leb, ◌||◌, List, [], ◌∷◌, ◌++◌, All, Option, Some, None, length, get_or, take, map, refl, sym, ap, subst, ◌∙◌, arith, ⊎_elim, ◌⊎◌, inl, inr}
-use Rattle.std.specs.Prelude.{◌↔◌, count_by}
+use Rattle.std.proofs.Common.{◌≡◌, ℕ, ◌+◌, ◌-◌, ◌<◌, ◌≤◌, Bool, true, false, cond, eqb, leb, ◌||◌, List, All, Option, Some, None, length, get_or, take, refl, sym, ap, subst, ◌∙◌, arith, ⊎_elim, ◌⊎◌, inl, inr}
+use Rattle.std.specs.Prelude.{◌↔◌}
 use Rattle.std.proofs.lemmas.Bool.{cases_lt, leb-true}
 use Rattle.std.proofs.lemmas.Bool.Decides.{nat_tests}
 use Rattle.std.proofs.lemmas.List.{get_or_default, take_all, take_more, map_push}
 use Rattle.std.proofs.lemmas.List.Sums.{sum_by_push}
-use Rattle.mk_text.specs.Items.{FindsLeast, IsLeastFailing, OfItem}
+use Rattle.mk_text.specs.Items.{FindsLeast, OfItem}
 use Rattle.mk_model.specs.declared.edge.Edge.{Edge}
 use Rattle.mk_model.specs.Edges.{degree, touches}
 use Rattle.mk_ctab.specs.declared.raw.RawBond.{RawBond}

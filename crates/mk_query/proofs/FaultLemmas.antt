@@ -1,5 +1,5 @@
 -- The checks in their order: the first of which an item is named is the first fault.
-use Rattle.std.proofs.Common.{◌≡◌, ◌<◌, ◌≤◌, ℕ, Option, Some, None, refl, arith}
+use Rattle.std.proofs.Common.{◌<◌, ℕ, Option, Some, None, refl, arith}
 use Rattle.mk_text.specs.Items.{FindsLeast}
 use Rattle.mk_ctab.specs.declared.raw.RawTable.{RawTable}
 use Rattle.mk_query.specs.FirstFault.{Check, query_atoms, query_bonds, query_properties, number, Demands, Passes, FindsFirst}

@@ -7,7 +7,6 @@
 use Rattle.std.specs.Prelude.{◌≡◌, ◌≢◌, ◌⊎◌, ℕ, ℤ, pos, negsuc, List, All, codes, take}
 use Rattle.mk_text.specs.Items.{OfItem}
 use Rattle.mk_elements.specs.Symbols.{Names}
-use Rattle.mk_props.specs.declared.property.Pair.{Pair}
 use Rattle.mk_props.specs.declared.property.LinkEntry.{LinkEntry}
 use Rattle.mk_props.specs.declared.property.Property.{Property}
 use Rattle.mk_props.specs.declared.property.Property.TheVariants as kinds

@@ -4,7 +4,7 @@
 --     AreCounts bonds counts    how many of the bonds each atom has
 --     AreCounted at old new     one more at these places
 --     HasRoom counts n          atom n has at most 20
-use Rattle.std.specs.Prelude.{◌≡◌, ◌≤◌, ◌<◌, ◌+◌, ◌-◌, ◌==◌, nat_le, ℕ, Bool, List, length, slice_index, Option, Some, None, if◌then◌else◌}
+use Rattle.std.specs.Prelude.{◌≡◌, ◌≤◌, ◌<◌, ◌+◌, ◌-◌, nat_le, ℕ, Bool, List, length, slice_index, Option, Some, None, if◌then◌else◌}
 use Rattle.mk_model.specs.Edges.{degree}
 use Rattle.mk_ctab.specs.declared.raw.RawBond.{RawBond}
 use Rattle.mk_ctab.specs.Bonds.{edges_of}

@@ -1,5 +1,5 @@
-use Rattle.std.proofs.Common.{◌≡◌, ◌≤◌, ◌<◌, ◌+◌, ◌∙◌, ℕ, true, false, eqb, List, [], ◌∷◌, ◌++◌, Option, Some, None, length, take, drop, arith, sym, ap, refl}
-use Rattle.std.specs.List.{before_first, after_first, position_or_len, slice_split}
+use Rattle.std.proofs.Common.{◌≡◌, ◌<◌, ◌+◌, ◌∙◌, ℕ, eqb, List, [], ◌∷◌, ◌++◌, Option, Some, None, length, take, drop, arith, sym, ap, refl}
+use Rattle.std.specs.List.{before_first, position_or_len, slice_split}
 use Rattle.mk_text.proofs.ForCallers.{read_behind}
 use Rattle.mk_model.specs.declared.group.Interval.{Interval}
 use Rattle.mk_logic.specs.RangeTexts.{above}

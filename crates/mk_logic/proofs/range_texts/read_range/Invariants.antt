@@ -1,4 +1,4 @@
-use Rattle.std.proofs.Common.{◌≡◌, ℕ, eqb, length}
+use Rattle.std.proofs.Common.{◌≡◌, eqb, length}
 use Rattle.std.specs.List.{slice_split}
 use Rattle.mk_text.proofs.ForCallers.{read_behind}
 use Rattle.mk_logic.specs.RangeReading.{items_of, range_of}

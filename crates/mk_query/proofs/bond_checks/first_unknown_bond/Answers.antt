@@ -1,7 +1,5 @@
-use Rattle.std.proofs.Common.{◌≡◌, ◌∙◌, length, sym}
-use Rattle.mk_text.specs.Items.{FindsLeast, OfItem}
+use Rattle.mk_text.specs.Items.{FindsLeast}
 use Rattle.mk_ctab.specs.Bonds.{IsNewBondAt}
-use Rattle.mk_query.specs.Checks.{HasQueryType, LeavesFewBonds}
 use Rattle.mk_query.proofs.BondLemmas.{query_bonds}
 use Rattle.mk_query.proofs.bond_checks.first_unknown_bond.Goals as goal
 
