@@ -11,13 +11,13 @@
 #![tactic(auto)]
 
 mod answers;
-mod query_graph;
 mod files;
 mod laws;
 mod listings;
-mod outcome;
-mod running;
 mod matching;
+mod outcome;
+mod query_graph;
+mod running;
 mod status;
 #[cfg(test)]
 mod tests;

@@ -9,10 +9,10 @@ ghost use Rattle.mk_session.specs.Running.{IsHeldBy, IsJudged, IsKeptJudgment, I
 
 use crate::Status;
 use crate::answers::{hits_answer, long_query, not_understood, unbuilt};
-use crate::query_graph::graph_of;
 use crate::files::{judge_molecules, judge_query};
 use crate::listings::{MOST_HITS, first_hits};
 use crate::outcome::{Held, Judgment, Outcome};
+use crate::query_graph::graph_of;
 use mk_ctab::PlainTable;
 use mk_match::hits_are_listed;
 use mk_outside::{Bytes, FileFail, Files, Memory, ReadEnd};
