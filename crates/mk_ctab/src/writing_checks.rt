@@ -6,8 +6,7 @@ ghost use Rattle.mk_text.specs.Lines.{EndsWith};
 ghost use Rattle.mk_ctab.specs.TableSpelling.{FitsThree, AtomFits, BondFits, ListFits, PairFits, PairsFit, LinkFits, LinksFit, AtomListFits, LogicFits, PropertyFits, IsSymbol, SymbolsFit, SymbolsEnd, IsRangeText, RangeFits, CanBeSpelt};
 
 use crate::raw::{RawAtom, RawBond, RawList, RawTable};
-use mk_props::{AtomList, LinkEntry, LogicLine, Pair, Property};
-use mk_text::Bytes;
+use mk_props::{AtomList, LinkEntry, LogicLine, Pair, Property, Symbols};
 
 fn fits(number: i32) -> bool
     ensures { IsTrue result → FitsThree number }
@@ -147,12 +146,12 @@ fn atoms_fit(atoms: &[RawAtom]) -> bool
     true
 }
 
-fn symbols_fit(symbols: &[Bytes]) -> bool
+fn symbols_fit(symbols: &Symbols) -> bool
     ensures fit { IsTrue result → All (IsSymbol 4) symbols.now }
     ensures no_cr { IsTrue result → All (λ symbol. ¬ (EndsWith 13 symbol)) symbols.now }
 {
-    for symbol in symbols {
-        if !is_symbol(symbol.as_slice(), 4) {
+    for i in 0..symbols.count() {
+        if !is_symbol(symbols.symbol(i), 4) {
             return false;
         }
     }
@@ -178,11 +177,11 @@ fn atom_list_fits(list: &AtomList) -> bool
     ensures symbols { IsTrue result → All (IsSymbol 4) list.now.symbols }
     ensures no_cr { IsTrue result → All (λ symbol. ¬ (EndsWith 13 symbol)) list.now.symbols }
 {
-    let symbols = list.symbols.as_slice();
-    if !fits(list.atom) || symbols.is_empty() || symbols.len() > 16 {
+    let count = list.symbols.count();
+    if !fits(list.atom) || count == 0 || count > 16 {
         return false;
     }
-    symbols_fit(symbols)
+    symbols_fit(&list.symbols)
 }
 
 fn logic_fits(logic: &LogicLine) -> bool

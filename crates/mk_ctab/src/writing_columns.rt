@@ -7,8 +7,8 @@ ghost use Rattle.mk_ctab.specs.TableSpelling.{three, spaced, count_text, at_left
 use mk_text::{Memory, put_number};
 use std::alloc::Global;
 
-// A number from 0 to 999 at the right of three columns.
-fn put_right(alloc: Global, out: &mut Vec<u8>, n: u32) -> Result<(), Memory>
+/// A number from 0 to 999 at the right of three columns.
+pub fn put_right(alloc: Global, out: &mut Vec<u8>, n: u32) -> Result<(), Memory>
     requires { n ≤ 999 }
     ensures { OnOk result (out.new.items ≡ out.old.items ++ right_in 3 n) }
 {

@@ -125,7 +125,7 @@ const ROWS: [(&str, Sketch, &str); 5] = [
 ];
 
 fn pairs(alloc: Global, sketch: &[(i32, i32)]) -> Result<Pairs, Memory> {
-    let mut pairs = Listed::new(alloc);
+    let mut pairs = Pairs::new(alloc);
     for entry in sketch {
         let pair = Pair {
             atom: entry.0,
@@ -137,7 +137,7 @@ fn pairs(alloc: Global, sketch: &[(i32, i32)]) -> Result<Pairs, Memory> {
 }
 
 fn links(alloc: Global, sketch: &[(i32, i32, i32, i32)]) -> Result<Links, Memory> {
-    let mut links = Listed::new(alloc);
+    let mut links = Links::new(alloc);
     for entry in sketch {
         let link = LinkEntry {
             atom: entry.0,
@@ -155,9 +155,12 @@ fn bytes(alloc: Global, text: &str) -> Result<Bytes, Memory> {
 }
 
 fn symbols(alloc: Global, sketch: &[&str]) -> Result<Symbols, Memory> {
-    let mut symbols = Listed::new(alloc);
+    let mut symbols = Symbols::new(alloc);
     for text in sketch {
-        symbols.push(bytes(alloc, text)?)?;
+        let symbol = text.as_bytes();
+        if symbol.len() < 256 {
+            symbols.push(symbol)?;
+        }
     }
     Ok(symbols)
 }
@@ -276,7 +279,7 @@ fn is_sketched(property: &Property, sketch: Sketched) -> bool {
             _ => false,
         },
         (Property::List(list), Sketched::List(atom, not, names)) => {
-            list.atom == atom && list.not == not && list.symbols.as_slice().len() == names.len()
+            list.atom == atom && list.not == not && list.symbols.count() == names.len()
         }
         (Property::Logic(logic), Sketched::Logic(group, then_group, rest, range)) => {
             (logic.group, logic.then_group, logic.rest) == (group, then_group, rest)

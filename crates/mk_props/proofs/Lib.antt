@@ -2,4 +2,5 @@ pub mod ColumnLemmas
 pub mod EntryLemmas
 pub mod KindLemmas
 pub mod PropertyLemmas
+pub mod SymbolBytesLemmas
 pub mod ForCallers

@@ -3,3 +3,4 @@ pub mod Lists
 pub mod Logic
 pub mod Property
 pub mod Reading
+pub mod SymbolBytes

@@ -5,7 +5,7 @@ ghost use Rattle.mk_props.specs.Reading.{Gives, number_of, count_of, pair_of, pa
 use crate::columns::is_blank_at;
 use crate::fault::LineFault;
 use crate::property::{LinkEntry, Links, Pair, Pairs, SiteOrder};
-use mk_text::{Listed, field};
+use mk_text::field;
 use std::alloc::Global;
 
 // A blank in this column, and a number in the three after it.
@@ -62,14 +62,14 @@ pub fn pairs(alloc: Global, line: &[u8], at: usize, most: usize) -> Result<Pairs
     let Some(count) = count_at(line, at, most) else {
         return Err(LineFault::Bad);
     };
-    let mut pairs = Vec::with_capacity(alloc, count)?;
+    let mut pairs = Pairs::with_room(alloc, count)?;
     for i in 0..count {
         let Some(pair) = pair_at(line, at + 3 + 8 * i) else {
             return Err(LineFault::Bad);
         };
         pairs.push(pair)?;
     }
-    Ok(Listed::of(pairs))
+    Ok(pairs)
 }
 
 //  aaa vvv bbb ccc   four times a blank and a number (3): the link atom, its most, and its two neighbours
@@ -99,14 +99,14 @@ pub fn links(alloc: Global, line: &[u8]) -> Result<Links, LineFault>
     let Some(count) = count_at(line, 7, 4) else {
         return Err(LineFault::Bad);
     };
-    let mut links = Vec::with_capacity(alloc, count)?;
+    let mut links = Links::with_room(alloc, count)?;
     for i in 0..count {
         let Some(link) = link_at(line, 10 + 16 * i) else {
             return Err(LineFault::Bad);
         };
         links.push(link)?;
     }
-    Ok(Listed::of(links))
+    Ok(links)
 }
 
 // M  AAL aaann2 bbb ooo ..   columns 8-10 the site, 11-13 the count; per entry a blank, neighbour (3), a blank, place (3)

@@ -15,12 +15,14 @@ mod lists;
 mod logic;
 mod property;
 mod reading;
+mod short_list;
+mod symbols;
 #[cfg(test)]
 mod tests;
 
 pub use fault::LineFault;
 pub use laws::property_is_exact;
-pub use property::{
-    AtomList, LinkEntry, Links, LogicLine, Pair, Pairs, Property, SiteOrder, Symbols,
-};
+pub use property::{AtomList, LinkEntry, Links, LogicLine, Pair, Pairs, Property, SiteOrder};
 pub use reading::read_property;
+pub use short_list::ShortList;
+pub use symbols::Symbols;

@@ -5,8 +5,9 @@ ghost use Rattle.mk_props.specs.Reading.{Gives, flag_of, symbols_of, list_of};
 use crate::columns::{cell, is_blank_at};
 use crate::entries::{count_at, number_at};
 use crate::fault::LineFault;
-use crate::property::{AtomList, Symbols};
-use mk_text::{Listed, trimmed_column};
+use crate::property::AtomList;
+use crate::symbols::Symbols;
+use mk_text::trimmed_column;
 use std::alloc::Global;
 
 // M  ALS aaan16 t ssss..   columns 8-10 the atom, 11-13 the count, 15 T or F, from 17 on four columns for each symbol
@@ -46,10 +47,9 @@ fn symbols(alloc: Global, line: &[u8]) -> Result<Symbols, LineFault>
     let Some(count) = count_at(line, 11, 16) else {
         return Err(LineFault::Bad);
     };
-    let mut symbols = Vec::with_capacity(alloc, count)?;
+    let mut symbols = Symbols::new(alloc);
     for i in 0..count {
-        let symbol = Vec::from_slice(alloc, trimmed_column(line, 17 + 4 * i, 20 + 4 * i))?;
-        symbols.push(Listed::of(symbol))?;
+        symbols.push(trimmed_column(line, 17 + 4 * i, 20 + 4 * i))?;
     }
-    Ok(Listed::of(symbols))
+    Ok(symbols)
 }

@@ -1,17 +1,20 @@
 // What property lines hold. Atoms count from 1; nothing is checked against a table here.
-use mk_text::{Bytes, Listed};
+use crate::short_list::ShortList;
+use crate::symbols::Symbols;
+use mk_text::Bytes;
 
 /// An atom and a value for it.
-#[derive(Clone, Copy, Debug, PartialEq, Eq)]
+#[derive(Clone, Copy, Debug, Default, PartialEq, Eq)]
 pub struct Pair {
     pub atom: i32,
     pub value: i32,
 }
 
-pub type Pairs = Listed<Pair>;
+/// A list of pairs. Up to two take no memory of their own.
+pub type Pairs = ShortList<Pair, 2>;
 
 /// A link atom, repeated 1 to `most` times between its neighbours `from` and `to`.
-#[derive(Clone, Copy, Debug, PartialEq, Eq)]
+#[derive(Clone, Copy, Debug, Default, PartialEq, Eq)]
 pub struct LinkEntry {
     pub atom: i32,
     pub most: i32,
@@ -19,7 +22,8 @@ pub struct LinkEntry {
     pub to: i32,
 }
 
-pub type Links = Listed<LinkEntry>;
+/// A list of link entries. One takes no memory of its own.
+pub type Links = ShortList<LinkEntry, 1>;
 
 /// The symbols that an atom may have, or with `not` those that it may not have.
 #[derive(Debug, Drop)]
@@ -28,8 +32,6 @@ pub struct AtomList {
     pub not: bool,
     pub symbols: Symbols,
 }
-
-pub type Symbols = Listed<Bytes>;
 
 /// A site, and for each of its neighbours the place in their order.
 #[derive(Debug, Drop)]

@@ -15,7 +15,7 @@ enum Want {
     Bad,
 }
 
-const LINES: [(&str, Want); 57] = [
+const LINES: [(&str, Want); 58] = [
     // pairs
     ("M  CHG  1   2  -1", Want::Pairs("charge", &[(2, -1)])),
     (
@@ -80,6 +80,10 @@ const LINES: [(&str, Want); 57] = [
     ("M  ALS   1  2 T C   N", Want::List(1, true, &["C", "N"])),
     ("M  ALS   3  1 F Cl  Br", Want::List(3, false, &["Cl"])),
     ("M  ALS   3  2 F  Cl", Want::List(3, false, &["Cl", ""])),
+    (
+        "M  ALS   4  5 F C   Cl      Abcde",
+        Want::List(4, false, &["C", "Cl", "", "Abcd", "e"]),
+    ),
     ("M  ALS   1  2 X C   N", Want::Bad),
     ("M  ALS   1  2xT C   N", Want::Bad),
     ("M  ALS   1  2 TxC   N", Want::Bad),
@@ -125,12 +129,15 @@ fn are_links(links: &Links, wanted: &[(i32, i32, i32, i32)]) -> bool {
 }
 
 fn are_symbols(symbols: &Symbols, wanted: &[&str]) -> bool {
-    let symbols = symbols.as_slice();
-    symbols.len() == wanted.len()
-        && symbols
-            .iter()
-            .zip(wanted)
-            .all(|(symbol, want)| symbol.as_slice() == want.as_bytes())
+    if symbols.count() != wanted.len() {
+        return false;
+    }
+    for (i, want) in wanted.iter().enumerate() {
+        if symbols.symbol(i) != want.as_bytes() {
+            return false;
+        }
+    }
+    true
 }
 
 fn is_wanted(property: &Property, wanted: Want) -> bool {
