@@ -16,5 +16,3 @@ pub mod PlainCodesLemmas
 pub mod ForCallers
 pub mod OnLiterals
 pub mod FitsOnLiterals
-pub mod DegreeLemmas
-pub mod MoleculeLemmas
