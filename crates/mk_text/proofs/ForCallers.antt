@@ -12,6 +12,7 @@ pub use Rattle.mk_text.proofs.ItemLemmas.{of_item-here, of_item-at, of_item-past
 pub use Rattle.mk_text.proofs.OptionLemmas.{both_read, test_passed, read_behind, entries_none, entries_more, entries_fail, entries_all}
 pub use Rattle.mk_text.proofs.PieceLemmas.{pieces_at, without_cr-at_other}
 pub use Rattle.mk_text.proofs.KeptLinesLemmas.{range_item_more, kept-push, no_lf_at, lines_hold_no_lf, lines_few, text_of_lines_is_read, without_cr_same, without_crs_end, without_crs_same, kept_lines_are_read, kept_lines_stay}
+pub use Rattle.mk_text.proofs.LineStartLemmas.{line_there}
 pub use Rattle.mk_text.proofs.SpanLemmas.{parts_length, behind_within, parts_behind}
 pub use Rattle.mk_text.proofs.TrimLemmas.{trimmed_padded, trimmed-columns, trimmed_between, trimmed_blank, list_all_at, AreBetween, trimmed_is_between}
 pub use Rattle.mk_text.proofs.DigitLemmas.{all_digits}

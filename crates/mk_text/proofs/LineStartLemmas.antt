@@ -1,10 +1,16 @@
 -- From where a line begins to where the next one does.
-use Rattle.std.proofs.Common.{◌≡◌, ℕ, ◌+◌, ◌≤◌, ◌<◌, List, [], ◌∷◌, length, get_or, drop, sym, ap, subst, ◌∙◌, inl, inr, arith}
-use Rattle.std.specs.Prelude.{◌⊎◌, slice_range}
-use Rattle.std.proofs.lemmas.List.{drop_more, length-drop}
+use Rattle.std.proofs.Common.{◌≡◌, ℕ, zero, suc, ◌+◌, ◌≤◌, ◌<◌, List, [], ◌∷◌, ◌++◌, Some, length, get_or, drop, refl, sym, ap, subst, ◌∙◌, inl, inr, arith}
+use Rattle.std.specs.Prelude.{◌⊎◌, slice_get, slice_range}
+use Rattle.std.proofs.Math.Logic.{⊎_elim}
+use Rattle.std.proofs.lemmas.Option.{slice_get-get_or, slice_get_within, get_or_from_slice_get}
+use Rattle.std.proofs.lemmas.List.{append-nil, drop_at, drop_more, length-append, length-drop}
+use Rattle.mk_text.specs.declared.cutting.Span.{Span}
 use Rattle.mk_text.specs.declared.line_start.LineStart.{LineStart}
 use Rattle.mk_text.specs.Lines.{without_cr, lines_of}
-use Rattle.mk_text.specs.LineStart.{IsLineStart, NoLfBetween}
+use Rattle.mk_text.specs.LineStart.{BeginLines, IsLineStart, NoLfBetween}
+use Rattle.mk_text.specs.Spans.{parts}
+use Rattle.mk_text.proofs.KeptLinesLemmas.{lines_few}
+use Rattle.mk_text.proofs.SpanLemmas.{parts_length}
 use Rattle.mk_text.proofs.PieceLemmas.{lines_at, lines_last, lines_none}
 
 -- the first of the items behind n others
@@ -60,3 +66,46 @@ next_by text start lf to byte h more le within none found line (inr past) =
     let to_end = subst (NoLfBetween text start.byte) last none in
     let next = next_last text start h (omega (arith, more)) to_end in
     subst (λ (b : ℕ). IsNext text start (record { line = start.line + 1; byte = b }) (slice_range text start.byte to)) (sym (past.1 ∙ last)) (subst (IsNext text start (record { line = start.line + 1; byte = length text })) (sym (line ∙ ap (λ (n : ℕ). without_cr (slice_range text start.byte n)) last)) next)
+
+-- ---- where the lines of a list of places begin
+
+-- an index among the places of lines is one among the lines
+pub line_there : (text : List ℕ) (spans : List Span) (at : ℕ) → parts text spans ≡ lines_of text → at ≤ length spans → at ≤ length (lines_of text)
+line_there text spans at are there = omega (arith, ap length are, parts_length text spans)
+
+-- a line begins behind the lines so far
+pub starts_here : (text : List ℕ) (spans : List Span) (from : ℕ) → parts text spans ++ lines_of (drop from text) ≡ lines_of text → from ≤ length text → length spans ≤ from → IsLineStart text (record { line = length spans; byte = from })
+starts_here text spans from so_far inside few =
+    let left = lines_of (drop from text) in
+    let sum : length spans + length left ≡ length (lines_of text) = omega (arith, ap length so_far, length-append (parts text spans) left, parts_length text spans) in
+    record {
+      inside = inside;
+      counted = omega (arith, sum);
+      few = few;
+      behind = sym (drop_at (parts text spans) left (length spans) (parts_length text spans)) ∙ ap (λ (lines : List (List ℕ)). drop (length spans) lines) so_far;
+    }
+
+-- behind all lines is the end of the text
+pub starts_last : (text : List ℕ) (spans : List Span) → parts text spans ≡ lines_of text → IsLineStart text (record { line = length spans; byte = length text })
+starts_last text spans are =
+    let none : lines_of (drop (length text) text) ≡ [] = lines_none text (length text) (omega arith) in
+    let all : length (lines_of text) ≡ length spans = sym (ap length are) ∙ parts_length text spans in
+    starts_here text spans (length text) (ap (λ (left : List (List ℕ)). parts text spans ++ left) none ∙ append-nil (parts text spans) ∙ are) (omega arith) (omega (arith, all, lines_few text))
+
+-- a place among places and one more
+either_place : (spans : List Span) (s : Span) (k : ℕ) (span : Span) → slice_get (spans ++ s ∷ []) k ≡ Some span → (slice_get spans k ≡ Some span) ⊎ ((k ≡ length spans) × (s ≡ span))
+either_place [] s zero span here = inr (refl, cc)
+either_place [] s (suc k) span here = absurd cc
+either_place (t ∷ spans) s zero span here = inl here
+either_place (t ∷ spans) s (suc k) span here = ⊎_elim (λ before. inl before) (λ last. inr (omega (arith, last.0), last.1)) (either_place spans s k span here)
+
+-- one more line begins at its place
+pub begin_more : (text : List ℕ) (spans : List Span) (s : Span) → BeginLines text spans → IsLineStart text (record { line = length spans; byte = s.from }) → BeginLines text (spans ++ s ∷ [])
+begin_more text spans s begin here k d below =
+    let span = get_or (spans ++ s ∷ []) k d in
+    ⊎_elim
+    (λ before. subst (λ (t : Span). IsLineStart text (record { line = k; byte = t.from })) (get_or_from_slice_get spans k span d before) (begin k d (slice_get_within spans k span before)))
+    (λ last.
+    let same : IsLineStart text (record { line = length spans; byte = span.from }) = subst (λ (t : Span). IsLineStart text (record { line = length spans; byte = t.from })) last.1 here in
+    subst (λ (n : ℕ). IsLineStart text (record { line = n; byte = span.from })) (sym last.0) same)
+    (either_place spans s k span (slice_get-get_or (spans ++ s ∷ []) k d below))

@@ -1,6 +1,7 @@
 // The lines of a text, and the words of a line.
 ghost use Rattle.std.specs.Prelude.{◌≡◌, ◌≤◌, All, IfOk, length, slice_range};
 ghost use Rattle.mk_text.specs.Lines.{lines_of, words_of, without_cr};
+ghost use Rattle.mk_text.specs.LineStart.{BeginLines};
 ghost use Rattle.mk_text.specs.Spans.{AreApart, AreWithin, parts};
 
 use crate::Memory;
@@ -18,6 +19,7 @@ pub fn lines(alloc: Global, text: &[u8]) -> Result<Vec<Span>, Memory>
     ensures lines { IfOk result (λ spans. parts text.now spans.items ≡ lines_of text.now) }
     ensures within { IfOk result (λ spans. AreWithin text.now spans.items) }
     ensures apart { IfOk result (λ spans. AreApart spans.items) }
+    ensures starts { IfOk result (λ spans. BeginLines text.now spans.items) }
 {
     let mut spans = Vec::new(alloc);
     let mut from = 0;

@@ -31,7 +31,7 @@ pub use laws::{
     lines_are_read, one_rising_list, right_justified_is_read, rising_from_place,
     signed_right_justified_is_read,
 };
-pub use line_start::{LineStart, first_line, line_from};
+pub use line_start::{LineStart, first_line, line_from, start_of_line};
 pub use lists::{Bytes, Listed, Numbers, Place};
 pub use std::alloc::AllocError as Memory;
 pub use texts::Text;

@@ -1,9 +1,10 @@
 // The lines of a text, one after the other, with no list of them.
 ghost use Rattle.std.specs.Prelude.{◌≡◌, ◌+◌, ◌<◌, ◌≤◌, ◌⊎◌, ℕ, [], length, slice_index, slice_index_or, IfNone, IfSome};
 ghost use Rattle.mk_text.specs.Lines.{lines_of};
-ghost use Rattle.mk_text.specs.LineStart.{IsLineStart, NoLfBetween};
+ghost use Rattle.mk_text.specs.LineStart.{BeginLines, IsLineStart, NoLfBetween};
+ghost use Rattle.mk_text.specs.Spans.{parts};
 
-use crate::cutting::end_of_line;
+use crate::cutting::{Span, end_of_line};
 
 /// Where a line of a text begins: behind so many lines, and so many bytes.
 #[derive(Clone, Copy, Debug, PartialEq, Eq)]
@@ -18,6 +19,22 @@ pub fn first_line(text: &[u8]) -> LineStart
     ensures first { result.line ≡ 0 }
 {
     LineStart { line: 0, byte: 0 }
+}
+
+/// Where the line of this index begins, or the text's end where all lines are before it. Indexes count from 0.
+pub fn start_of_line(text: &[u8], lines: &[Span], at: usize) -> LineStart
+    requires lines { parts text.now lines.now ≡ lines_of text.now }
+    requires starts { BeginLines text.now lines.now }
+    requires there { at ≤ length lines.now }
+    ensures start { IsLineStart text.now result }
+    ensures line { result.line ≡ at }
+{
+    let byte = if at < lines.len() {
+        lines[at].from
+    } else {
+        text.len()
+    };
+    LineStart { line: at, byte }
 }
 
 // The place of the first LF from a byte on, or the end of the text where there is none.

@@ -1,6 +1,7 @@
 use Rattle.std.proofs.Common.{arith, ◌≤◌, ◌<◌, ◌+◌, ◌++◌, ℕ, List, [], ◌∷◌, length, drop, sym, ap, ◌∙◌}
 use Rattle.std.proofs.lemmas.Grind.{common_steps}
-use Rattle.std.proofs.lemmas.List.{append-nil}
+use Rattle.std.proofs.lemmas.List.{append-nil, length_push}
+use Rattle.mk_text.proofs.LineStartLemmas.{starts_here, begin_more}
 use Rattle.mk_text.specs.declared.cutting.Span.{Span}
 use Rattle.mk_text.specs.Lines.{lines_of}
 use Rattle.mk_text.specs.Spans.{parts}
@@ -26,6 +27,8 @@ loop-i-preserved c =
             within = rw (w.spans-is, w.in_ok-push.ensures.items) (grind (arith, common_steps));
             apart = rw (w.spans-is, w.in_ok-push.ensures.items) (apart_more c.loop-i.spans.items s inv.apart inv.before);
             before = rw (w.spans-is, w.from-is, w.in_ok-push.ensures.items) (before_more c.loop-i.spans.items s (c.loop-i.i + 1) inv.before (omega arith) (omega arith));
+            begin = rw (w.spans-is, w.in_ok-push.ensures.items) (begin_more text c.loop-i.spans.items s inv.begin (starts_here text c.loop-i.spans.items c.loop-i.from inv.so_far (omega arith) inv.few));
+            few = rw (w.spans-is, w.from-is, w.in_ok-push.ensures.items) (omega (arith, length_push c.loop-i.spans.items s, inv.few));
           }
       | else-byte-eq10 w ↦
           record {
@@ -35,6 +38,8 @@ loop-i-preserved c =
             within = rw w.spans-is inv.within;
             apart = rw w.spans-is inv.apart;
             before = rw (w.spans-is, w.from-is) inv.before;
+            begin = rw w.spans-is inv.begin;
+            few = rw (w.spans-is, w.from-is) inv.few;
           }
     ]
 
@@ -62,4 +67,14 @@ returns-clause-apart c =
           let s : Span = record { from = c.loop-i.from; to = w.end_of_line-to-then-from-text.result } in
           rw (w.spans-is, w.in_ok-push-2.ensures.items) (apart_more c.loop-i.spans.items s inv.apart inv.before)
       | else-from-text w ↦ rw w.spans-is inv.apart
+    ]
+
+pub returns-clause-starts : goal.returns-clause-starts
+returns-clause-starts c =
+    let inv = c.loop-i.invariant in
+    elim c.if-from-text.branch [
+      | then-from-text+in_ok-push-2 w ↦
+          let s : Span = record { from = c.loop-i.from; to = w.end_of_line-to-then-from-text.result } in
+          rw (w.spans-is, w.in_ok-push-2.ensures.items) (begin_more c.args.text.now c.loop-i.spans.items s inv.begin (starts_here c.args.text.now c.loop-i.spans.items c.loop-i.from inv.so_far (omega arith) inv.few))
+      | else-from-text w ↦ rw w.spans-is inv.begin
     ]

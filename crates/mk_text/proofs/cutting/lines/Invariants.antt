@@ -1,5 +1,6 @@
 use Rattle.std.proofs.Common.{◌≡◌, ◌≤◌, ◌++◌, length, drop, All}
 use Rattle.mk_text.specs.Lines.{lines_of}
+use Rattle.mk_text.specs.LineStart.{BeginLines}
 use Rattle.mk_text.specs.Spans.{AreApart, parts}
 use Rattle.mk_text.proofs.PieceLemmas.{NoLfBetween}
 use Rattle.mk_text.proofs.SpanLemmas.{AreBefore}
@@ -14,4 +15,6 @@ invariant-loop-i l =
       within : All (λ s. (s.from ≤ s.to) × (s.to ≤ length l.text)) l.spans.items;
       apart : AreApart l.spans.items;
       before : AreBefore l.spans.items l.from;
+      begin : BeginLines l.text l.spans.items;
+      few : length l.spans.items ≤ l.from;
     }
