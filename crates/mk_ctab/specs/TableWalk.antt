@@ -2,7 +2,6 @@
 -- alone: the lines of the text are those of `lines_of`, and the readings those of TableReading.antt.
 --     AnswersAt text answer reading       the reading gave this value, and the next line begins there
 --     AnswersPast text answer reading     the same of lines that aren't looked at
---     AnswersPropertyAt                   the same of one property line
 use Rattle.std.specs.Prelude.{◌≡◌, ℕ, ◌+◌, ◌<◌, List, [], length, drop, slice_index_or, Option, Some, None, Result, Ok, Err}
 use Rattle.mk_form.specs.Reading.{Reading, TakesLines}
 use Rattle.mk_props.specs.declared.property.Property.{Property}

@@ -27,6 +27,7 @@ mod plain_lines;
 mod plain_reading;
 mod plain_table;
 mod raw;
+mod rows;
 mod table_lines;
 mod table_reading;
 #[cfg(test)]

@@ -6,13 +6,14 @@ ghost use Rattle.mk_form.specs.Lines.{line as one_line, counts_line};
 ghost use Rattle.mk_form.specs.Rows.{rows, any_lines};
 ghost use Rattle.mk_props.specs.Reading.{property_of};
 ghost use Rattle.mk_ctab.specs.Molfile.{molfile_at};
-ghost use Rattle.mk_ctab.specs.TableLines.{is_v3000, counts_of, raw_atom_of, raw_bond_of, list_of};
+ghost use Rattle.mk_ctab.specs.TableLines.{is_v3000, counts_of};
 ghost use Rattle.mk_ctab.specs.TableReading.{AnswersProperty, properties_part, table_at};
 ghost use Rattle.mk_ctab.specs.TableWalk.{AnswersAt, AnswersPast};
 
 use crate::fault::TableFault;
-use crate::raw::{Properties, RawAtom, RawAtoms, RawBond, RawBonds, RawList, RawLists, RawTable};
-use crate::table_lines::{Counts, read_atom, read_bond, read_counts, read_list, says_v3000};
+use crate::raw::{Properties, RawAtom, RawBond, RawList, RawTable};
+use crate::rows::Row;
+use crate::table_lines::{Counts, read_counts, says_v3000};
 use mk_props::{LineFault, Property, read_property};
 use mk_text::{LineStart, Listed, line_from};
 use std::alloc::Global;
@@ -36,105 +37,42 @@ fn counts_from(text: &[u8], at: LineStart) -> Result<(Counts, LineStart), TableF
     }
 }
 
-fn atom_from(alloc: Global, text: &[u8], at: LineStart) -> Result<(RawAtom, LineStart), TableFault>
+fn row_from<R: Row>(
+    alloc: Global,
+    text: &[u8],
+    at: LineStart,
+) -> Result<(R, LineStart), TableFault>
     requires { IsLineStart text.now at }
-    ensures { AnswersAt text.now result ((one_line raw_atom_of).read (drop at.line (lines_of text.now))) }
+    ensures { AnswersAt text.now result ((one_line R.row_of).read (drop at.line (lines_of text.now))) }
 {
     let Some((line, next)) = line_from(text, at) else {
         return Err(TableFault::Bad { line: at.line + 1 });
     };
-    match read_atom(alloc, line) {
-        Ok(atom) => Ok((atom, next)),
+    match R::read(alloc, line) {
+        Ok(row) => Ok((row, next)),
         Err(LineFault::Bad) => Err(TableFault::Bad { line: at.line + 1 }),
         Err(LineFault::Memory) => Err(TableFault::Memory),
     }
 }
 
-// So many atom lines.
-fn atoms_from(
+// So many rows.
+fn rows_from<R: Row + Drop>(
     alloc: Global,
     text: &[u8],
     from: LineStart,
     count: usize,
-) -> Result<(RawAtoms, LineStart), TableFault>
+) -> Result<(Listed<R>, LineStart), TableFault>
     requires { IsLineStart text.now from }
-    ensures { AnswersAt text.now result ((rows count (one_line raw_atom_of)).read (drop from.line (lines_of text.now))) }
+    ensures { AnswersAt text.now result ((rows count (one_line R.row_of)).read (drop from.line (lines_of text.now))) }
 {
-    let mut atoms = Vec::with_capacity(alloc, count)?;
+    let mut rows = Vec::with_capacity(alloc, count)?;
     let mut at = from;
     for i in 0..count {
-        let (atom, next) = atom_from(alloc, text, at)?;
-        atoms.push(atom)?;
+        let (row, next) = row_from::<R>(alloc, text, at)?;
+        rows.push(row)?;
         at = next;
     }
-    Ok((Listed::of(atoms), at))
-}
-
-fn bond_from(text: &[u8], at: LineStart) -> Result<(RawBond, LineStart), TableFault>
-    requires { IsLineStart text.now at }
-    ensures { AnswersAt text.now result ((one_line raw_bond_of).read (drop at.line (lines_of text.now))) }
-{
-    let Some((line, next)) = line_from(text, at) else {
-        return Err(TableFault::Bad { line: at.line + 1 });
-    };
-    match read_bond(line) {
-        Some(bond) => Ok((bond, next)),
-        None => Err(TableFault::Bad { line: at.line + 1 }),
-    }
-}
-
-// So many bond lines.
-fn bonds_from(
-    alloc: Global,
-    text: &[u8],
-    from: LineStart,
-    count: usize,
-) -> Result<(RawBonds, LineStart), TableFault>
-    requires { IsLineStart text.now from }
-    ensures { AnswersAt text.now result ((rows count (one_line raw_bond_of)).read (drop from.line (lines_of text.now))) }
-{
-    let mut bonds = Vec::with_capacity(alloc, count)?;
-    let mut at = from;
-    for i in 0..count {
-        let (bond, next) = bond_from(text, at)?;
-        bonds.push(bond)?;
-        at = next;
-    }
-    Ok((Listed::of(bonds), at))
-}
-
-fn list_from(alloc: Global, text: &[u8], at: LineStart) -> Result<(RawList, LineStart), TableFault>
-    requires { IsLineStart text.now at }
-    ensures { AnswersAt text.now result ((one_line list_of).read (drop at.line (lines_of text.now))) }
-{
-    let Some((line, next)) = line_from(text, at) else {
-        return Err(TableFault::Bad { line: at.line + 1 });
-    };
-    match read_list(alloc, line) {
-        Ok(list) => Ok((list, next)),
-        Err(LineFault::Bad) => Err(TableFault::Bad { line: at.line + 1 }),
-        Err(LineFault::Memory) => Err(TableFault::Memory),
-    }
-}
-
-// So many atom-list lines.
-fn lists_from(
-    alloc: Global,
-    text: &[u8],
-    from: LineStart,
-    count: usize,
-) -> Result<(RawLists, LineStart), TableFault>
-    requires { IsLineStart text.now from }
-    ensures { AnswersAt text.now result ((rows count (one_line list_of)).read (drop from.line (lines_of text.now))) }
-{
-    let mut lists = Vec::with_capacity(alloc, count)?;
-    let mut at = from;
-    for i in 0..count {
-        let (list, next) = list_from(alloc, text, at)?;
-        lists.push(list)?;
-        at = next;
-    }
-    Ok((Listed::of(lists), at))
+    Ok((Listed::of(rows), at))
 }
 
 // So many lines, whatever they are.
@@ -191,9 +129,9 @@ fn properties_from(
     Err(TableFault::Bad { line: at.line + 1 })
 }
 
-// Reads the table that begins there, and gives where the line behind its `M  END` begins. The lines that a fault names
-// count from 1, in the whole text.
-fn table_from(
+/// Reads the table that begins there, and gives where the line behind its `M  END` begins. The lines that a fault names
+/// count from 1, in the whole text.
+pub fn table_from(
     alloc: Global,
     text: &[u8],
     at: LineStart,
@@ -202,9 +140,9 @@ fn table_from(
     ensures { AnswersAt text.now result (table_at (drop at.line (lines_of text.now))) }
 {
     let (counts, next) = counts_from(text, at)?;
-    let (atoms, next) = atoms_from(alloc, text, next, counts.atoms as usize)?;
-    let (bonds, next) = bonds_from(alloc, text, next, counts.bonds as usize)?;
-    let (lists, next) = lists_from(alloc, text, next, counts.lists as usize)?;
+    let (atoms, next) = rows_from::<RawAtom>(alloc, text, next, counts.atoms as usize)?;
+    let (bonds, next) = rows_from::<RawBond>(alloc, text, next, counts.bonds as usize)?;
+    let (lists, next) = rows_from::<RawList>(alloc, text, next, counts.lists as usize)?;
     let next = pass_over(text, next, 2 * counts.stext as usize)?;
     let (props, next) = properties_from(alloc, text, next)?;
     let table = RawTable {

@@ -11,6 +11,7 @@ use Rattle.mk_form.proofs.UntilLoops.{UntilLeft, until_left_start, until_left_it
 use Rattle.mk_text.specs.declared.cutting.Span.{Span}
 use Rattle.mk_text.specs.Columns.{are_blank}
 use Rattle.mk_text.specs.Lines.{lines_of}
+use Rattle.mk_text.specs.LineStart.{BeginLines}
 use Rattle.mk_text.specs.Spans.{AreWithin, parts}
 use Rattle.mk_text.proofs.ForCallers.{parts_length}
 use Rattle.mk_ctab.specs.declared.fault.TableFault.{TableFault}
@@ -25,8 +26,8 @@ use Rattle.mk_rgfile.proofs.QueryPartLemmas.{exact-keyword, exact-table_block, s
 
 -- ---- the lines of a text by their places
 
-pub are_lines : (text : List ℕ) (spans : List Span) → parts text spans ≡ lines_of text → AreWithin text spans → AreLines text spans
-are_lines text spans are within = record { are = are; within = within; count = sym (parts_length text spans) ∙ ap length are }
+pub are_lines : (text : List ℕ) (spans : List Span) → parts text spans ≡ lines_of text → AreWithin text spans → BeginLines text spans → AreLines text spans
+are_lines text spans are within starts = record { are = are; within = within; starts = starts; count = sym (parts_length text spans) ∙ ap length are }
 
 -- ---- blank lines to the end
 

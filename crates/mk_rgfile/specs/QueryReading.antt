@@ -15,6 +15,7 @@ use Rattle.mk_form.specs.Until.{until}
 use Rattle.mk_text.specs.declared.cutting.Span.{Span}
 use Rattle.mk_text.specs.Columns.{are_blank}
 use Rattle.mk_text.specs.Lines.{lines_of}
+use Rattle.mk_text.specs.LineStart.{BeginLines}
 use Rattle.mk_text.specs.Spans.{AreWithin, parts}
 use Rattle.mk_ctab.specs.declared.raw.RawTable.{RawTable}
 use Rattle.mk_ctab.specs.TableLaws.{table_form}
@@ -149,4 +150,5 @@ query_at = query_part.read
 pub record AreLines (text : List ℕ) (spans : List Span) : Type 0 where
   pub are : parts text spans ≡ lines_of text
   pub within : AreWithin text spans
+  pub starts : BeginLines text spans
   pub count : length spans ≡ length (lines_of text)
