@@ -1,6 +1,6 @@
-// Whether drawn bonds are what the calls ask for.
+// Whether drawn bonds are those of a graph.
 ghost use Rattle.std.specs.Prelude.{◌≡◌, ℕ, IsTrue};
-ghost use Rattle.mk_model.specs.Edges.{AreBetween, HasEnds, IsSimple, Joins};
+ghost use Rattle.mk_model.specs.Edges.{AreBetween, IsSimple, Joins};
 
 use mk_model::Edge;
 
@@ -33,19 +33,10 @@ fn are_apart(bonds: &[Edge]) -> bool
 {
     for b in 0..bonds.len() {
         for c in 0..b {
-            if same_pair(bonds[b], bonds[c]) {
+            if bonds[b].is_same_pair(bonds[c]) {
                 return false;
             }
         }
     }
     true
-}
-
-fn same_pair(e: Edge, f: Edge) -> bool
-    ensures { (x y : ℕ) → HasEnds e x y → HasEnds f x y → IsTrue result }
-{
-    if e.first == f.first && e.second == f.second {
-        return true;
-    }
-    e.first == f.second && e.second == f.first
 }

@@ -1,7 +1,7 @@
 use Rattle.std.proofs.Common.{◌<◌, ℕ, List, get_or}
 use Rattle.mk_model.specs.declared.edge.Edge.{Edge}
 use Rattle.mk_model.specs.Edges.{HasEnds}
-use Rattle.mk_rings.proofs.checks.are_apart.Given as goal
+use Rattle.mk_fixtures.proofs.checks.are_apart.Given as goal
 
 -- the bonds at two places don't join one pair
 abbrev pub AreApart : List Edge → ℕ → ℕ → Type 0

@@ -1,7 +1,7 @@
 use Rattle.std.proofs.lemmas.List.{take_all}
 use Rattle.std.proofs.lemmas.List.Elements.{All-more}
 use Rattle.mk_model.specs.Edges.{IsBetween}
-use Rattle.mk_rings.proofs.checks.are_between.Goals as goal
+use Rattle.mk_fixtures.proofs.checks.are_between.Goals as goal
 
 pub loop-bond-preserved : goal.loop-bond-preserved
 loop-bond-preserved c =
