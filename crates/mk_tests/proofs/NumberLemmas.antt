@@ -2,18 +2,13 @@
 --     count-numbers       how many of the numbered bonds pass a test
 --     any-numbers         whether some of them does
 --     fails-at            the bond of a number fails where it doesn't pass
-use Rattle.std.proofs.Common.{◌≡◌, ◌≤◌, ◌<◌, ◌+◌, ◌-◌, ◌∙◌, ℕ, zero, suc, Bool, true, false, cond, eqb, List, [], ◌∷◌, Some, refl, ap, length, get_or, drop, map, arith, zero-add}
-use Rattle.std.specs.Prelude.{◌&&◌, ◌||◌, not, All, count_by, slice_get}
+use Rattle.std.proofs.Common.{◌≡◌, ◌≤◌, ◌<◌, ◌+◌, ◌-◌, ℕ, zero, suc, Bool, true, false, cond, List, [], ◌∷◌, Some, refl, ap, length, drop, map, arith, zero-add}
+use Rattle.std.specs.Prelude.{◌&&◌, ◌||◌, not, count_by, slice_get}
 use Rattle.std.specs.List.{list_any}
-use Rattle.std.proofs.lemmas.List.{length-map, get_or-map}
-use Rattle.std.proofs.lemmas.List.Elements.{All-from_get_or, All-get_or}
 use Rattle.std.proofs.lemmas.List.Sums.{sum_by-cons}
-use Rattle.std.proofs.lemmas.Option.{slice_get_within, get_or_from_slice_get}
 use Rattle.mk_model.specs.declared.edge.Edge.{Edge}
-use Rattle.mk_model.specs.Edges.{AreBetween, IsBetween, numbers_from, numbers_at, touches}
-use Rattle.mk_model.specs.Edges.{other_end}
-use Rattle.mk_model.proofs.ForCallers.{numbers_at-each}
-use Rattle.mk_model.specs.Fitting.{passes_at, passes_some}
+use Rattle.mk_model.specs.Edges.{numbers_from, numbers_at, touches}
+use Rattle.mk_model.specs.Fitting.{count_at, passes_at, passes_some}
 
 -- ---- a list from one of its places on
 
@@ -54,7 +49,7 @@ count-from edge test all (b ∷ rest) n k is =
     ])
 
 -- how many of the numbered bonds of an atom pass
-pub count-numbers : {B : Type 0} (edge : B → Edge) (test : B → Bool) (bonds : List B) (n : ℕ) → count_by (λ number. passes_at test bonds number) (numbers_at (map edge bonds) n) ≡ count_by (λ bond. touches n (edge bond) && test bond) bonds
+pub count-numbers : {B : Type 0} (edge : B → Edge) (test : B → Bool) (bonds : List B) (n : ℕ) → count_by (λ number. passes_at test bonds number) (numbers_at (map edge bonds) n) ≡ count_at edge test bonds n
 count-numbers edge test bonds n = count-from edge test bonds bonds n 0 refl
 
 -- whether some passes, of the bonds from a place on
