@@ -1,10 +1,11 @@
 // Molecules and graphs, and the tests that what is drawn is one.
-ghost use Rattle.std.specs.Prelude.{◌≡◌, All, IfOk, IsTrue};
+ghost use Rattle.std.specs.Prelude.{◌≡◌, ◌<◌, All, AllPairs, IfOk, IsTrue};
+ghost use Rattle.mk_model.specs.Edges.{IsEdgeBefore};
 ghost use Rattle.mk_model.specs.Molecules.{edges, IsElement};
 ghost use Rattle.mk_model.specs.Tests.{IsBondInRange, IsKindInRange, IsListOfElements, IsTestInRange};
 ghost use Rattle.mk_rings.specs.Bare.{bare_bonds};
-ghost use Rattle.mk_fixtures.specs.Fixtures.{AreInOrder, IsEdgeOf, IsEdgeBefore};
 
+use crate::checks::is_graph;
 use mk_model::{
     Atom, AtomTest, Edge, Graph, GraphAtom, GraphBond, Kind, Mol, Neighbours, edges_of_graph,
 };
@@ -12,7 +13,7 @@ use mk_rings::{marked_bonds, marked_graph};
 use std::alloc::Global;
 use std::test::Fail;
 
-/// Builds a molecule, all of whose atoms are written. Each bond is drawn with its lower end first, and the bonds in order.
+/// Builds a molecule, all of whose atoms are written, and finds the marks of its bonds.
 pub fn mol_of(alloc: Global, atoms: Vec<Atom>, drawn: &[Edge]) -> Result<Mol, Fail>
     ensures atoms { IfOk result (λ mol. mol.atoms ≡ atoms.items) }
     ensures bonds { IfOk result (λ mol. edges mol.bonds ≡ drawn.now) }
@@ -21,7 +22,7 @@ pub fn mol_of(alloc: Global, atoms: Vec<Atom>, drawn: &[Edge]) -> Result<Mol, Fa
         return Err(Fail::from("a molecule's atoms"));
     }
     let count = atoms.len() as u32;
-    if drawn.len() > 9999 || !are_in_order(count, drawn) {
+    if drawn.len() > 9999 || !is_graph(count, drawn) {
         return Err(Fail::from("a molecule's bonds"));
     }
     let near = Neighbours::of(alloc, count, drawn)?;
@@ -29,7 +30,7 @@ pub fn mol_of(alloc: Global, atoms: Vec<Atom>, drawn: &[Edge]) -> Result<Mol, Fa
     Ok(Mol::over(count, atoms, bonds, near))
 }
 
-/// Builds a graph. Each bond is drawn with its lower end first, and the bonds in order. Its marks may be any.
+/// Builds a graph. Each bond has its lower end first, and the bonds are in order. Their marks are found anew.
 pub fn graph_of(alloc: Global, atoms: Vec<GraphAtom>, bonds: Vec<GraphBond>) -> Result<Graph, Fail>
     ensures atoms { IfOk result (λ graph. graph.atoms ≡ atoms.items) }
     ensures bonds { IfOk result (λ graph. bare_bonds graph.bonds ≡ bare_bonds bonds.items) }
@@ -37,40 +38,44 @@ pub fn graph_of(alloc: Global, atoms: Vec<GraphAtom>, bonds: Vec<GraphBond>) -> 
     if atoms.len() > 512 || !have_tests(&atoms) {
         return Err(Fail::from("a graph's atoms"));
     }
+    if !have_bond_tests(&bonds) {
+        return Err(Fail::from("the types of a graph's bonds"));
+    }
     let drawn = edges_of_graph(alloc, &bonds)?;
-    if !are_in_order(atoms.len() as u32, &drawn) || !have_bond_tests(&bonds) {
+    if !is_graph(atoms.len() as u32, &drawn) {
         return Err(Fail::from("a graph's bonds"));
+    }
+    if !are_ordered(&drawn) {
+        return Err(Fail::from("the order of a graph's bonds"));
     }
     Ok(marked_graph(alloc, atoms, bonds)?)
 }
 
-// The ends of each bond are atoms, the lower one first, and each bond stands before those behind it.
-fn are_in_order(atoms: u32, edges: &[Edge]) -> bool
-    ensures { IsTrue result → AreInOrder atoms edges.now }
+// Each bond has its lower end first, and stands before those behind it.
+fn are_ordered(edges: &[Edge]) -> bool
+    ensures lower_first { IsTrue result → All (λ edge. edge.first < edge.second) edges.now }
+    ensures order { IsTrue result → AllPairs IsEdgeBefore edges.now }
+{
+    have_lower_first(edges) && are_in_order(edges)
+}
+
+fn have_lower_first(edges: &[Edge]) -> bool
+    ensures { IsTrue result → All (λ edge. edge.first < edge.second) edges.now }
+{
+    edges.iter().all(|edge| edge.first < edge.second)
+}
+
+fn are_in_order(edges: &[Edge]) -> bool
+    ensures { IsTrue result → AllPairs IsEdgeBefore edges.now }
 {
     for b in 0..edges.len() {
-        if !is_drawn(atoms, edges[b]) {
-            return false;
-        }
         for c in 0..b {
-            if !stands_before(edges[c], edges[b]) {
+            if !edges[c].is_before(edges[b]) {
                 return false;
             }
         }
     }
     true
-}
-
-fn is_drawn(atoms: u32, edge: Edge) -> bool
-    ensures { IsTrue result → IsEdgeOf atoms edge }
-{
-    1 <= edge.first && edge.first < edge.second && edge.second <= atoms
-}
-
-fn stands_before(edge: Edge, next: Edge) -> bool
-    ensures { IsTrue result → IsEdgeBefore edge next }
-{
-    edge.first < next.first || edge.first == next.first && edge.second < next.second
 }
 
 fn have_elements(atoms: &[Atom]) -> bool

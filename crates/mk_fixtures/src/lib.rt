@@ -1,11 +1,22 @@
-//! Molecules and graphs for tests, from their atoms and drawn bonds. It serves tests alone.
+//! Molecules, graphs and files for tests. It serves tests alone.
 //!
-//! `mol_of` builds a molecule and `graph_of` a graph of what is drawn, and each finds the marks of the bonds itself. What
-//! can't be either is a failure of the test that draws it (`specs/Fixtures.antt` says in which order bonds are drawn).
+//! Most tests draw by a text, as `C O C | 1-2 2-3`: `mol_of_sketch` gives its molecule, `graph_of_sketch` its graph, and
+//! `molfile_of_sketch` and `table_of_sketch` what a file holds of it. The shorthand stands in docs/TESTING.md, "Tables of
+//! tests". `mol_of` and `graph_of` build a molecule and a graph of lists. The marks of bonds are found here.
+//!
+//! What can't be built is a failure of the test that asks for it.
 #![tactic(auto)]
 
 mod building;
+mod checks;
+mod files;
+mod sketches;
 #[cfg(test)]
 mod tests;
+mod words;
 
 pub use building::{graph_of, mol_of};
+pub use files::{molfile_of_sketch, table_of_sketch};
+pub use sketches::{
+    asked, asked_atoms, asked_bonds, bonds_of_sketch, elements_of, graph_of_sketch, mol_of_sketch,
+};

@@ -10,30 +10,8 @@ use Rattle.mk_model.specs.declared.group.Group.{Group}
 use Rattle.mk_model.specs.declared.query.Count.{Count}
 use Rattle.mk_model.specs.Queries.{QueryView}
 use Rattle.mk_model.specs.Logic.{IsAllowed, IsAsked, IsGroupAt, MeetsRange, Names, is_in_range}
-use Rattle.mk_model.proofs.ForCallers.{place_within}
+use Rattle.mk_model.proofs.ForCallers.{IsPassed, passes_some, place_within, some_passes}
 use Rattle.mk_logic.specs.Counts.{filled_at, is_asked, sites_at}
-
--- ---- some of a list
-
--- an element that passes, at its place
-pub record IsPassed {X : Type 0} (p : X → Bool) (xs : List X) : Type 0 where
-  pub place : ℕ
-  pub item : X
-  pub at : slice_get xs place ≡ Some item
-  pub passes : p item ≡ true
-
-pub some_passes : {X : Type 0} (p : X → Bool) (xs : List X) → list_any p xs ≡ true → IsPassed p xs
-some_passes p [] any = absurd cc
-some_passes p (x ∷ xs) any = by_first (p x) refl any (some_passes p xs)
-  where
-    by_first : (b : Bool) → p x ≡ b → (b || list_any p xs) ≡ true → (list_any p xs ≡ true → IsPassed p xs) → IsPassed p (x ∷ xs)
-    by_first true e any there = record { place = 0; item = x; at = refl; passes = e }
-    by_first false e any there = (let found = there any in record { place = suc found.place; item = found.item; at = found.at; passes = found.passes })
-
-pub passes_some : {X : Type 0} (p : X → Bool) (xs : List X) (k : ℕ) (x : X) → slice_get xs k ≡ Some x → p x ≡ true → list_any p xs ≡ true
-passes_some p [] k x at passes = absurd cc
-passes_some p (y ∷ xs) zero x at passes = (let same : y ≡ x = cc in or_left (p y) (list_any p xs) (ap p same ∙ passes))
-passes_some p (y ∷ xs) (suc k) x at passes = or_right (p y) (list_any p xs) (passes_some p xs k x at passes)
 
 -- ---- two lists side by side
 

@@ -1,12 +1,12 @@
-// The hits of small graphs in small molecules, and the search beside the plain program.
+// The hits of small graphs in small molecules, and the search beside the plain program. The shorthand is that of
+// docs/TESTING.md, "Tables of tests".
 ghost use Rattle.std.specs.Prelude.{◌≡◌, ◌<◌, length};
 
 use crate::{Maps, least_map};
-use mk_fixtures::{graph_of, mol_of};
-use mk_model::{
-    Atom, AtomTest, Edge, Elements, Graph, GraphAtom, GraphBond, Kind, Map, Memory, Mol, Place,
-    Steps,
+use mk_fixtures::{
+    asked, asked_atoms, asked_bonds, elements_of, graph_of, graph_of_sketch, mol_of, mol_of_sketch,
 };
+use mk_model::{Atom, Edge, Graph, GraphAtom, GraphBond, Kind, Map, Memory, Mol, Place, Steps};
 use mk_tests::{atom_fits, bond_fits};
 use std::alloc::Global;
 use std::marker::Brand;
@@ -14,51 +14,24 @@ use std::process::Abort;
 use std::sync::ledger::{Blank, Ledger};
 use std::test::Fail;
 
-// Elements and bonds.
-type GraphView = (&'static [u8], &'static [(u32, u32, u8)]);
+const COC: &str = "C O C | 1-2 2-3";
 
-const COC: GraphView = (&[6, 8, 6], &[(1, 2, 1), (2, 3, 1)]);
+const TRIANGLE: &str = "C C C | 1-2 1-3 2-3";
 
-const TRIANGLE: GraphView = (&[6, 6, 6], &[(1, 2, 1), (1, 3, 1), (2, 3, 1)]);
+const SPIRO: &str = "C C C C C | 1-2 1-3 1-4 1-5 2-3 4-5";
 
-const SPIRO: GraphView = (
-    &[6, 6, 6, 6, 6],
-    &[
-        (1, 2, 1),
-        (1, 3, 1),
-        (1, 4, 1),
-        (1, 5, 1),
-        (2, 3, 1),
-        (4, 5, 1),
-    ],
-);
+const JOINED: &str = "C C C C C C | 1-2 1-3 2-3 3-4 4-5 4-6 5-6";
 
-const JOINED: GraphView = (
-    &[6, 6, 6, 6, 6, 6],
-    &[
-        (1, 2, 1),
-        (1, 3, 1),
-        (2, 3, 1),
-        (3, 4, 1),
-        (4, 5, 1),
-        (4, 6, 1),
-        (5, 6, 1),
-    ],
-);
+const CO: &str = "C O | 1-2";
 
-const CC: GraphView = (&[6, 6], &[(1, 2, 1)]);
+const APART: &str = "C C |";
 
-const CO: GraphView = (&[6, 8], &[(1, 2, 1)]);
-
-const APART: GraphView = (&[6, 6], &[]);
-
-// The query with the ring-bond column of its first atom and the topology of its bonds, the molecule, and all hits in order.
-const ROWS: [(&str, GraphView, i8, u8, GraphView, &[&[u32]]); 9] = [
+// The query, the ring-bond column of its first atom, the molecule, and all hits in order.
+static ROWS: [(&str, &str, i8, &str, &[&[u32]]); 9] = [
     (
         "as many ring bonds as are drawn",
         TRIANGLE,
         -2,
-        0,
         SPIRO,
         &[
             &[2, 1, 3],
@@ -75,38 +48,29 @@ const ROWS: [(&str, GraphView, i8, u8, GraphView, &[&[u32]]); 9] = [
         "four ring bonds or more",
         TRIANGLE,
         4,
-        0,
         SPIRO,
         &[&[1, 2, 3], &[1, 3, 2], &[1, 4, 5], &[1, 5, 4]],
     ),
-    ("a bond in no ring", CC, 0, 2, JOINED, &[&[3, 4], &[4, 3]]),
-    ("two hits on one oxygen", CO, 0, 0, COC, &[&[1, 2], &[3, 2]]),
     (
-        "a chain in a chain",
-        COC,
+        "a bond in no ring",
+        "C C | 1-2/2",
         0,
-        0,
-        COC,
-        &[&[1, 2, 3], &[3, 2, 1]],
+        JOINED,
+        &[&[3, 4], &[4, 3]],
     ),
-    (
-        "a graph in two parts",
-        APART,
-        0,
-        0,
-        COC,
-        &[&[1, 3], &[3, 1]],
-    ),
-    ("more atoms than there are", COC, 0, 0, CO, &[]),
-    ("no atom", (&[], &[]), 0, 0, COC, &[&[]]),
-    ("no atom in no atom", (&[], &[]), 0, 0, (&[], &[]), &[&[]]),
+    ("two hits on one oxygen", CO, 0, COC, &[&[1, 2], &[3, 2]]),
+    ("a chain in a chain", COC, 0, COC, &[&[1, 2, 3], &[3, 2, 1]]),
+    ("a graph in two parts", APART, 0, COC, &[&[1, 3], &[3, 1]]),
+    ("more atoms than there are", COC, 0, CO, &[]),
+    ("no atom", "|", 0, COC, &[&[]]),
+    ("no atom in no atom", "|", 0, "|", &[&[]]),
 ];
 
 #[test]
 fn hits(rt: HostRuntime) -> Result<(), Fail> {
-    for (name, query, ring_bonds, topology, molecule, want) in ROWS.iter() {
-        let graph = query_of(rt.alloc(), *query, *ring_bonds, *topology)?;
-        let mol = molecule_of(rt.alloc(), *molecule)?;
+    for (name, query, ring_bonds, molecule, want) in ROWS.iter() {
+        let graph = query_of(rt.alloc(), query, *ring_bonds)?;
+        let mol = mol_of_sketch(rt.alloc(), molecule)?;
         let hits = all_hits(rt.alloc(), &graph, &mol)?;
         assert_eq!(rt; hits.len(), want.len(), "{name}");
         for (hit, other) in hits.iter().zip(*want) {
@@ -133,8 +97,8 @@ const FRONTS: [(&[u32], Option<[u32; 2]>); 11] = [
 
 #[test]
 fn fronts(rt: HostRuntime) -> Result<(), Fail> {
-    let graph = query_of(rt.alloc(), CO, 0, 0)?;
-    let mol = molecule_of(rt.alloc(), COC)?;
+    let graph = graph_of_sketch(rt.alloc(), CO)?;
+    let mol = mol_of_sketch(rt.alloc(), COC)?;
     for (row, (front, want)) in FRONTS.iter().enumerate() {
         match (least(rt.alloc(), &graph, &mol, front)?, want) {
             (Some(hit), Some(other)) => {
@@ -150,8 +114,8 @@ fn fronts(rt: HostRuntime) -> Result<(), Fail> {
 
 #[test]
 fn taken_up(rt: HostRuntime) -> Result<(), Fail> {
-    let graph = query_of(rt.alloc(), CO, 0, 0)?;
-    let mol = molecule_of(rt.alloc(), COC)?;
+    let graph = graph_of_sketch(rt.alloc(), CO)?;
+    let mol = mol_of_sketch(rt.alloc(), COC)?;
     let last = place_at_end::<Brand>(&rt, rt.alloc(), graph, &mol, &[1, 2, 0], Blank::new(1))?;
     assert_eq!(rt; last.as_slice(), [3, 2, 0].as_slice());
     Ok(())
@@ -436,37 +400,13 @@ fn pairs(alloc: Global, atoms: u32) -> Result<Vec<(u32, u32)>, Memory> {
     Ok(pairs)
 }
 
-// ---- graphs and molecules that are drawn
-
-// The graph of elements and bonds, with the ring-bond column of its first atom and the topology of all its bonds.
-fn query_of(
-    alloc: Global,
-    drawing: GraphView,
-    ring_bonds: i8,
-    topology: u8,
-) -> Result<Graph, Fail> {
-    let mut atoms = Vec::new(alloc);
-    for (x, z) in drawing.0.iter().enumerate() {
-        let column = if x == 0 { ring_bonds } else { 0 };
-        atoms.push(asked_atom(Kind::Element(*z), column))?;
+// The graph of a sketch, with the ring-bond column of its first atom.
+fn query_of(alloc: Global, sketch: &str, ring_bonds: i8) -> Result<Graph, Fail> {
+    let mut atoms = asked_atoms(alloc, sketch)?;
+    if let Some(atom) = atoms.first_mut() {
+        atom.test.ring_bonds = ring_bonds;
     }
-    let mut bonds = Vec::new(alloc);
-    for (first, second, kind) in drawing.1 {
-        bonds.push(asked_bond(*first, *second, *kind, topology))?;
-    }
-    graph_of(alloc, atoms, bonds)
-}
-
-fn molecule_of(alloc: Global, drawing: GraphView) -> Result<Mol, Fail> {
-    let mut atoms = Vec::new(alloc);
-    for z in drawing.0 {
-        atoms.push(atom(*z))?;
-    }
-    let mut bonds = Vec::new(alloc);
-    for (first, second, kind) in drawing.1 {
-        bonds.push(edge(*first, *second, *kind))?;
-    }
-    mol_of(alloc, atoms, &bonds)
+    graph_of(alloc, atoms, asked_bonds(alloc, sketch)?)
 }
 
 fn atom(element: u8) -> Atom {
@@ -486,18 +426,9 @@ fn edge(first: u32, second: u32, kind: u8) -> Edge {
 }
 
 fn asked_atom(kind: Kind, ring_bonds: i8) -> GraphAtom {
-    GraphAtom {
-        test: AtomTest {
-            kind,
-            charge: 0,
-            radical: 0,
-            hydrogens: 0,
-            ring_bonds,
-            substitution: 0,
-            unsaturated: false,
-        },
-        free: 0,
-    }
+    let mut test = asked(kind);
+    test.ring_bonds = ring_bonds;
+    GraphAtom { test, free: 0 }
 }
 
 fn asked_bond(first: u32, second: u32, kind: u8, topology: u8) -> GraphBond {
@@ -514,18 +445,10 @@ fn asked_bond(first: u32, second: u32, kind: u8, topology: u8) -> GraphBond {
 fn kind_of(alloc: Global, asked: Asked) -> Result<Kind, Memory> {
     let kind = match asked {
         Asked::Carbon => Kind::Element(6),
-        Asked::OneOf => Kind::OneOf(list_of(alloc, &[6, 8])?),
-        Asked::NoneOf => Kind::NoneOf(list_of(alloc, &[7])?),
+        Asked::OneOf => Kind::OneOf(elements_of(alloc, &[6, 8])?),
+        Asked::NoneOf => Kind::NoneOf(elements_of(alloc, &[7])?),
         Asked::Hetero => Kind::Hetero,
         Asked::Anything => Kind::Anything,
     };
     Ok(kind)
-}
-
-fn list_of(alloc: Global, elements: &[u8]) -> Result<Elements, Memory> {
-    let mut list = Elements::new(alloc);
-    for z in elements {
-        list.push(*z)?;
-    }
-    Ok(list)
 }

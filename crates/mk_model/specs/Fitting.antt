@@ -1,4 +1,6 @@
 -- Which atom and which bond of a molecule an atom and a bond of a graph may lie on.
+--     passes_at test items n       the item of number n passes the test
+--     count_at edge test bonds n   how many bonds of atom n pass the test
 --     hydrogens_at mol m, others_at mol m, rings_at mol m     what is bonded to atom m, and its ring bonds
 --     drawn_hydrogens graph x, drawn_others graph x, drawn_rings graph x     the same of atom x of a graph
 --     FitsAtom graph mol x m       atom x of the graph accepts atom m of the molecule
@@ -11,32 +13,44 @@ use Rattle.mk_model.specs.declared.graph.GraphAtom.{GraphAtom}
 use Rattle.mk_model.specs.declared.graph.GraphBond.{GraphBond}
 use Rattle.mk_model.specs.declared.molecule.Atom.{Atom}
 use Rattle.mk_model.specs.declared.molecule.MolBond.{MolBond}
+use Rattle.mk_model.specs.declared.edge.Edge.{Edge}
 use Rattle.mk_model.specs.Edges.{other_end, touches}
 use Rattle.mk_model.specs.Molecules.{Molecule, IsBondOf, edge_of}
 use Rattle.mk_model.specs.Graphs.{GraphView, graph_edge}
 use Rattle.mk_model.specs.Tests.{accepts, charge_fits, radical_fits, hydrogens_fit, ring_bonds_fit, substitution_fits, unsaturation_fits, is_unsaturated, meets}
 
+-- ---- by numbers, and around an atom
+
+-- the item passes the test, where there is one
+abbrev pub passes_some : {A : Type 0} → (A → Bool) → Option A → Bool
+passes_some test None = false
+passes_some test (Some item) = test item
+
+-- the item of this number passes the test; items count from 1
+abbrev pub passes_at : {A : Type 0} → (A → Bool) → List A → ℕ → Bool
+passes_at test items number = passes_some test (slice_get items (number - 1))
+
+-- how many of the bonds that end at atom n pass the test
+abbrev pub count_at : {B : Type 0} → (B → Edge) → (B → Bool) → List B → ℕ → ℕ
+count_at edge test bonds n = count_by (λ bond. touches n (edge bond) && test bond) bonds
+
 -- ---- around an atom of a molecule
 
 -- the atom of this number is hydrogen
 abbrev pub is_hydrogen : List Atom → ℕ → Bool
-is_hydrogen atoms n = is_at (slice_get atoms (n - 1))
-  where
-    is_at : Option Atom → Bool
-    is_at None = false
-    is_at (Some atom) = atom.element == 1
+is_hydrogen atoms n = passes_at (λ atom. atom.element == 1) atoms n
 
 -- the bonds of atom m that lead to a hydrogen
 abbrev pub hydrogens_at : Molecule → ℕ → ℕ
-hydrogens_at mol m = count_by (λ bond. touches m (edge_of bond) && is_hydrogen mol.atoms (other_end m (edge_of bond))) mol.bonds
+hydrogens_at mol m = count_at edge_of (λ bond. is_hydrogen mol.atoms (other_end m (edge_of bond))) mol.bonds m
 
 -- the bonds of atom m that lead to another atom
 abbrev pub others_at : Molecule → ℕ → ℕ
-others_at mol m = count_by (λ bond. touches m (edge_of bond) && not (is_hydrogen mol.atoms (other_end m (edge_of bond)))) mol.bonds
+others_at mol m = count_at edge_of (λ bond. not (is_hydrogen mol.atoms (other_end m (edge_of bond)))) mol.bonds m
 
 -- the ring bonds of atom m
 abbrev pub rings_at : Molecule → ℕ → ℕ
-rings_at mol m = count_by (λ bond. touches m (edge_of bond) && bond.ring) mol.bonds
+rings_at mol m = count_at edge_of (λ bond. bond.ring) mol.bonds m
 
 -- some bond of atom m is unsaturated
 abbrev pub is_unsaturated_at : Molecule → ℕ → Bool
@@ -51,23 +65,19 @@ is_hydrogen_kind _ = false
 
 -- the atom of this number is drawn as a hydrogen
 abbrev pub is_drawn_hydrogen : List GraphAtom → ℕ → Bool
-is_drawn_hydrogen atoms n = is_at (slice_get atoms (n - 1))
-  where
-    is_at : Option GraphAtom → Bool
-    is_at None = false
-    is_at (Some atom) = is_hydrogen_kind atom.test.kind
+is_drawn_hydrogen atoms n = passes_at (λ atom. is_hydrogen_kind atom.test.kind) atoms n
 
 -- the bonds of atom x that lead to a drawn hydrogen
 abbrev pub drawn_hydrogens : GraphView → ℕ → ℕ
-drawn_hydrogens graph x = count_by (λ bond. touches x (graph_edge bond) && is_drawn_hydrogen graph.atoms (other_end x (graph_edge bond))) graph.bonds
+drawn_hydrogens graph x = count_at graph_edge (λ bond. is_drawn_hydrogen graph.atoms (other_end x (graph_edge bond))) graph.bonds x
 
 -- the bonds of atom x that lead to another atom
 abbrev pub drawn_others : GraphView → ℕ → ℕ
-drawn_others graph x = count_by (λ bond. touches x (graph_edge bond) && not (is_drawn_hydrogen graph.atoms (other_end x (graph_edge bond)))) graph.bonds
+drawn_others graph x = count_at graph_edge (λ bond. not (is_drawn_hydrogen graph.atoms (other_end x (graph_edge bond)))) graph.bonds x
 
 -- the ring bonds of atom x
 abbrev pub drawn_rings : GraphView → ℕ → ℕ
-drawn_rings graph x = count_by (λ bond. touches x (graph_edge bond) && bond.ring) graph.bonds
+drawn_rings graph x = count_at graph_edge (λ bond. bond.ring) graph.bonds x
 
 -- ---- an atom on an atom
 

@@ -1,11 +1,9 @@
 // The calls that take memory, each once.
-ghost use Rattle.std.specs.Prelude.{IsTrue};
-ghost use Rattle.mk_model.specs.Edges.{AreBetween};
 ghost use Rattle.mk_model.specs.Tests.{IsTestInRange};
 
 use crate::{
-    Atom, AtomTest, Edge, Elements, Graph, GraphAtom, GraphBond, Interval, Kind, Mol, Neighbours,
-    Numbers, QueryBond, Range, Slot, Template, put_in_order,
+    Atom, AtomTest, Elements, Graph, GraphAtom, GraphBond, Interval, Kind, Mol, Numbers, QueryBond,
+    Range, Slot, Template, put_in_order,
 };
 use std::test::Fail;
 
@@ -14,21 +12,6 @@ const CARBON: Atom = Atom {
     charge: 0,
     radical: 0,
 };
-
-#[test]
-fn lists_the_bonds_of_each_atom(rt: HostRuntime) -> Result<(), Fail> {
-    // a square with one atom more on its third corner
-    let bonds = [edge(1, 2), edge(3, 2), edge(3, 4), edge(1, 4), edge(3, 5)];
-    if !are_between(6, &bonds) {
-        return Err(Fail::from("ends"));
-    }
-    let rows = Neighbours::of(rt.alloc(), 6, &bonds)?;
-    let want: [&[u32]; 6] = [&[1, 4], &[1, 2], &[2, 3, 5], &[3, 4], &[5], &[]];
-    for (n, numbers) in want.iter().enumerate() {
-        assert_eq!(rt; rows.at(n as u32 + 1), *numbers, "{n}");
-    }
-    Ok(())
-}
 
 #[test]
 fn keeps_a_molecule(rt: HostRuntime) -> Result<(), Fail> {
@@ -180,30 +163,4 @@ fn graph_bond(first: u32, second: u32, kind: u8) -> GraphBond {
         ring: false,
         aromatic: false,
     }
-}
-
-fn edge(first: u32, second: u32) -> Edge {
-    Edge {
-        first,
-        second,
-        kind: 1,
-    }
-}
-
-// Both ends of each bond are among the atoms, and differ.
-fn are_between(atoms: u32, bonds: &[Edge]) -> bool
-    ensures { IsTrue result → AreBetween atoms bonds.now }
-{
-    for bond in bonds {
-        if bond.first < 1 || bond.second < 1 {
-            return false;
-        }
-        if bond.first > atoms || bond.second > atoms {
-            return false;
-        }
-        if bond.first == bond.second {
-            return false;
-        }
-    }
-    true
 }

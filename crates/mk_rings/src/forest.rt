@@ -107,8 +107,7 @@ fn follow(
     let here = nodes[x as usize];
     for number in numbers {
         let b = *number - 1;
-        let edge = bonds[b as usize];
-        let y = other_end(edge, x);
+        let y = bonds[b as usize].other_end(x);
         if nodes[y as usize].root != 0 {
             continue;
         }
@@ -121,15 +120,4 @@ fn follow(
         stack.push(y)?;
     }
     Ok(())
-}
-
-// The other end of a bond of atom x.
-pub fn other_end(edge: Edge, x: u32) -> u32
-    requires { IsTrue (touches x edge) }
-    ensures { HasEnds edge x result }
-{
-    if edge.first == x {
-        return edge.second;
-    }
-    edge.first
 }

@@ -15,8 +15,6 @@
 #![tactic(auto)]
 
 mod aromatic;
-#[cfg(test)]
-mod checks;
 mod forest;
 mod graphs;
 mod laws;
@@ -29,8 +27,6 @@ mod rounds;
 mod six_rings;
 mod spreading;
 mod steps;
-#[cfg(test)]
-mod tests;
 
 pub use aromatic::aromatic_bonds;
 pub use graphs::marked_graph;

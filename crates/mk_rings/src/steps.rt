@@ -2,7 +2,6 @@
 ghost use Rattle.std.specs.Prelude.{◌≡◌, ◌≤◌, ◌<◌, ◌-◌, length, slice_index};
 ghost use Rattle.mk_model.specs.Edges.{AreBetween, Joins, numbers_at, rows_of};
 
-use crate::forest::other_end;
 use mk_model::{Edge, Neighbours};
 
 /// Over the bond at this place, to this atom.
@@ -32,6 +31,6 @@ pub fn step_over(numbers: &[u32], bonds: &[Edge], x: u32, i: usize) -> Step
     let bond = numbers[i] as usize - 1;
     Step {
         bond,
-        to: other_end(bonds[bond], x),
+        to: bonds[bond].other_end(x),
     }
 }

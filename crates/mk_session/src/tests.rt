@@ -1,5 +1,6 @@
-// The command `match` on objects in memory.
+// The command `match` on objects in memory. The shorthand is that of docs/TESTING.md, "Tables of tests".
 use crate::{Status, top};
+use mk_fixtures::molfile_of_sketch;
 use mk_outside::{
     Bytes, CallNumbers, FileRow, FileRows, MemFiles, MemSink, Memory, SureFiles, SureSink, Text,
 };
@@ -7,57 +8,60 @@ use std::alloc::Global;
 use std::process::Abort;
 use std::test::Fail;
 
+// What a file holds: the molfile of a sketch, or a text as it stands.
+#[derive(Clone, Copy)]
+enum Held {
+    Drawn(&'static str),
+    Written(&'static str),
+}
+
+use Held::{Drawn, Written};
+
 // A carbon.
-const C: &str = "\n\n\n  1  0\n                               C\nM  END\n";
+const C: Held = Drawn("C |");
 
 // A carbon and an oxygen with a bond.
-const CO: &str =
-    "\n\n\n  2  1\n                               C\n                               O\n  1  2  1\nM  END\n";
+const CO: Held = Drawn("C O | 1-2");
 
 // Methoxymethane.
-const COC: &str =
-    "\n\n\n  3  2\n                               C\n                               O\n                               C\n  1  2  1\n  2  3  1\nM  END\n";
+const COC: Held = Drawn("C O C | 1-2 2-3");
 
 // The same bond from the oxygen on.
-const OC: &str =
-    "\n\n\n  2  1\n                               O\n                               C\n  1  2  1\nM  END\n";
+const OC: Held = Drawn("O C | 1-2");
 
 // Two carbons with a bond.
-const CC: &str =
-    "\n\n\n  2  1\n                               C\n                               C\n  1  2  1\nM  END\n";
+const CC: Held = Drawn("C C | 1-2");
 
 // A carbon and a nitrogen with a triple bond.
-const TRIPLE: &str =
-    "\n\n\n  2  1\n                               C\n                               N\n  1  2  3\nM  END\n";
+const TRIPLE: Held = Drawn("C N | 1#2");
 
 // A carbon and a nitrogen with a double bond.
-const DOUBLE: &str =
-    "\n\n\n  2  1\n                               C\n                               N\n  1  2  2\nM  END\n";
+const DOUBLE: Held = Drawn("C N | 1=2");
 
 // A ring of three carbons.
-const RING: &str =
-    "\n\n\n  3  3\n                               C\n                               C\n                               C\n  1  2  1\n  2  3  1\n  1  3  1\nM  END\n";
+const RING: Held = Drawn("C C C | 1-2 2-3 1-3");
 
 // Benzene.
-const BENZENE: &str =
-    "\n\n\n  6  6\n                               C\n                               C\n                               C\n                               C\n                               C\n                               C\n  1  2  1\n  2  3  2\n  3  4  1\n  4  5  2\n  5  6  1\n  6  1  2\nM  END\n";
+const BENZENE: Held = Drawn("C C C C C C | 1-2 2=3 3-4 4=5 5-6 6=1");
 
 // Acetic acid.
-const ACID: &str =
-    "\n\n\n  4  3\n                               C\n                               C\n                               O\n                               O\n  1  2  1\n  2  3  2\n  2  4  1\nM  END\n";
+const ACID: Held = Drawn("C C O O | 1-2 2=3 2-4");
 
 // Two carbons that aren't bonded.
-const APART: &str =
-    "\n\n\n  2  0\n                               C\n                               C\nM  END\n";
+const APART: Held = Drawn("C C |");
 
-fn file(alloc: Global, name: &str, bytes: &str) -> Result<FileRow, Memory> {
+fn file(alloc: Global, name: &str, held: Held) -> Result<FileRow, Fail> {
+    let bytes = match held {
+        Drawn(sketch) => molfile_of_sketch(alloc, sketch)?,
+        Written(text) => text.as_bytes().to_vec(alloc)?,
+    };
     Ok(FileRow {
         name: Text::of(String::from_str(alloc, name)?),
-        bytes: Bytes::of(bytes.as_bytes().to_vec(alloc)?),
+        bytes: Bytes::of(bytes),
     })
 }
 
-fn files(alloc: Global, query: &str, molecule: &str) -> Result<FileRows, Memory> {
+fn files(alloc: Global, query: Held, molecule: Held) -> Result<FileRows, Fail> {
     let mut rows = FileRows::new(alloc);
     rows.push(file(alloc, "q", query)?)?;
     rows.push(file(alloc, "m", molecule)?)?;
@@ -89,7 +93,7 @@ fn is_answered(
     Ok(ended == status && output.bytes() == wanted.as_bytes())
 }
 
-const HITS: [(&str, &str, &str, &str); 22] = [
+static HITS: [(&str, Held, Held, &str); 22] = [
     (
         "two maps of C-O",
         CO,
@@ -134,82 +138,89 @@ const HITS: [(&str, &str, &str, &str); 22] = [
         DOUBLE,
         "end\n",
     ),
-    (
-        "a molecule of no atom",
-        C,
-        "\n\n\n  0  0\nM  END\n",
-        "end\n",
-    ),
+    ("a molecule of no atom", C, Drawn("|"), "end\n"),
     (
         "lines that end with CR and LF",
         CO,
-        "\r\n\r\n\r\n  3  2\r\n                               C\r\n                               O\r\n                               C\r\n  1  2  1\r\n  2  3  1\r\nM  END\r\n",
+        Written(
+            "\r\n\r\n\r\n  3  2\r\n                               C\r\n                               O\r\n                               C\r\n  1  2  1\r\n  2  3  1\r\nM  END\r\n",
+        ),
         "hit 1 choice map 1 2\nhit 1 choice map 3 2\nend\n",
     ),
     (
         "header lines of any length",
         CO,
-        "M  END\n  9  9  9 xxxxxxxxxxxxxxxxxxxxxxxxxxxxxxxxxxxxxxxxxxxxxxxxxxxxxxxxxxxxxxxxxxxxxxxxxxxxxxxxxxxxxxxxxxxxxxxxxxxx\nV3000\n  3  2\n                               C\n                               O\n                               C\n  1  2  1\n  2  3  1\nM  END\n",
+        Written(
+            "M  END\n  9  9  9 xxxxxxxxxxxxxxxxxxxxxxxxxxxxxxxxxxxxxxxxxxxxxxxxxxxxxxxxxxxxxxxxxxxxxxxxxxxxxxxxxxxxxxxxxxxxxxxxxxxx\nV3000\n  3  2\n                               C\n                               O\n                               C\n  1  2  1\n  2  3  1\nM  END\n",
+        ),
         "hit 1 choice map 1 2\nhit 1 choice map 3 2\nend\n",
     ),
     (
         "coordinates and a version",
         CO,
-        "\n  markush\n\n  2  1  0  0  0  0            999 V2000\n    0.0000    0.0000    0.0000 C   0  0  0  0  0  0  0  0  0  0  0  0\n    1.4000   -0.5000    0.0000 O   0  0  0  0  0  0  0  0  0  0  0  0\n  1  2  1  0  0  0  0\nM  END\n",
+        Written(
+            "\n  markush\n\n  2  1  0  0  0  0            999 V2000\n    0.0000    0.0000    0.0000 C   0  0  0  0  0  0  0  0  0  0  0  0\n    1.4000   -0.5000    0.0000 O   0  0  0  0  0  0  0  0  0  0  0  0\n  1  2  1  0  0  0  0\nM  END\n",
+        ),
         "hit 1 choice map 1 2\nend\n",
     ),
     (
         "blank lines behind the table",
         C,
-        "\n\n\n  1  0\n                               C\nM  END\n\n   \n",
+        Written("\n\n\n  1  0\n                               C\nM  END\n\n   \n"),
         "hit 1 choice map 1\nend\n",
     ),
     (
         "no LF behind the last line",
         C,
-        "\n\n\n  1  0\n                               C\nM  END",
+        Written("\n\n\n  1  0\n                               C\nM  END"),
         "hit 1 choice map 1\nend\n",
     ),
     (
         "a line that ends the record",
         C,
-        "\n\n\n  1  0\n                               C\nM  END\n$$$$\n",
+        Written("\n\n\n  1  0\n                               C\nM  END\n$$$$\n"),
         "hit 1 choice map 1\nend\n",
     ),
     (
         "data lines and a separator with text behind it",
         C,
-        "\n\n\n  1  0\n                               C\nM  END\n>  <name>\nx $$$$\n\n$$$$ end\n",
+        Written(
+            "\n\n\n  1  0\n                               C\nM  END\n>  <name>\nx $$$$\n\n$$$$ end\n",
+        ),
         "hit 1 choice map 1\nend\n",
     ),
     (
         "Sgroup lines",
         CO,
-        "\n\n\n  2  1\n                               C\n                               O\n  1  2  1\nM  STY  1   1 SUP\nM  SLB  1   1   1\nM  SAL   1  1   2\nM  SBL   1  1   1\nM  SMT   1 OH\nM  END\n",
+        Drawn(
+            "C O | 1-2 {M  STY  1   1 SUP}{M  SLB  1   1   1}{M  SAL   1  1   2}{M  SBL   1  1   1}{M  SMT   1 OH}",
+        ),
         "hit 1 choice map 1 2\nend\n",
     ),
     (
         "charges",
         C,
-        "\n\n\n  2  1\n                               C   0  3\n                               N\n  1  2  1\nM  CHG  2   1  -1   2   1\nM  END\n",
+        Drawn("C(c3) N | 1-2 {M  CHG  2   1  -1   2   1}"),
         "hit 1 choice map 1\nend\n",
     ),
     (
         "a radical and an isotope",
         C,
-        "\n\n\n  2  1\n                               C\n                               C\n  1  2  1\nM  RAD  1   1   2\nM  ISO  1   2  13\nM  END\n",
+        Drawn("C C | 1-2 {M  RAD  1   1   2}{M  ISO  1   2  13}"),
         "hit 1 choice map 1\nhit 1 choice map 2\nend\n",
     ),
     (
         "a stereo bond",
         CO,
-        "\n\n\n  2  1\n                               C\n                               O\n  1  2  1  1\nM  END\n",
+        Written(
+            "\n\n\n  2  1\n                               C\n                               O\n  1  2  1  1\nM  END\n",
+        ),
         "hit 1 choice map 1 2\nend\n",
     ),
     (
         "hydrogens that are drawn",
         CO,
-        "\n\n\n  4  3\n                               H\n                               C\n                               D\n                               O\n  1  2  1\n  2  3  1\n  4  2  1\nM  END\n",
+        Drawn("H C D O | 1-2 2-3 4-2"),
         "hit 1 choice map 2 4\nend\n",
     ),
 ];
@@ -218,111 +229,124 @@ const HITS: [(&str, &str, &str, &str); 22] = [
 fn queries_have_their_hits(rt: HostRuntime) -> Result<(), Fail> {
     let alloc = rt.alloc();
     for (name, query, molecule, wanted) in HITS.iter() {
-        let rows = files(alloc, query, molecule)?;
+        let rows = files(alloc, *query, *molecule)?;
         assert!(rt; is_answered(alloc, rows, wanted, Status::Done)?, "{name}");
     }
     Ok(())
 }
 
-const REFUSALS: [(&str, &str, &str, &str); 21] = [
+static REFUSALS: [(&str, Held, Held, &str); 21] = [
     (
         "an unknown symbol",
         C,
-        "\n\n\n  2  1\n                               C\n                               Xx\n  1  2  1\nM  END\n",
+        Drawn("C Xx | 1-2"),
         "refused 3 molecules record 1 check V1 item 2\n",
     ),
     (
         "an atom bonded with itself",
         C,
-        "\n\n\n  2  2\n                               C\n                               C\n  1  2  1\n  2  2  1\nM  END\n",
+        Drawn("C C | 1-2 2-2"),
         "refused 3 molecules record 1 check V2 item 2\n",
     ),
     (
         "a bond of type 5",
         C,
-        "\n\n\n  2  1\n                               C\n                               C\n  1  2  5\nM  END\n",
+        Written(
+            "\n\n\n  2  1\n                               C\n                               C\n  1  2  5\nM  END\n",
+        ),
         "refused 3 molecules record 1 check V3 item 1\n",
     ),
     (
         "21 bonds of one atom",
         C,
-        "\n\n\n 22 21\n                               C\n                               C\n                               C\n                               C\n                               C\n                               C\n                               C\n                               C\n                               C\n                               C\n                               C\n                               C\n                               C\n                               C\n                               C\n                               C\n                               C\n                               C\n                               C\n                               C\n                               C\n                               C\n  1  2  1\n  1  3  1\n  1  4  1\n  1  5  1\n  1  6  1\n  1  7  1\n  1  8  1\n  1  9  1\n  1 10  1\n  1 11  1\n  1 12  1\n  1 13  1\n  1 14  1\n  1 15  1\n  1 16  1\n  1 17  1\n  1 18  1\n  1 19  1\n  1 20  1\n  1 21  1\n  1 22  1\nM  END\n",
+        Drawn(
+            "C C C C C C C C C C C C C C C C C C C C C C | 1-2 1-3 1-4 1-5 1-6 1-7 1-8 1-9 1-10 1-11 1-12 1-13 1-14 1-15 1-16 1-17 1-18 1-19 1-20 1-21 1-22",
+        ),
         "refused 3 molecules record 1 check V4 item 1\n",
     ),
     (
         "a charge of no atom",
         C,
-        "\n\n\n  1  0\n                               C\nM  ISO  1   1  13\nM  CHG  1   2   1\nM  END\n",
+        Drawn("C | {M  ISO  1   1  13}{M  CHG  1   2   1}"),
         "refused 3 molecules record 1 check V5 item 2\n",
     ),
     (
         "a radical of 4",
         C,
-        "\n\n\n  1  0\n                               C\nM  RAD  1   1   4\nM  END\n",
+        Drawn("C | {M  RAD  1   1   4}"),
         "refused 3 molecules record 1 check V6 item 1\n",
     ),
     (
         "a label",
         C,
-        "\n\n\n  1  0\n                               C\nM  RGP  1   1   1\nM  END\n",
+        Drawn("C | {M  RGP  1   1   1}"),
         "refused 3 molecules record 1 check V7 item 1\n",
     ),
     (
         "V3000",
         C,
-        "\n\n\n  0  0  0     0  0            999 V3000\nM  V30 BEGIN CTAB\n",
+        Written("\n\n\n  0  0  0     0  0            999 V3000\nM  V30 BEGIN CTAB\n"),
         "refused 2 molecules v3000 line 4\n",
     ),
     (
         "a counts line that is none",
         C,
-        "a\nb\nc\n  x  0\nM  END\n",
+        Written("a\nb\nc\n  x  0\nM  END\n"),
         "refused 2 molecules line 4\n",
     ),
     (
         "an atom line that is none",
         C,
-        "\n\n\n  1  0\n                               C  9 -\nM  END\n",
+        Written("\n\n\n  1  0\n                               C  9 -\nM  END\n"),
         "refused 2 molecules line 5\n",
     ),
     (
         "a file that ends too early",
         C,
-        "\n\n\n  2  0\n                               C\n",
+        Written("\n\n\n  2  0\n                               C\n"),
         "refused 2 molecules line 6\n",
     ),
-    ("no byte", C, "", "refused 11 records 0\n"),
+    ("no byte", C, Written(""), "refused 11 records 0\n"),
     (
         "blank lines alone",
         C,
-        "\n   \n\n\n\n",
+        Written("\n   \n\n\n\n"),
         "refused 11 records 0\n",
     ),
     (
         "two records",
         C,
-        "\n\n\n  1  0\n                               C\nM  END\n$$$$\n\n\n\n  1  0\n                               O\nM  END\n",
+        Written(
+            "\n\n\n  1  0\n                               C\nM  END\n$$$$\n\n\n\n  1  0\n                               O\nM  END\n",
+        ),
         "refused 11 records 2\n",
     ),
     (
         "two records, the first of which fails a check",
         C,
-        "\n\n\n  1  0\n                               Xx\nM  END\n$$$$\n\n\n\n  0\nM  END\n$$$$\n",
+        Written(
+            "\n\n\n  1  0\n                               Xx\nM  END\n$$$$\n\n\n\n  0\nM  END\n$$$$\n",
+        ),
         "refused 11 records 2\n",
     ),
     (
         "a second record that is cut",
         C,
-        "\n\n\n  1  0\n                               Xx\nM  END\n$$$$\n\nx\n",
+        Written("\n\n\n  1  0\n                               Xx\nM  END\n$$$$\n\nx\n"),
         "refused 2 molecules line 10\n",
     ),
     (
         "V3000 in a second record",
         C,
-        "\n\n\n  0\nM  END\n$$$$\n\n\n\n  0  0  0     0  0            999 V3000\n",
+        Written("\n\n\n  0\nM  END\n$$$$\n\n\n\n  0  0  0     0  0            999 V3000\n"),
         "refused 2 molecules v3000 line 10\n",
     ),
-    ("a query of no byte", "", COC, "refused 12 unbuilt\n"),
+    (
+        "a query of no byte",
+        Written(""),
+        COC,
+        "refused 12 unbuilt\n",
+    ),
     (
         "a query with a double bond",
         DOUBLE,
@@ -331,14 +355,14 @@ const REFUSALS: [(&str, &str, &str, &str); 21] = [
     ),
     (
         "a query with a charge",
-        "\n\n\n  1  0\n                               C\nM  CHG  1   1   1\nM  END\n",
+        Drawn("C | {M  CHG  1   1   1}"),
         COC,
         "refused 12 unbuilt\n",
     ),
     (
         "a bad query and a bad molecule",
         DOUBLE,
-        "x",
+        Written("x"),
         "refused 12 unbuilt\n",
     ),
 ];
@@ -347,7 +371,7 @@ const REFUSALS: [(&str, &str, &str, &str); 21] = [
 fn files_have_their_refusals(rt: HostRuntime) -> Result<(), Fail> {
     let alloc = rt.alloc();
     for (name, query, molecule, wanted) in REFUSALS.iter() {
-        let rows = files(alloc, query, molecule)?;
+        let rows = files(alloc, *query, *molecule)?;
         assert!(rt;
             is_answered(alloc, rows, wanted, Status::Refused)?,
             "{name}"
@@ -467,14 +491,12 @@ fn run_failing(
     put: u64,
     query: &str,
     status: Status,
-) -> Result<(), Memory> {
+) -> Result<(), Fail> {
     let mut files = MemFiles::new(files(alloc, CO, COC)?, failing(alloc, read)?);
     let mut output = MemSink::new(Bytes::new(alloc), failing(alloc, put)?);
     let words = words(alloc, ["match", query, "m"].as_slice())?;
     let ended = top(alloc, &words, &mut files, &mut output);
-    if ended == Status::Memory {
-        return Err(Memory);
-    }
+    assert!(rt; ended != Status::Memory, "want of memory");
     assert!(rt; ended == status);
     assert!(rt; output.bytes().is_empty());
     Ok(())

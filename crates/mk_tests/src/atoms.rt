@@ -3,13 +3,14 @@ ghost use Rattle.std.specs.Prelude.{◌≡◌, ◌≤◌, ◌&&◌, ◌↔◌, I
 ghost use Rattle.mk_model.specs.Fitting.{drawn_hydrogens, drawn_others, drawn_rings, FitsAtom, hydrogens_at, is_unsaturated_at, others_at, rings_at};
 ghost use Rattle.mk_model.specs.Tests.{accepts, charge_fits, hydrogens_fit, radical_fits, ring_bonds_fit, substitution_fits, unsaturation_fits};
 
-use crate::atom_counts::{count_hydrogens, count_others, count_rings, has_unsaturated};
 use crate::columns::{
     charge_meets, hydrogens_meet, lies_within, radical_meets, ring_bonds_meet, substitution_meets,
 };
-use crate::drawn_counts::{count_drawn_hydrogens, count_drawn_others, count_drawn_rings};
-use crate::kinds::accepts_element;
-use crate::numbered::graph_atom_numbered;
+use crate::counts::{
+    count_drawn_hydrogens, count_drawn_others, count_drawn_rings, count_hydrogens, count_others,
+    count_rings, has_unsaturated,
+};
+use crate::kinds::{accepts_element, atom_numbered};
 use mk_model::{Atom, AtomTest, Graph, GraphAtom, Mol};
 
 /// Tells whether atom x of the graph accepts atom m of the molecule.
@@ -20,7 +21,7 @@ pub fn atom_fits(graph: &Graph, x: u32, mol: &Mol, m: u32) -> bool
     requires atom_most { m ≤ length mol.now.atoms }
     ensures { IsTrue result ↔ FitsAtom graph.now mol.now x m }
 {
-    let asked = graph_atom_numbered(graph.atoms(), x);
+    let asked = atom_numbered(graph.atoms(), x);
     let atom = mol.atom(m);
     meets_alone(&asked.test, atom) && meets_around(asked, graph, x, mol, m)
 }

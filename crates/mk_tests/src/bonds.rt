@@ -4,7 +4,6 @@ ghost use Rattle.mk_model.specs.declared.graph.GraphBond.{GraphBond};
 ghost use Rattle.mk_model.specs.Fitting.{LiesOn};
 ghost use Rattle.mk_model.specs.Tests.{asked_kind, meets, takes_kind, takes_topology};
 
-use crate::numbered::graph_bond_numbered;
 use mk_model::{Graph, GraphBond, Mol, MolBond};
 
 /// Tells whether a bond of the molecule joins the atoms a and b and meets the test of bond q of the graph.
@@ -17,7 +16,7 @@ pub fn bond_fits(graph: &Graph, q: u32, mol: &Mol, a: u32, b: u32) -> bool
     requires second_most { b ≤ length mol.now.atoms }
     ensures { (asked : GraphBond) → slice_get graph.now.bonds (q - 1) ≡ Some asked → (IsTrue result ↔ LiesOn mol.now asked a b) }
 {
-    let asked = graph_bond_numbered(graph.bonds(), q);
+    let asked = graph.bond(q);
     match mol.bond_between(a, b) {
         Some(bond) => bond_meets(asked, bond),
         None => false,

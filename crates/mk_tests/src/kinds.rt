@@ -1,9 +1,9 @@
-// The elements that a kind takes.
-ghost use Rattle.std.specs.Prelude.{◌≡◌};
+// The atoms of a graph by their numbers, and the elements that their kinds take.
+ghost use Rattle.std.specs.Prelude.{◌≡◌, ◌≤◌, ◌-◌, Some, length, slice_get};
 ghost use Rattle.mk_model.specs.Tests.{accepts};
 ghost use Rattle.mk_model.specs.Fitting.{is_hydrogen_kind};
 
-use mk_model::Kind;
+use mk_model::{GraphAtom, Kind};
 
 /// The kind takes the element.
 pub fn accepts_element(kind: &Kind, element: u8) -> bool
@@ -27,4 +27,13 @@ pub fn is_drawn_as_hydrogen(kind: &Kind) -> bool
         Kind::Element(z) => *z == 1,
         _ => false,
     }
+}
+
+/// The atom of this number.
+pub fn atom_numbered(atoms: &[GraphAtom], number: u32) -> &GraphAtom
+    requires least { 1 ≤ number }
+    requires most { number ≤ length atoms.now }
+    ensures { slice_get atoms.now (number - 1) ≡ Some result.now }
+{
+    &atoms[number as usize - 1]
 }

@@ -8,14 +8,11 @@
 //! column asks for them. Which atoms are tried is left to the matcher.
 #![tactic(auto)]
 
-mod atom_counts;
 mod atoms;
 mod bonds;
 mod columns;
-mod drawn_counts;
-mod ends;
+mod counts;
 mod kinds;
-mod numbered;
 #[cfg(test)]
 mod tests;
 

@@ -1,119 +1,56 @@
-// Small queries on small molecules: what is asked of the first atom, and of a bond.
+// Small queries on small molecules: what is asked of the first atom, and of a bond. The shorthand is that of
+// docs/TESTING.md, "Tables of tests".
 use crate::{atom_fits, bond_fits};
-use mk_fixtures::{graph_of, mol_of};
-use mk_model::{Atom, AtomTest, Edge, Elements, Graph, GraphAtom, GraphBond, Kind, Memory, Mol};
+use mk_fixtures::{
+    asked, asked_atoms, asked_bonds, elements_of, graph_of, graph_of_sketch, mol_of, mol_of_sketch,
+};
+use mk_model::{Atom, AtomTest, Graph, GraphAtom, Kind, Memory, Mol};
 use std::alloc::Global;
 use std::test::Fail;
 
-// Elements, with 0 for any in a query, and bonds.
-type GraphView = (&'static [u8], &'static [(u32, u32, u8)]);
+const C: &str = "C |";
 
-const C: GraphView = (&[6], &[]);
+const CH: &str = "C H | 1-2";
 
-const CH: GraphView = (&[6, 1], &[(1, 2, 1)]);
+const CH2: &str = "C H H | 1-2 1-3";
 
-const CH2: GraphView = (&[6, 1, 1], &[(1, 2, 1), (1, 3, 1)]);
+const CH3: &str = "C H H H | 1-2 1-3 1-4";
 
-const CH3: GraphView = (&[6, 1, 1, 1], &[(1, 2, 1), (1, 3, 1), (1, 4, 1)]);
-
-const CH4: GraphView = (
-    &[6, 1, 1, 1, 1],
-    &[(1, 2, 1), (1, 3, 1), (1, 4, 1), (1, 5, 1)],
-);
+const CH4: &str = "C H H H H | 1-2 1-3 1-4 1-5";
 // a carbon with carbons, and one hydrogen on the second of them
-const CC: GraphView = (&[6, 6, 1], &[(1, 2, 1), (2, 3, 1)]);
+const CC: &str = "C C H | 1-2 2-3";
 
-const CC2: GraphView = (&[6, 6, 6], &[(1, 2, 1), (1, 3, 1)]);
+const CC2: &str = "C C C | 1-2 1-3";
 
-const CC3: GraphView = (&[6, 6, 6, 6], &[(1, 2, 1), (1, 3, 1), (1, 4, 1)]);
+const CC3: &str = "C C C C | 1-2 1-3 1-4";
 
-const CHC: GraphView = (&[6, 1, 6], &[(1, 2, 1), (1, 3, 1)]);
+const CHC: &str = "C H C | 1-2 1-3";
 
-const SF5: GraphView = (
-    &[16, 9, 9, 9, 9, 9],
-    &[(1, 2, 1), (1, 3, 1), (1, 4, 1), (1, 5, 1), (1, 6, 1)],
-);
+const SF5: &str = "S F F F F F | 1-2 1-3 1-4 1-5 1-6";
 
-const SF6: GraphView = (
-    &[16, 9, 9, 9, 9, 9, 9],
-    &[
-        (1, 2, 1),
-        (1, 3, 1),
-        (1, 4, 1),
-        (1, 5, 1),
-        (1, 6, 1),
-        (1, 7, 1),
-    ],
-);
+const SF6: &str = "S F F F F F F | 1-2 1-3 1-4 1-5 1-6 1-7";
 
-const SF7: GraphView = (
-    &[16, 9, 9, 9, 9, 9, 9, 9],
-    &[
-        (1, 2, 1),
-        (1, 3, 1),
-        (1, 4, 1),
-        (1, 5, 1),
-        (1, 6, 1),
-        (1, 7, 1),
-        (1, 8, 1),
-    ],
-);
+const SF7: &str = "S F F F F F F F | 1-2 1-3 1-4 1-5 1-6 1-7 1-8";
 // a carbon in no ring, in a triangle with a tail, in two squares, in two triangles, and with five ring bonds
-const TAIL: GraphView = (&[6, 6, 6, 6], &[(1, 2, 1), (2, 3, 1), (2, 4, 1), (3, 4, 1)]);
+const TAIL: &str = "C C C C | 1-2 2-3 2-4 3-4";
 
-const TRIANGLE: GraphView = (&[6, 6, 6, 6], &[(1, 2, 1), (1, 3, 1), (1, 4, 1), (2, 3, 1)]);
+const TRIANGLE: &str = "C C C C | 1-2 1-3 1-4 2-3";
 
-const SQUARES: GraphView = (
-    &[6, 6, 6, 6],
-    &[(1, 2, 1), (1, 3, 1), (1, 4, 1), (2, 3, 1), (3, 4, 1)],
-);
+const SQUARES: &str = "C C C C | 1-2 1-3 1-4 2-3 3-4";
 
-const SPIRO: GraphView = (
-    &[6, 6, 6, 6, 6],
-    &[
-        (1, 2, 1),
-        (1, 3, 1),
-        (1, 4, 1),
-        (1, 5, 1),
-        (2, 3, 1),
-        (4, 5, 1),
-    ],
-);
+const SPIRO: &str = "C C C C C | 1-2 1-3 1-4 1-5 2-3 4-5";
 
-const WHEEL: GraphView = (
-    &[6, 6, 6, 6, 6, 6],
-    &[
-        (1, 2, 1),
-        (1, 3, 1),
-        (1, 4, 1),
-        (1, 5, 1),
-        (1, 6, 1),
-        (2, 3, 1),
-        (3, 4, 1),
-        (4, 5, 1),
-        (5, 6, 1),
-    ],
-);
+const WHEEL: &str = "C C C C C C | 1-2 1-3 1-4 1-5 1-6 2-3 3-4 4-5 5-6";
 
-const DOUBLE: GraphView = (&[6, 6], &[(1, 2, 2)]);
+const DOUBLE: &str = "C C | 1=2";
 
-const TRIPLE: GraphView = (&[6, 6], &[(1, 2, 3)]);
+const TRIPLE: &str = "C C | 1#2";
 
-const FOUR: GraphView = (&[6, 6], &[(1, 2, 4)]);
+const FOUR: &str = "C C | 1:2";
 
-const BENZENE: GraphView = (
-    &[6, 6, 6, 6, 6, 6],
-    &[
-        (1, 2, 1),
-        (1, 6, 2),
-        (2, 3, 2),
-        (3, 4, 1),
-        (4, 5, 2),
-        (5, 6, 1),
-    ],
-);
+const BENZENE: &str = "C C C C C C | 1-2 1=6 2=3 3-4 4=5 5-6";
 // two carbons beside a double bond, which is none of theirs
-const ALLYL: GraphView = (&[6, 6, 6], &[(1, 2, 1), (2, 3, 2)]);
+const ALLYL: &str = "C C C | 1-2 2=3";
 
 #[derive(Clone, Copy)]
 enum Column {
@@ -124,7 +61,7 @@ enum Column {
 }
 
 // The column of the first atom, its value, the free ends, the query, the molecule, and whether the first atom fits.
-static COLUMNS: [(Column, i8, u32, GraphView, GraphView, bool); 81] = [
+static COLUMNS: [(Column, i8, u32, &str, &str, bool); 81] = [
     (Column::Hydrogens, 0, 0, C, CH3, true),
     (Column::Hydrogens, 0, 0, CH, C, true),
     (Column::Hydrogens, 1, 0, C, C, true),
@@ -141,8 +78,8 @@ static COLUMNS: [(Column, i8, u32, GraphView, GraphView, bool); 81] = [
     (Column::Hydrogens, 1, 2, CH, CH4, false),
     (Column::Hydrogens, 1, 4294967295, CH, CH4, true),
     // any atom is no drawn hydrogen
-    (Column::Hydrogens, 1, 0, (&[6, 0], &[(1, 2, 1)]), CC, true),
-    (Column::Hydrogens, 1, 0, (&[6, 0], &[(1, 2, 1)]), CH, false),
+    (Column::Hydrogens, 1, 0, "C * | 1-2", CC, true),
+    (Column::Hydrogens, 1, 0, "C * | 1-2", CH, false),
     (Column::Hydrogens, 2, 0, C, C, false),
     (Column::Hydrogens, 2, 0, C, CH, true),
     (Column::Hydrogens, 2, 0, C, CH2, true),
@@ -197,11 +134,11 @@ static COLUMNS: [(Column, i8, u32, GraphView, GraphView, bool); 81] = [
     (Column::Substitution, 3, 0, C, SPIRO, false),
     (Column::Substitution, 4, 0, C, SPIRO, true),
     (Column::Substitution, 4, 0, C, CC3, false),
-    (Column::Substitution, 5, 0, (&[16], &[]), SF5, true),
-    (Column::Substitution, 5, 0, (&[16], &[]), SF6, false),
-    (Column::Substitution, 6, 0, (&[16], &[]), SF5, false),
-    (Column::Substitution, 6, 0, (&[16], &[]), SF6, true),
-    (Column::Substitution, 6, 0, (&[16], &[]), SF7, true),
+    (Column::Substitution, 5, 0, "S |", SF5, true),
+    (Column::Substitution, 5, 0, "S |", SF6, false),
+    (Column::Substitution, 6, 0, "S |", SF5, false),
+    (Column::Substitution, 6, 0, "S |", SF6, true),
+    (Column::Substitution, 6, 0, "S |", SF7, true),
     (Column::Unsaturated, 0, 0, C, CC, true),
     (Column::Unsaturated, 1, 0, C, ALLYL, false),
     (Column::Unsaturated, 1, 0, C, DOUBLE, true),
@@ -217,8 +154,8 @@ fn columns(rt: HostRuntime) -> Result<(), Fail> {
             test: with_column(*column, *value),
             free: *free,
         };
-        let graph = query_of(rt.alloc(), first, *query)?;
-        let mol = molecule_of(rt.alloc(), *molecule)?;
+        let graph = query_of(rt.alloc(), first, query)?;
+        let mol = mol_of_sketch(rt.alloc(), molecule)?;
         assert_eq!(rt; first_fits(&graph, &mol)?, *want, "row {row}");
     }
     Ok(())
@@ -241,10 +178,10 @@ const ALONE: [((i8, u8), (i8, u8), bool); 11] = [
 
 #[test]
 fn charges_and_radicals(rt: HostRuntime) -> Result<(), Fail> {
-    for (row, (asked, has, want)) in ALONE.iter().enumerate() {
-        let mut test = plain(Kind::Anything);
-        test.charge = asked.0;
-        test.radical = asked.1;
+    for (row, (columns, has, want)) in ALONE.iter().enumerate() {
+        let mut test = asked(Kind::Anything);
+        test.charge = columns.0;
+        test.radical = columns.1;
         let graph = query_of(rt.alloc(), GraphAtom { test, free: 0 }, C)?;
         let atom = Atom {
             element: 6,
@@ -279,8 +216,8 @@ const KINDS: [(Asked, [bool; 4]); 6] = [
 
 #[test]
 fn kinds(rt: HostRuntime) -> Result<(), Fail> {
-    for (row, (asked, want)) in KINDS.iter().enumerate() {
-        let test = plain(kind_of(rt.alloc(), *asked)?);
+    for (row, (name, want)) in KINDS.iter().enumerate() {
+        let test = asked(kind_of(rt.alloc(), *name)?);
         let graph = query_of(rt.alloc(), GraphAtom { test, free: 0 }, C)?;
         for (element, takes) in [1u8, 6, 7, 8].iter().zip(want) {
             let atom = Atom {
@@ -296,21 +233,7 @@ fn kinds(rt: HostRuntime) -> Result<(), Fail> {
 }
 
 // Benzene with a tail: a single, a double, a triple bond, and one of type 4.
-const TAILED: GraphView = (
-    &[6, 6, 6, 6, 6, 6, 6, 6, 6, 6],
-    &[
-        (1, 2, 1),
-        (1, 6, 2),
-        (2, 3, 2),
-        (3, 4, 1),
-        (4, 5, 2),
-        (5, 6, 1),
-        (6, 7, 1),
-        (7, 8, 2),
-        (8, 9, 3),
-        (9, 10, 4),
-    ],
-);
+const TAILED: &str = "C C C C C C C C C C | 1-2 1=6 2=3 3-4 4=5 5-6 6-7 7=8 8#9 9:10";
 
 // The ends of a single, a double and a triple bond, and of aromatic ones of type 1, 2 and 4. Then two atoms without one.
 const ENDS: [(u32, u32); 7] = [(6, 7), (7, 8), (8, 9), (1, 2), (1, 6), (9, 10), (1, 3)];
@@ -332,10 +255,9 @@ const BONDS: [(u8, u8, &str); 11] = [
 
 #[test]
 fn bonds(rt: HostRuntime) -> Result<(), Fail> {
-    let mol = molecule_of(rt.alloc(), TAILED)?;
+    let mol = mol_of_sketch(rt.alloc(), TAILED)?;
     for (kind, topology, want) in BONDS {
-        let bonds = vec![in rt.alloc(); bond(1, 2, kind, topology)]?;
-        let graph = graph_of(rt.alloc(), any_two(rt.alloc())?, bonds)?;
+        let graph = asked_bond(rt.alloc(), kind, topology)?;
         assert!(rt;
             takes_these(&graph, 1, &mol, want)?,
             "type {kind}, topology {topology}"
@@ -347,12 +269,8 @@ fn bonds(rt: HostRuntime) -> Result<(), Fail> {
 // A bond of type 1 or 2 in the query's own aromatic set asks for an aromatic bond.
 #[test]
 fn aromatic_queries(rt: HostRuntime) -> Result<(), Fail> {
-    let mol = molecule_of(rt.alloc(), TAILED)?;
-    let first = GraphAtom {
-        test: plain(Kind::Anything),
-        free: 0,
-    };
-    let graph = query_of(rt.alloc(), first, BENZENE)?;
+    let mol = mol_of_sketch(rt.alloc(), TAILED)?;
+    let graph = graph_of_sketch(rt.alloc(), BENZENE)?;
     for q in 1..=6 {
         assert!(rt; takes_these(&graph, q, &mol, "0001110")?, "bond {q}");
     }
@@ -390,84 +308,27 @@ fn first_fits(graph: &Graph, mol: &Mol) -> Result<bool, Fail> {
     Ok(atom_fits(graph, 1, mol, 1))
 }
 
-// The query of a drawing, with its first atom as given.
-fn query_of(alloc: Global, first: GraphAtom, drawing: GraphView) -> Result<Graph, Fail> {
-    let mut atoms = vec![in alloc; first]?;
-    for z in drawing.0.iter().skip(1) {
-        atoms.push(drawn_atom(*z))?;
+// The graph of a sketch, with its first atom as given.
+fn query_of(alloc: Global, first: GraphAtom, sketch: &str) -> Result<Graph, Fail> {
+    let mut atoms = asked_atoms(alloc, sketch)?;
+    if let Some(atom) = atoms.first_mut() {
+        *atom = first;
     }
-    let mut bonds = Vec::with_capacity(alloc, drawing.1.len())?;
-    for (first, second, kind) in drawing.1 {
-        bonds.push(bond(*first, *second, *kind, 0))?;
-    }
-    graph_of(alloc, atoms, bonds)
+    graph_of(alloc, atoms, asked_bonds(alloc, sketch)?)
 }
 
-fn molecule_of(alloc: Global, drawing: GraphView) -> Result<Mol, Fail> {
-    let mut atoms = Vec::new(alloc);
-    for z in drawing.0 {
-        atoms.push(Atom {
-            element: *z,
-            charge: 0,
-            radical: 0,
-        })?;
+// Two atoms of any kind, and a bond of this type and this topology.
+fn asked_bond(alloc: Global, kind: u8, topology: u8) -> Result<Graph, Fail> {
+    let mut bonds = asked_bonds(alloc, "* * | 1-2")?;
+    for bond in &mut bonds {
+        bond.kind = kind;
+        bond.topology = topology;
     }
-    let mut edges = Vec::with_capacity(alloc, drawing.1.len())?;
-    for (first, second, kind) in drawing.1 {
-        edges.push(Edge {
-            first: *first,
-            second: *second,
-            kind: *kind,
-        })?;
-    }
-    mol_of(alloc, atoms, &edges)
-}
-
-fn bond(first: u32, second: u32, kind: u8, topology: u8) -> GraphBond {
-    GraphBond {
-        first,
-        second,
-        kind,
-        topology,
-        ring: false,
-        aromatic: false,
-    }
-}
-
-fn any_two(alloc: Global) -> Result<Vec<GraphAtom>, Memory> {
-    let mut atoms = Vec::with_capacity(alloc, 2)?;
-    atoms.push(drawn_atom(0))?;
-    atoms.push(drawn_atom(0))?;
-    Ok(atoms)
-}
-
-fn drawn_atom(z: u8) -> GraphAtom {
-    let kind = if z == 0 {
-        Kind::Anything
-    } else {
-        Kind::Element(z)
-    };
-    GraphAtom {
-        test: plain(kind),
-        free: 0,
-    }
-}
-
-// The test that asks for the kind alone.
-fn plain(kind: Kind) -> AtomTest {
-    AtomTest {
-        kind,
-        charge: 0,
-        radical: 0,
-        hydrogens: 0,
-        ring_bonds: 0,
-        substitution: 0,
-        unsaturated: false,
-    }
+    graph_of(alloc, asked_atoms(alloc, "* * | 1-2")?, bonds)
 }
 
 fn with_column(column: Column, value: i8) -> AtomTest {
-    let mut test = plain(Kind::Anything);
+    let mut test = asked(Kind::Anything);
     match column {
         Column::Hydrogens => test.hydrogens = value.unsigned_abs(),
         Column::RingBonds => test.ring_bonds = value,
@@ -480,19 +341,11 @@ fn with_column(column: Column, value: i8) -> AtomTest {
 fn kind_of(alloc: Global, asked: Asked) -> Result<Kind, Memory> {
     let kind = match asked {
         Asked::Carbon => Kind::Element(6),
-        Asked::OneOf => Kind::OneOf(list_of(alloc, &[1, 7])?),
-        Asked::NoneOf => Kind::NoneOf(list_of(alloc, &[7])?),
+        Asked::OneOf => Kind::OneOf(elements_of(alloc, &[1, 7])?),
+        Asked::NoneOf => Kind::NoneOf(elements_of(alloc, &[7])?),
         Asked::NotHydrogen => Kind::NotHydrogen,
         Asked::Hetero => Kind::Hetero,
         Asked::Anything => Kind::Anything,
     };
     Ok(kind)
-}
-
-fn list_of(alloc: Global, elements: &[u8]) -> Result<Elements, Memory> {
-    let mut list = Elements::new(alloc);
-    for z in elements {
-        list.push(*z)?;
-    }
-    Ok(list)
 }

@@ -10,9 +10,6 @@ bounds-bonds-bond c =
     let number = number_at c.args.bonds.now c.args.x c.args.numbers.now c.args.i c.requires.numbers c.requires.within in
     omega (arith, number.least, number.most)
 
-pub other_end-requires : goal.other_end-requires
-other_end-requires c = (number_at c.args.bonds.now c.args.x c.args.numbers.now c.args.i c.requires.numbers c.requires.within).ends _
-
 pub returns-clause-bond : goal.returns-clause-bond
 returns-clause-bond c =
     let number = number_at c.args.bonds.now c.args.x c.args.numbers.now c.args.i c.requires.numbers c.requires.within in
@@ -22,4 +19,4 @@ pub returns-clause-joined : goal.returns-clause-joined
 returns-clause-joined c =
     let number = number_at c.args.bonds.now c.args.x c.args.numbers.now c.args.i c.requires.numbers c.requires.within in
     let within : get_or c.args.numbers.now c.args.i 0 - 1 < length c.args.bonds.now = omega (arith, number.least, number.most) in
-    joined_by c.args.bonds.now (get_or c.args.numbers.now c.args.i 0 - 1) c.args.x c.other_end.result _ within c.other_end.ensures
+    joined_by c.args.bonds.now (get_or c.args.numbers.now c.args.i 0 - 1) c.args.x c.other_end.result _ within (c.other_end.ensures.ends (number.ends _))

@@ -4,13 +4,13 @@ use Rattle.mk_tests.proofs.bonds.bond_fits.Goals as goal
 
 pub returns-in-Some : goal.returns-in-Some
 returns-in-Some c = λ other is_other.
-    let is_asked = rw c.bonds.ensures.list at c.graph_bond_numbered-asked.ensures in (
+    let is_asked = c.bond-asked.ensures.bond in (
       λ yes.
-          lies_by c.args.mol.now _ c.graph_bond_numbered-asked.result other c.args.a c.args.b c.bond_between.result c.in-Some.bond is_asked is_other c.bond_between.ensures c.in-Some.is
+          lies_by c.args.mol.now _ c.bond-asked.result other c.args.a c.args.b c.bond_between.result c.in-Some.bond is_asked is_other c.bond_between.ensures c.in-Some.is
           (sym c.bond_meets.ensures ∙ yes),
       λ lies.
           c.bond_meets.ensures
-          ∙ lies_only c.args.mol.now _ c.graph_bond_numbered-asked.result other c.args.a c.args.b c.bond_between.result c.in-Some.bond is_asked is_other c.bond_between.ensures c.in-Some.is lies,
+          ∙ lies_only c.args.mol.now _ c.bond-asked.result other c.args.a c.args.b c.bond_between.result c.in-Some.bond is_asked is_other c.bond_between.ensures c.in-Some.is lies,
     )
 
 pub returns-in-None : goal.returns-in-None

@@ -1,0 +1,10 @@
+use Rattle.std.proofs.Common.{◌∙◌, rules}
+use Rattle.mk_model.specs.Fitting.{passes_at}
+use Rattle.mk_model.specs.Graphs.{graph_edge}
+use Rattle.mk_tests.proofs.NumberLemmas.{count-numbers}
+use Rattle.mk_tests.proofs.counts.count_drawn_rings.Goals as goal
+
+pub returns : goal.returns
+returns c =
+    c.count_passing.ensures (λ number. passes_at (λ bond. bond.ring) c.args.graph.now.bonds number) (λ number yes is. search rules)
+    ∙ rw c.bonds_at.ensures.numbers (count-numbers graph_edge (λ bond. bond.ring) c.args.graph.now.bonds c.args.x)
