@@ -22,3 +22,4 @@ pub mod WidthLemmas
 pub mod ChoiceFits
 pub mod GraphLemmas
 pub mod OneExpansionLemmas
+pub mod DrawnLawLemmas

@@ -59,7 +59,7 @@ record EndsWithin (piece : Piece) (far : Bool) : Type 0 where
   least : 1 ≤ end_of piece far
   most : end_of piece far ≤ width piece
 
-far_second : (atom second x y : ℕ) → (eqb atom x && eqb second y) ≡ true → eqb second y ≡ true
+pub far_second : (atom second x y : ℕ) → (eqb atom x && eqb second y) ≡ true → eqb second y ≡ true
 far_second atom second x y is = by (eqb atom x) (eqb second y) is
   where
     by : (a b : Bool) → (a && b) ≡ true → b ≡ true

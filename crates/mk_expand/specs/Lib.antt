@@ -5,3 +5,4 @@ pub mod Blocks
 pub mod Fragments
 pub mod Choosing
 pub mod Laws
+pub mod Drawn

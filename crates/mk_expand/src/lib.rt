@@ -24,4 +24,7 @@ mod piece;
 mod places;
 
 pub use expanding::expand;
-pub use laws::{code_and_hit_are_short, one_expansion};
+pub use laws::{
+    code_and_hit_are_short, one_expansion, open_site_is_a_hydrogen, single_links_stay_as_drawn,
+    site_filled_by_one_atom, template_is_its_own_expansion,
+};
