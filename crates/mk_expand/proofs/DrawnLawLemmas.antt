@@ -1,6 +1,6 @@
 -- Templates of which each atom becomes one atom, and the laws on what is drawn.
 --     without_slots, links_once, one_atom, one_hydrogen      the laws
-use Rattle.std.proofs.Common.{◌≡◌, ◌≢◌, ◌∙◌, ℕ, zero, suc, ◌+◌, ◌-◌, ◌<◌, ◌≤◌, inl, inr, Bool, true, false, cond, ◌&&◌, ◌||◌, not, eqb, List, [], ◌∷◌, ◌++◌, Some, length, get_or, map, replicate, set, take, refl, sym, ap, subst, arith, All, sum_by}
+use Rattle.std.proofs.Common.{◌≡◌, ◌≢◌, ◌∙◌, ℕ, zero, suc, ◌+◌, ◌-◌, ◌<◌, ◌≤◌, inl, inr, Bool, true, false, cond, ◌&&◌, ◌||◌, not, eqb, List, [], ◌∷◌, ◌++◌, Some, length, get_or, map, replicate, set, take, refl, sym, ap, subst, arith, All}
 use Rattle.std.specs.Prelude.{Contains, slice_get}
 use Rattle.std.specs.List.{flat_map, zip}
 use Rattle.std.proofs.lemmas.Bool.{cases_eq}
@@ -14,11 +14,10 @@ use Rattle.mk_model.specs.declared.template.QueryBond.{QueryBond}
 use Rattle.mk_model.specs.declared.template.Slot.{Slot}
 use Rattle.mk_model.specs.declared.template.Slot.TheVariants.{Link, Site}
 use Rattle.mk_model.specs.Codes.{IsChoice}
-use Rattle.mk_model.specs.Codes.Choice.{done, repeated, unfilled, filled}
 use Rattle.mk_model.specs.Expansions.{all_within, anything, atoms_of, atoms_of_piece, bond_between, bonds_within, chained, copied, copies, drawn, expansion, free_ends, frees_of, hydrogen, is_hydrogens, is_inside, is_nothing, joined, pieces_of, spanned, template_of}
 use Rattle.mk_model.specs.Labels.{member, members_at}
-use Rattle.mk_model.specs.Pieces.{Fragment, Piece, before, end_of, ending, is_far, is_far_of, piece, piece_numbered, room, taker, width}
-use Rattle.mk_model.specs.Pieces.Piece.{Copies, Member, Hydrogens, Nothing}
+use Rattle.mk_model.specs.Pieces.{Fragment, Piece, before, end_of, ending, is_far_of, piece, piece_numbered, room, taker, width}
+use Rattle.mk_model.specs.Pieces.Piece.{Copies, Member, Hydrogens}
 use Rattle.mk_model.specs.Queries.{QueryView, slots_of}
 use Rattle.mk_model.specs.QueryFits.{FitsPoints, QueryFits}
 use Rattle.mk_model.specs.Templates.{TemplateView, neighbour_count, slot_atom}

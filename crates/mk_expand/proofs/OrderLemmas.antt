@@ -2,7 +2,7 @@
 --     pairs_once      no two of the bonds join one pair
 --     ordered_of      so they are ordered
 --     one_order       two lists in order that hold the same are one
-use Rattle.std.proofs.Common.{◌≡◌, ◌∙◌, ◌⊎◌, ℕ, zero, suc, ◌<◌, ◌≤◌, inl, inr, false, ltb, List, [], ◌∷◌, length, get_or, map, refl, sym, ap, subst, arith, All}
+use Rattle.std.proofs.Common.{◌≡◌, ◌∙◌, ◌⊎◌, ℕ, zero, suc, ◌<◌, inl, inr, false, ltb, List, [], ◌∷◌, length, get_or, map, refl, sym, ap, subst, arith, All}
 use Rattle.std.specs.Prelude.{AllPairs, Contains}
 use Rattle.std.specs.List.Sorted.{IsPermutation}
 use Rattle.std.proofs.lemmas.Bool.Decides.{nat_tests}

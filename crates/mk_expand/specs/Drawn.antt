@@ -64,7 +64,7 @@ FilledByOneAtom = (query : QueryView) (t : ℕ) (template : TemplateView) (atom 
     → QueryFits query → slice_get query.templates t ≡ Some template → template.slots ≡ Site atom group first second ∷ []
     → 1 ≤ k → k ≤ length (members_at query (Site atom group first second))
     → slice_get query.templates (member query (Site atom group first second) k)
-        ≡ Some (record { atoms = test ∷ []; bonds = []; slots = []; points = points })
+    ≡ Some (record { atoms = test ∷ []; bonds = []; slots = []; points = points })
     → expansion query t (filled k done done) ≡ as_drawn (with_atom atom test template)
 
 -- where the one slot of a template is a site with one neighbour and RestH on, and it isn't filled, the template is drawn with a

@@ -6,9 +6,9 @@ ghost use Rattle.mk_model.specs.Pieces.{piece_numbered};
 ghost use Rattle.mk_model.specs.Templates.{joins, slot_atom};
 ghost use Rattle.mk_expand.specs.Laid.{IsLaid, IsSmall, IsWithin, StandsAt};
 
-use crate::places::{ending, width_numbered};
 use crate::part::Shape;
 use crate::piece::Piece;
+use crate::places::{ending, width_numbered};
 use mk_model::{Memory, QueryBond, Slot, Template};
 use std::alloc::Global;
 

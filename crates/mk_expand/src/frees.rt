@@ -3,9 +3,9 @@ ghost use Rattle.std.specs.Prelude.{◌≡◌, ◌≤◌, ◌<◌, ◌+◌, ◌*
 ghost use Rattle.mk_model.specs.Expansions.{ends_there, frees_of};
 ghost use Rattle.mk_expand.specs.Laid.{AreFrees, HasNeighbours, IsLaid};
 
-use crate::places::ending;
 use crate::part::Shape;
 use crate::piece::Piece;
+use crate::places::ending;
 use mk_model::{Memory, Slot, Template};
 use std::alloc::Global;
 

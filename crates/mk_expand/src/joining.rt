@@ -8,9 +8,9 @@ use crate::atoms::{expanded_atoms, expanded_points};
 use crate::blocks::takers_of;
 use crate::bonds::{put_all_within, put_template_bonds};
 use crate::frees::frees_of;
-use crate::places::befores_of;
 use crate::part::Part;
 use crate::piece::Piece;
+use crate::places::befores_of;
 use mk_model::{Memory, Template};
 use std::alloc::Global;
 

@@ -22,6 +22,8 @@ mod laws;
 mod part;
 mod piece;
 mod places;
+#[cfg(test)]
+mod tests;
 
 pub use expanding::expand;
 pub use laws::{

@@ -1,4 +1,4 @@
-use Rattle.std.proofs.Common.{◌≡◌, ◌∙◌, ◌≤◌, length, sym, ap, get_or, arith}
+use Rattle.std.proofs.Common.{◌≤◌, length, sym, ap, get_or, arith}
 use Rattle.mk_model.specs.Pieces.{piece_numbered, width}
 use Rattle.mk_expand.proofs.AtomLemmas.{copies_within, copies_at, piece_at}
 use Rattle.mk_expand.proofs.LaidLemmas.{numbered_is}
