@@ -33,7 +33,7 @@ use Rattle.mk_expand.proofs.PieceLemmas.{far_second, some_neighbours, two_neighb
 use Rattle.mk_expand.proofs.TemplateLemmas.{bonds_within as template_bonds_within, slots_stand}
 
 -- an atom without free ends
-abbrev plain : AtomTest → GraphAtom
+abbrev pub plain : AtomTest → GraphAtom
 plain test = record { test = test; free = 0 }
 
 -- ---- each atom becomes one atom
@@ -106,7 +106,7 @@ module _ (template : TemplateView) (kept : IsTemplate template) (pieces : List P
           rw next (atoms_more template pieces n ∙ ap (λ (s : List GraphAtom). s ++ atoms_of_piece template pieces (n + 1) (piece template pieces (n + 1))) (atoms_are n (omega arith))
           ∙ ap (λ (s : List GraphAtom). map plain (take n tests) ++ s) here ∙ sym (map_more plain tests n anything (omega (arith, size))))
 
-      joined_is : all_within template pieces template.slots pieces ≡ [] → joined template pieces ≡ record { atoms = map plain tests; bonds = map asked template.bonds; points = template.points }
+      pub joined_is : all_within template pieces template.slots pieces ≡ [] → joined template pieces ≡ record { atoms = map plain tests; bonds = map asked template.bonds; points = template.points }
       unfolding joined
       joined_is none =
           let atoms : atoms_of template pieces (length template.atoms) ≡ map plain tests = atoms_are (length template.atoms) (omega arith) ∙ ap (map plain) (take_all (length template.atoms) tests (omega (arith, size))) in
@@ -118,12 +118,12 @@ module _ (template : TemplateView) (kept : IsTemplate template) (pieces : List P
           ∙ ap (λ (s : List ℕ). record { atoms = map plain tests; bonds = map asked template.bonds; points = s }) points
 
 -- one copy of an atom at which no end is free
-one_copy_of : (template : TemplateView) (pieces : List Piece) (x : ℕ) → free_ends template pieces template.slots pieces (before template pieces x + 1) ≡ 0
+pub one_copy_of : (template : TemplateView) (pieces : List Piece) (x : ℕ) → free_ends template pieces template.slots pieces (before template pieces x + 1) ≡ 0
     → atoms_of_piece template pieces x (Copies 1) ≡ plain (get_or template.atoms (x - 1) anything) ∷ []
 unfolding copies
 one_copy_of template pieces x free = ap (λ (n : ℕ). record { test = get_or template.atoms (x - 1) anything; free = n } ∷ []) free
 
-same_bonds : (f g : QueryBond → QueryBond) (bonds : List QueryBond) → ((bond : QueryBond) → f bond ≡ g bond) → map f bonds ≡ map g bonds
+pub same_bonds : (f g : QueryBond → QueryBond) (bonds : List QueryBond) → ((bond : QueryBond) → f bond ≡ g bond) → map f bonds ≡ map g bonds
 same_bonds f g [] same = refl
 same_bonds f g (bond ∷ bonds) same = ap (λ (b : QueryBond). b ∷ map f bonds) (same bond) ∙ ap (λ (bs : List QueryBond). g bond ∷ bs) (same_bonds f g bonds same)
 
@@ -186,13 +186,13 @@ module _ (template : TemplateView) (kept : IsTemplate template) where
       ends false = refl
 
 -- the template that stands there is kept
-found_is : (query : QueryView) (t : ℕ) (template : TemplateView) → slice_get query.templates t ≡ Some template → template_of query t ≡ template
+pub found_is : (query : QueryView) (t : ℕ) (template : TemplateView) → slice_get query.templates t ≡ Some template → template_of query t ≡ template
 found_is query t template at = rw at refl
 
-slots_found : (query : QueryView) (t : ℕ) (template : TemplateView) → slice_get query.templates t ≡ Some template → slots_of query t ≡ template.slots
+pub slots_found : (query : QueryView) (t : ℕ) (template : TemplateView) → slice_get query.templates t ≡ Some template → slots_of query t ≡ template.slots
 slots_found query t template at = rw at refl
 
-found_kept : (query : QueryView) → QueryFits query → (t : ℕ) (template : TemplateView) → slice_get query.templates t ≡ Some template → IsTemplate template
+pub found_kept : (query : QueryView) → QueryFits query → (t : ℕ) (template : TemplateView) → slice_get query.templates t ≡ Some template → IsTemplate template
 found_kept query fits t template at = subst IsTemplate (found_is query t template at) (kept_template query fits t (place_within query.templates t template at))
 
 pub links_once : LinksThatStandOnce
@@ -315,7 +315,7 @@ mapped_twice f g [] = refl
 mapped_twice f g (bond ∷ bonds) = ap (λ (bs : List QueryBond). f (g bond) ∷ bs) (mapped_twice f g bonds)
 
 -- a bond of a template as it is drawn
-abbrev as_bond : QueryBond → QueryBond
+abbrev pub as_bond : QueryBond → QueryBond
 as_bond bond = bond_between bond.first bond.second bond.kind bond.topology
 
 -- a hydrogen in the place of a site with one neighbour
@@ -358,7 +358,7 @@ one_hydrogen query t template atom group first n fits at slots_are rest =
 -- ---- a member of one atom
 
 -- what a member of one atom becomes
-abbrev alone : AtomTest → List ℕ → Fragment
+abbrev pub alone : AtomTest → List ℕ → Fragment
 alone test points = record { atoms = plain test ∷ []; bonds = []; points = points }
 
 -- a place of a list of ones
@@ -366,7 +366,7 @@ ones_at : (points : List ℕ) → All (λ x. x ≡ 1) points → (k : ℕ) → k
 ones_at points all k below = all k 0 below
 
 -- the ends of such a member are its one atom
-alone_ends : (test : AtomTest) (points : List ℕ) (atom second : ℕ) → All (λ x. x ≡ 1) points → length points ≡ cond (eqb second 0) 1 2 → (x y : ℕ) → 1 ≤ y → end_of (Member (alone test points)) (eqb atom x && eqb second y) ≡ 1
+pub alone_ends : (test : AtomTest) (points : List ℕ) (atom second : ℕ) → All (λ x. x ≡ 1) points → length points ≡ cond (eqb second 0) 1 2 → (x y : ℕ) → 1 ≤ y → end_of (Member (alone test points)) (eqb atom x && eqb second y) ≡ 1
 alone_ends test points atom second all size x y least = by (eqb atom x && eqb second y) refl
   where
     by : (far : Bool) → (eqb atom x && eqb second y) ≡ far → get_or points (cond far 1 0) 0 ≡ 1
@@ -392,11 +392,11 @@ one_atom_drawn atoms bonds points atom group first second test ones kept all siz
         by false false = refl
 
 -- the points of a template of one atom
-points_one : (points : List ℕ) → All (λ x. (1 ≤ x) × (x ≤ 1)) points → All (λ x. x ≡ 1) points
+pub points_one : (points : List ℕ) → All (λ x. (1 ≤ x) × (x ≤ 1)) points → All (λ x. x ≡ 1) points
 points_one points all = λ k d below. (let is = all k d below in omega (arith, is))
 
 -- a member has as many points as its site has neighbours
-points_size : (query : QueryView) → QueryFits query → (t : ℕ) (template : TemplateView) (slot : Slot) → slice_get query.templates t ≡ Some template → Contains template.slots slot
+pub points_size : (query : QueryView) → QueryFits query → (t : ℕ) (template : TemplateView) (slot : Slot) → slice_get query.templates t ≡ Some template → Contains template.slots slot
     → (u : ℕ) (inner : TemplateView) → Contains (members_at query slot) u → slice_get query.templates u ≡ Some inner → length inner.points ≡ neighbour_count slot
 points_size query fits t template slot at inside u inner fills there =
     let d : TemplateView = template in

@@ -23,3 +23,4 @@ pub mod ChoiceFits
 pub mod GraphLemmas
 pub mod OneExpansionLemmas
 pub mod DrawnLawLemmas
+pub mod EachAtomLemmas

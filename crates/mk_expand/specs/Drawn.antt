@@ -2,18 +2,21 @@
 --     as_drawn template             the template as it is drawn
 --     with_atom x test template     the template with an atom of this test in the place of atom x
 --     with_hydrogen x template      the template with a hydrogen in the place of atom x
+--     with_atoms query slots choice tests    the tests of its atoms, with the atom of each member in the place of its site
+--     EachIsOneAtom query slots choice       each slot becomes one atom: a single link, or a member of one atom
 --     WithoutSlots                  a template without slots is its own expansion
 --     LinksThatStandOnce            links that stand once each leave their template as it is drawn
 --     FilledByOneAtom               a site that a member of one atom fills is that atom, in its place
+--     OneAtomAtEachSlot             where each slot becomes one atom, the template is drawn with those atoms in their places
 --     HydrogenForSite               an open site with RestH on is a hydrogen, in its place
-use Rattle.std.specs.Prelude.{◌≡◌, ◌≤◌, ◌-◌, ◌==◌, ◌||◌, ℕ, List, [], ◌∷◌, Some, IsTrue, length, map, set, slice_get, if◌then◌else◌}
+use Rattle.std.specs.Prelude.{◌≡◌, ◌≤◌, ◌-◌, ◌==◌, ◌||◌, ℕ, List, [], ◌∷◌, Some, IsTrue, length, map, set, slice_get, slice_index_or, if◌then◌else◌}
 use Rattle.mk_model.specs.declared.atom_test.AtomTest.{AtomTest}
 use Rattle.mk_model.specs.declared.template.QueryBond.{QueryBond}
 use Rattle.mk_model.specs.declared.template.Slot.{Slot}
-use Rattle.mk_model.specs.declared.template.Slot.TheVariants.{Site}
+use Rattle.mk_model.specs.declared.template.Slot.TheVariants.{Link, Site}
 use Rattle.mk_model.specs.Codes.{Choice, IsChoice}
 use Rattle.mk_model.specs.Codes.Choice.{done, repeated, unfilled, filled}
-use Rattle.mk_model.specs.Expansions.{bond_between, expansion, hydrogen}
+use Rattle.mk_model.specs.Expansions.{anything, bond_between, expansion, hydrogen, template_of}
 use Rattle.mk_model.specs.Labels.{draws_rest_hydrogens, member, members_at}
 use Rattle.mk_model.specs.Pieces.{Fragment}
 use Rattle.mk_model.specs.Queries.{QueryView}
@@ -46,6 +49,28 @@ abbrev pub once_each : List Slot → Choice
 once_each [] = done
 once_each (slot ∷ slots) = repeated 1 (once_each slots)
 
+-- template t is one atom with this test, and no slot
+pub record IsOneAtom (query : QueryView) (t : ℕ) : Type 0 where
+  pub test : AtomTest
+  pub points : List ℕ
+  pub is : slice_get query.templates t ≡ Some (record { atoms = test ∷ []; bonds = []; slots = []; points = points })
+
+-- each slot becomes one atom: a link stands once, and a site is filled by a member that is one atom
+abbrev pub EachIsOneAtom : QueryView → List Slot → Choice → Type 0
+EachIsOneAtom query [] done = Unit {0}
+EachIsOneAtom query (Link atom most from to ∷ slots) (repeated n others) = (n ≡ 1) × EachIsOneAtom query slots others
+EachIsOneAtom query (Site atom group first second ∷ slots) (filled k inside others) =
+    IsOneAtom query (member query (Site atom group first second) k) × EachIsOneAtom query slots others
+EachIsOneAtom query slots choice = ⊥
+
+-- the tests of a template's atoms, where the first atom of each member that fills a site stands in the place of the site
+abbrev pub with_atoms : QueryView → List Slot → Choice → List AtomTest → List AtomTest
+with_atoms query (Link atom most from to ∷ slots) (repeated n others) tests = with_atoms query slots others tests
+with_atoms query (Site atom group first second ∷ slots) (filled k inside others) tests =
+    let test = slice_index_or (template_of query (member query (Site atom group first second) k)).atoms 0 anything in
+    with_atoms query slots others (set tests (atom - 1) test)
+with_atoms query slots choice tests = tests
+
 -- ---- laws
 
 -- a template without slots is its own expansion
@@ -66,6 +91,13 @@ FilledByOneAtom = (query : QueryView) (t : ℕ) (template : TemplateView) (atom 
     → slice_get query.templates (member query (Site atom group first second) k)
     ≡ Some (record { atoms = test ∷ []; bonds = []; slots = []; points = points })
     → expansion query t (filled k done done) ≡ as_drawn (with_atom atom test template)
+
+-- where each slot of a template becomes one atom, the template is drawn with the atoms of the members in the places of their sites
+abbrev pub OneAtomAtEachSlot : Type 0
+OneAtomAtEachSlot = (query : QueryView) (t : ℕ) (template : TemplateView) (choice : Choice)
+    → QueryFits query → slice_get query.templates t ≡ Some template
+    → IsChoice query template.slots choice → EachIsOneAtom query template.slots choice
+    → expansion query t choice ≡ as_drawn (record template { atoms = with_atoms query template.slots choice template.atoms })
 
 -- where the one slot of a template is a site with one neighbour and RestH on, and it isn't filled, the template is drawn with a
 -- hydrogen in its place

@@ -1,5 +1,5 @@
 // Laws over the definitions alone, each carried by a function that does nothing.
-ghost use Rattle.mk_expand.specs.Drawn.{FilledByOneAtom, HydrogenForSite, LinksThatStandOnce, WithoutSlots};
+ghost use Rattle.mk_expand.specs.Drawn.{FilledByOneAtom, HydrogenForSite, LinksThatStandOnce, OneAtomAtEachSlot, WithoutSlots};
 ghost use Rattle.mk_expand.specs.Laws.{CodeAndHitAreShort, OneExpansion};
 
 use mk_rings::marks_determine_bonds;
@@ -34,4 +34,9 @@ pub fn open_site_is_a_hydrogen()
 /// A site that a member of one atom fills is that atom, in its place.
 pub fn site_filled_by_one_atom()
     ensures { FilledByOneAtom }
+{}
+
+/// Where each slot becomes one atom, the template is drawn with those atoms in their places.
+pub fn slots_become_their_atoms()
+    ensures { OneAtomAtEachSlot }
 {}

@@ -28,5 +28,5 @@ mod tests;
 pub use expanding::expand;
 pub use laws::{
     code_and_hit_are_short, one_expansion, open_site_is_a_hydrogen, single_links_stay_as_drawn,
-    site_filled_by_one_atom, template_is_its_own_expansion,
+    site_filled_by_one_atom, slots_become_their_atoms, template_is_its_own_expansion,
 };
