@@ -1,6 +1,6 @@
 -- Templates with many slots, each of which becomes one atom.
 --     one_atom_each       the law
-use Rattle.std.proofs.Common.{◌≡◌, ◌≢◌, ◌∙◌, ℕ, zero, suc, ◌+◌, ◌-◌, ◌<◌, ◌≤◌, inl, inr, Bool, true, false, cond, ◌&&◌, ◌||◌, eqb, List, [], ◌∷◌, Some, length, get_or, map, set, refl, sym, ap, subst, arith, All, sum_by}
+use Rattle.std.proofs.Common.{◌≡◌, ◌≢◌, ◌∙◌, ℕ, zero, suc, ◌-◌, ◌<◌, ◌≤◌, inl, inr, Bool, true, false, cond, ◌&&◌, eqb, List, [], ◌∷◌, Some, length, get_or, map, set, refl, sym, ap, subst, arith, All}
 use Rattle.std.specs.Prelude.{AllPairs, Contains, slice_get}
 use Rattle.std.specs.List.{zip}
 use Rattle.std.proofs.lemmas.Bool.{cases_eq}
@@ -22,7 +22,7 @@ use Rattle.mk_model.specs.QueryFits.{QueryFits}
 use Rattle.mk_model.specs.Sizes.{takes_atom}
 use Rattle.mk_model.specs.Templates.{TemplateView, slot_atom}
 use Rattle.mk_model.proofs.ForCallers.{at_place}
-use Rattle.mk_expand.specs.Drawn.{OneAtomAtEachSlot, EachIsOneAtom, as_drawn, with_atoms}
+use Rattle.mk_expand.specs.Drawn.{OneAtomAtEachSlot, EachIsOneAtom, with_atoms}
 use Rattle.mk_expand.specs.Kept.{IsTemplate}
 use Rattle.mk_expand.proofs.DrawnLawLemmas.{all_once, alone, alone_ends, as_bond, found_is, found_kept, joined_is, one_copy_of, plain, points_one, points_size, same_bonds, slots_found}
 use Rattle.mk_expand.proofs.TakerLemmas.{taker_is_slot, taker_of_slot}
