@@ -18,3 +18,5 @@ pub mod Codes
 pub mod Logic
 pub mod OpenSlots
 pub mod PlainCodes
+pub mod Pieces
+pub mod Expansions

@@ -1,0 +1,80 @@
+-- The atoms of an expansion.
+--     copies_are            copies with their free ends, by the list of these
+--     atoms_more            the atoms of one atom of the template more
+use Rattle.std.proofs.Common.{◌≡◌, ◌∙◌, ℕ, zero, suc, ◌+◌, ◌-◌, ◌<◌, ◌≤◌, List, [], ◌∷◌, ◌++◌, length, get_or, refl, sym, ap, arith, add-one}
+use Rattle.std.proofs.lemmas.List.{get_or_default}
+use Rattle.mk_model.specs.declared.atom_test.AtomTest.{AtomTest}
+use Rattle.mk_model.specs.declared.graph.GraphAtom.{GraphAtom}
+use Rattle.mk_model.specs.Pieces.{Piece}
+use Rattle.mk_model.specs.Pieces.Piece.{Copies, Member, Hydrogens, Nothing}
+use Rattle.mk_model.specs.Templates.{TemplateView}
+use Rattle.mk_model.specs.Pieces.{room, taker, width, piece, piece_numbered}
+use Rattle.mk_model.specs.Expansions.{free_ends, copies, atoms_of, atoms_of_piece, anything}
+use Rattle.mk_expand.specs.Laid.{AreFrees, IsLaid, piece_atoms, with_frees}
+use Rattle.mk_expand.proofs.NumberLemmas.{flat_more, mapped_more}
+use Rattle.mk_expand.proofs.LaidLemmas.{room_more, room_within}
+
+pub with_none : (frees : List ℕ) (test : AtomTest) (x : ℕ) → with_frees frees test x 0 ≡ []
+unfolding with_frees
+with_none frees test x = refl
+
+pub with_more : (frees : List ℕ) (test : AtomTest) (x n : ℕ) → with_frees frees test x (n + 1) ≡ with_frees frees test x n ++ record { test = test; free = get_or frees (x + n) 0 } ∷ []
+unfolding with_frees
+with_more frees test x n = rw add-one refl
+
+-- copies with their free ends
+pub copies_are : (template : TemplateView) (pieces : List Piece) (frees : List ℕ) (test : AtomTest) (x n : ℕ) → AreFrees template pieces frees → x + n ≤ length frees
+    → with_frees frees test x n ≡ copies template pieces test x n
+unfolding with_frees copies
+copies_are template pieces frees test x zero are within = refl
+copies_are template pieces frees test x (suc n) are within =
+    let rest = copies_are template pieces frees test x n are (omega arith) in
+    let place : x + n + 1 ≡ x + (n + 1) = omega arith in
+    let next : suc n ≡ n + 1 = omega arith in
+    let free : get_or frees (x + n) 0 ≡ free_ends template pieces template.slots pieces (x + (n + 1)) = are.each (x + n) (omega arith) ∙ ap (free_ends template pieces template.slots pieces) place in
+    rw (rest, free) (sym (ap (λ k. copies template pieces test x k) next ∙ mapped_more (λ j. record { test = test; free = free_ends template pieces template.slots pieces (x + j) }) n))
+
+-- one atom more
+pub atoms_none : (template : TemplateView) (pieces : List Piece) → atoms_of template pieces 0 ≡ []
+unfolding atoms_of
+atoms_none template pieces = refl
+
+pub atoms_more : (template : TemplateView) (pieces : List Piece) (i : ℕ) → atoms_of template pieces (i + 1) ≡ atoms_of template pieces i ++ atoms_of_piece template pieces (i + 1) (piece template pieces (i + 1))
+unfolding atoms_of
+atoms_more template pieces i = flat_more (λ x. atoms_of_piece template pieces x (piece template pieces x)) i
+
+module _ (template : TemplateView) (pieces : List Piece) (takers befores frees : List ℕ) (laid : IsLaid template pieces takers befores) (are : AreFrees template pieces frees) (i : ℕ) (below : i < length template.atoms) where
+  taken : get_or takers i 0 ≡ taker template (i + 1)
+  taken = laid.taken.each i (omega (arith, laid.taken.size))
+
+  before_of : get_or befores i 0 ≡ room template pieces (i + 1 - 1)
+  before_of = (let same : i ≡ i + 1 - 1 = omega arith in laid.each i (omega (arith, laid.size)) ∙ ap (room template pieces) same)
+
+  -- there is room for the copies
+  pub copies_within : (n : ℕ) → n ≡ width (piece_numbered pieces (get_or takers i 0)) → get_or befores i 0 + n ≤ length frees
+  copies_within n is =
+      let more = room_more template pieces i in
+      let up = room_within template pieces (i + 1) (length template.atoms) (omega arith) in
+      let wide : n ≡ width (piece_numbered pieces (taker template (i + 1))) = is ∙ ap (λ k. width (piece_numbered pieces k)) taken in
+      omega (arith, laid.each i (omega (arith, laid.size)), are.size)
+
+  -- copies of the atom at a place
+  pub copies_at : (n : ℕ) (test : AtomTest) → Copies n ≡ piece_numbered pieces (get_or takers i 0) → test ≡ get_or template.atoms i test
+      → with_frees frees test (get_or befores i 0) n ≡ atoms_of_piece template pieces (i + 1) (piece_numbered pieces (get_or takers i 0))
+  copies_at n test is at =
+      let within = copies_within n (ap width is) in
+      let same : i + 1 - 1 ≡ i = omega arith in
+      let here : get_or template.atoms (i + 1 - 1) anything ≡ test = ap (λ k. get_or template.atoms k anything) same ∙ get_or_default template.atoms i anything test below ∙ sym at in
+      rw (← is, here, ← before_of) (copies_are template pieces frees test (get_or befores i 0) n are within)
+
+  -- the piece that the atom at a place becomes
+  pub piece_at : (p : Piece) (test : AtomTest) → p ≡ piece_numbered pieces (get_or takers i 0) → test ≡ get_or template.atoms i test
+      → piece_atoms frees test (get_or befores i 0) p ≡ atoms_of_piece template pieces (i + 1) (piece_numbered pieces (get_or takers i 0))
+  piece_at (Copies n) test is at = copies_at n test is at
+  piece_at (Member part) test is at = rw (← is) refl
+  piece_at (Hydrogens n) test is at = rw (← is) refl
+  piece_at Nothing test is at = rw (← is) refl
+
+  -- one atom more, by the lists
+  pub atoms_step : (out new : List GraphAtom) → new ≡ out ++ atoms_of_piece template pieces (i + 1) (piece_numbered pieces (get_or takers i 0)) → out ≡ atoms_of template pieces i → new ≡ atoms_of template pieces (i + 1)
+  atoms_step out new is so_far = rw (atoms_more, ← taken, ← so_far) is

@@ -1,0 +1,103 @@
+-- Where the atoms of a template stand.
+--     room_more, room_up              one atom more, and more atoms
+--     befores_none, befores_more      the list of what stands before each atom grows
+--     ending_plain, ending_slot       where a bond ends
+use Rattle.std.proofs.Common.{◌≡◌, ◌∙◌, ℕ, zero, suc, ◌+◌, ◌-◌, ◌<◌, ◌≤◌, ◌≢◌, List, [], ◌∷◌, ◌++◌, Some, length, get_or, refl, sym, ap, subst, arith, inl, inr, sum_by}
+use Rattle.std.specs.Prelude.{slice_get}
+use Rattle.std.proofs.lemmas.Bool.{cases_eq}
+use Rattle.std.proofs.lemmas.List.{length_push, get_or_push, get_or_append_left, get_or_default}
+use Rattle.mk_model.specs.Pieces.{Piece}
+use Rattle.mk_model.specs.Pieces.Piece.{Copies}
+use Rattle.mk_model.specs.declared.template.Slot.{Slot}
+use Rattle.mk_model.specs.Templates.{TemplateView}
+use Rattle.std.proofs.lemmas.List.Sums.{sum_by_push}
+use Rattle.mk_expand.proofs.NumberLemmas.{numbers_more}
+use Rattle.mk_model.specs.Pieces.{numbers_to, taker, room, width, piece_numbered, end_of, ending, is_far}
+use Rattle.mk_model.proofs.ForCallers.{at_place}
+use Rattle.mk_expand.specs.Laid.{IsLaid}
+
+-- ---- room
+
+pub room_none : (template : TemplateView) (pieces : List Piece) → room template pieces 0 ≡ 0
+unfolding room
+room_none template pieces = refl
+
+pub room_more : (template : TemplateView) (pieces : List Piece) (i : ℕ) → room template pieces (i + 1) ≡ room template pieces i + width (piece_numbered pieces (taker template (i + 1)))
+unfolding room
+room_more template pieces i = ap (sum_by (λ x. width (piece_numbered pieces (taker template x)))) (numbers_more i) ∙ sum_by_push (λ x. width (piece_numbered pieces (taker template x))) (numbers_to i) (i + 1)
+
+-- more atoms take no less room
+pub room_up : (template : TemplateView) (pieces : List Piece) (i k : ℕ) → room template pieces i ≤ room template pieces (k + i)
+room_up template pieces i zero = (let same : 0 + i ≡ i = omega arith in rw same (omega arith))
+room_up template pieces i (suc k) = (let rest = room_up template pieces i k in let same : suc k + i ≡ k + i + 1 = omega arith in rw same (omega (arith, room_more template pieces (k + i), rest)))
+
+pub room_within : (template : TemplateView) (pieces : List Piece) (i j : ℕ) → i ≤ j → room template pieces i ≤ room template pieces j
+room_within template pieces i j below =
+    let same : j - i + i ≡ j = omega arith in
+    subst (λ (k : ℕ). room template pieces i ≤ room template pieces k) same (room_up template pieces i (j - i))
+
+-- ---- the list of what stands before
+
+-- so far for the first k atoms
+pub record AreBefores (template : TemplateView) (pieces : List Piece) (k : ℕ) (befores : List ℕ) : Type 0 where
+  pub size : length befores ≡ k + 1
+  pub each : (i : ℕ) → i < length befores → get_or befores i 0 ≡ room template pieces i
+
+pub befores_none : (template : TemplateView) (pieces : List Piece) → AreBefores template pieces 0 (0 ∷ [])
+befores_none template pieces = record { size = refl; each = λ i below. (let none : i ≡ 0 = omega arith in rw (none, room_none) refl) }
+
+pub befores_more : (template : TemplateView) (pieces : List Piece) (k : ℕ) (befores : List ℕ) (total : ℕ) → AreBefores template pieces k befores → total ≡ room template pieces (k + 1)
+    → AreBefores template pieces (k + 1) (befores ++ total ∷ [])
+befores_more template pieces k befores total are is = record {
+  size = length_push befores total ∙ ap (λ n. n + 1) are.size;
+  each = λ i below.
+      let long = length_push befores total in
+      elim (cases_eq i (k + 1)) [
+        | inl here ↦ (let at : length befores ≡ i = are.size ∙ sym here in get_or_push befores total 0 i at ∙ is ∙ ap (room template pieces) (sym here))
+        | inr other ↦ (let early : i < length befores = omega (arith, are.size) in get_or_append_left befores (total ∷ []) 0 i early ∙ are.each i early)
+      ];
+}
+
+-- ---- where a bond ends
+
+module _ (template : TemplateView) (pieces : List Piece) (takers befores : List ℕ) (laid : IsLaid template pieces takers befores) (x y : ℕ) (least : 1 ≤ x) (most : x ≤ length template.atoms) where
+  pub before_is : get_or befores (x - 1) 0 ≡ room template pieces (x - 1)
+  before_is = laid.each (x - 1) (omega (arith, laid.size))
+
+  pub before_small : get_or befores (x - 1) 0 ≤ 512
+  before_small = (let up = room_within template pieces (x - 1) (length template.atoms) (omega arith) in omega (arith, before_is, laid.fits.room))
+
+  pub taker_is : get_or takers (x - 1) 0 ≡ taker template x
+  taker_is =
+      let same : x - 1 + 1 ≡ x = omega arith in
+      laid.taken.each (x - 1) (omega (arith, laid.taken.size)) ∙ ap (taker template) same
+
+  pub taker_within : get_or takers (x - 1) 0 ≤ length pieces
+  taker_within = omega (arith, laid.taken.within (x - 1) (omega (arith, laid.taken.size)), laid.fits.size)
+
+  -- at a plain atom
+  pub ending_plain : get_or takers (x - 1) 0 ≡ 0 → get_or befores (x - 1) 0 + 1 ≡ ending template pieces x y
+  unfolding ending
+  ending_plain none = (let zero_taker : taker template x ≡ 0 = sym taker_is ∙ none in rw (zero_taker, before_is) refl)
+
+  -- at a slot
+  pub ending_slot : (n : ℕ) → get_or takers (x - 1) 0 ≡ n → n ≢ 0 → (piece : Piece) (slot : Slot) → piece ≡ get_or pieces (n - 1) piece → slot ≡ get_or template.slots (n - 1) slot
+      → get_or befores (x - 1) 0 + end_of piece (is_far slot x y) ≡ ending template pieces x y
+  unfolding ending
+  ending_slot zero is some piece slot at_piece at_slot = absurd (some refl)
+  ending_slot (suc k) is some piece slot at_piece at_slot =
+      let taken : taker template x ≡ suc k = sym taker_is ∙ is in
+      let same : suc k - 1 ≡ k = omega arith in
+      let below : k < length pieces = omega (arith, taker_within) in
+      let below' : k < length template.slots = omega (arith, laid.fits.size) in
+      let p : get_or pieces k (Copies 1) ≡ piece = get_or_default pieces k (Copies 1) piece below ∙ ap (λ (n : ℕ). get_or pieces n piece) (sym same) ∙ sym at_piece in
+      let s : slice_get template.slots k ≡ Some slot = at_place template.slots k slot below' ∙ ap Some (ap (λ (n : ℕ). get_or template.slots n slot) (sym same) ∙ sym at_slot) in
+      rw (taken, p, s, before_is) refl
+
+-- ---- a piece by the number of its slot
+
+pub numbered_is : (pieces : List Piece) (n : ℕ) (p : Piece) → n ≢ 0 → n ≤ length pieces → p ≡ get_or pieces (n - 1) p → p ≡ piece_numbered pieces n
+numbered_is pieces zero p some within at = absurd (some refl)
+numbered_is pieces (suc k) p some within at =
+    let same : suc k - 1 ≡ k = omega arith in
+    at ∙ ap (λ (j : ℕ). get_or pieces j p) same ∙ get_or_default pieces k p (Copies 1) (omega arith)

@@ -1,0 +1,116 @@
+use Rattle.std.proofs.Common.{rules, ◌∙◌, ◌≤◌, ◌<◌, length, ◌-◌, get_or, arith}
+use Rattle.std.proofs.lemmas.List.{get_or_default}
+use Rattle.mk_model.specs.declared.template.Slot.TheVariants.{Link, Site}
+use Rattle.mk_model.specs.Expansions.{expansion}
+use Rattle.mk_model.specs.Labels.{members_at}
+use Rattle.mk_model.specs.Queries.{slots_of}
+use Rattle.mk_expand.proofs.ChosenLemmas.{left_none, left_begins, left_more, left_all}
+use Rattle.mk_expand.proofs.SlotLemmas.{there_is, link_chosen, open_chosen, member_begins, member_chosen, group_members, group_rest, slots_read, template_read, filled_small}
+use Rattle.mk_expand.proofs.ChoiceFits.{kept_template}
+use Rattle.mk_expand.proofs.RoomLemmas.{have_room}
+use Rattle.mk_expand.proofs.choosing.+expansion.Goals as goal
+
+-- ---- slot after slot
+
+pub chosen-loop-slot-init : goal.chosen-loop-slot-init
+chosen-loop-slot-init t c = (omega arith, c.requires.at, rw c.in_ok-pieces.ensures.items (left_none c.args.query.now (slots_of c.args.query.now c.args.t) _ c.requires.begins))
+
+pub chosen-chosen_at-requires : goal.chosen-chosen_at-requires
+chosen-chosen_at-requires t c =
+    let query = c.args.query.now in
+    let k = c.loop-slot.slot-index in
+    let slots = slots_read query c.args.t c.requires.small.there c.templates.result.now c.index-templates-t.result c.templates.ensures.list c.index-templates-t.is c.slots-slots.result.now c.slots-slots.ensures in
+    let below : k < length (slots_of query c.args.t) = rw slots at c.loop-slot-test.true in
+    let small = filled_small query c.requires.kept c.args.t c.requires.small (get_or (slots_of query c.args.t) k (Link 0 0 0 0)) (k, below, get_or_default (slots_of query c.args.t) k _ _ below) in
+    let begins = left_begins query (slots_of query c.args.t) k _ _ _ (Link 0 0 0 0) below c.loop-slot.invariant.2 in
+    (search rules, (c.requires.kept, (rw slots small, (c.loop-slot.invariant.1, rw slots begins))))
+
+pub chosen-loop-slot-preserved : goal.chosen-loop-slot-preserved
+chosen-loop-slot-preserved t c =
+    let query = c.args.query.now in
+    let k = c.loop-slot.slot-index in
+    let slots = slots_read query c.args.t c.requires.small.there c.templates.result.now c.index-templates-t.result c.templates.ensures.list c.index-templates-t.is c.slots-slots.result.now c.slots-slots.ensures in
+    let below : k < length (slots_of query c.args.t) = rw slots at c.loop-slot-test.true in (
+      omega (arith, c.in_ok-piece.ensures.within, c.loop-slot.invariant.0),
+      c.in_ok-piece.ensures.within.1,
+      rw c.in_ok-push.ensures.items (left_more query (slots_of query c.args.t) k _ _ _ (Link 0 0 0 0) below c.loop-slot.invariant.2 _ _ (rw slots at c.in_ok-piece.ensures.are)),
+    )
+
+pub chosen-returns-clause-are : goal.chosen-returns-clause-are
+chosen-returns-clause-are t c =
+    let query = c.args.query.now in
+    let slots = slots_read query c.args.t c.requires.small.there c.templates.result.now c.index-templates-t.result c.templates.ensures.list c.index-templates-t.is c.slots-slots.result.now c.slots-slots.ensures in
+    left_all query (slots_of query c.args.t) c.loop-slot.slot-index _ _ _ (rw slots at c.loop-slot-test.false) c.loop-slot.invariant.2
+
+-- ---- one slot
+
+pub chosen_at-expanded-requires : goal.chosen_at-expanded-requires
+chosen_at-expanded-requires t c =
+    let code = c.args.code.now in
+    let at = c.args.at in
+    let group = c.in-Site.group in
+    let begins = rw c.in-Site.is at c.requires.begins in
+    let small = rw c.in-Site.is at c.requires.small in
+    let members = group_members c.args.query.now c.requires.kept c.in-Site.atom group c.in-Site.first c.in-Site.second small.0 small.1 c.groups.result.now c.index-groups-group.result c.as_slice-members.result.now c.groups.ensures.list c.index-groups-group.is c.as_slice-members.ensures in
+    let within : get_or code at 0 ≤ length (members_at c.args.query.now (Site c.in-Site.atom group c.in-Site.first c.in-Site.second)) = rw members at c.if-number-members.true in
+    let member = member_begins c.args.query.now c.in-Site.atom group c.in-Site.first c.in-Site.second code at begins within in
+    let there : at < length code = there_is c.args.query.now c.args.slot.now code at c.requires.begins in
+    let below : get_or code at 0 - 1 < length (members_at c.args.query.now (Site c.in-Site.atom group c.in-Site.first c.in-Site.second)) = omega (arith, member.0) in
+    (search rules, (c.requires.kept, (rw members (small.2 (get_or (members_at c.args.query.now (Site c.in-Site.atom group c.in-Site.first c.in-Site.second)) (get_or code at 0 - 1) 0) (get_or code at 0 - 1, below, get_or_default (members_at c.args.query.now (Site c.in-Site.atom group c.in-Site.first c.in-Site.second)) (get_or code at 0 - 1) _ 0 below)), (omega arith, rw members member.1))))
+
+pub chosen_at-returns-then-number-members-clause-within :
+    goal.chosen_at-returns-then-number-members-clause-within
+chosen_at-returns-then-number-members-clause-within t c = (omega (arith, c.in_ok-part-in-Site.ensures.within), c.in_ok-part-in-Site.ensures.within.1)
+
+pub chosen_at-returns-then-number-members-clause-are :
+    goal.chosen_at-returns-then-number-members-clause-are
+chosen_at-returns-then-number-members-clause-are t c =
+    let code = c.args.code.now in
+    let at = c.args.at in
+    let group = c.in-Site.group in
+    let begins = rw c.in-Site.is at c.requires.begins in
+    let small = rw c.in-Site.is at c.requires.small in
+    let members = group_members c.args.query.now c.requires.kept c.in-Site.atom group c.in-Site.first c.in-Site.second small.0 small.1 c.groups.result.now c.index-groups-group.result c.as_slice-members.result.now c.groups.ensures.list c.index-groups-group.is c.as_slice-members.ensures in
+    let within : get_or code at 0 ≤ length (members_at c.args.query.now (Site c.in-Site.atom group c.in-Site.first c.in-Site.second)) = rw members at c.if-number-members.true in
+    rw (c.in-Site.is, c.of-then-number-members.ensures) (member_chosen c.args.query.now c.in-Site.atom group c.in-Site.first c.in-Site.second code at begins within c.in_ok-part-in-Site.next c.in_ok-part-in-Site.part (rw members at c.in_ok-part-in-Site.ensures.is))
+
+pub chosen_at-returns-in-Link-clause-are : goal.chosen_at-returns-in-Link-clause-are
+chosen_at-returns-in-Link-clause-are t c =
+    rw (c.in-Link.is, c.of.ensures) (link_chosen c.args.query.now c.in-Link.atom c.in-Link.most c.in-Link.from c.in-Link.to c.args.code.now c.args.at (rw c.in-Link.is at c.requires.begins))
+
+pub chosen_at-returns-else-number-members-clause-are :
+    goal.chosen_at-returns-else-number-members-clause-are
+chosen_at-returns-else-number-members-clause-are t c =
+    let code = c.args.code.now in
+    let at = c.args.at in
+    let group = c.in-Site.group in
+    let begins = rw c.in-Site.is at c.requires.begins in
+    let small = rw c.in-Site.is at c.requires.small in
+    let members = group_members c.args.query.now c.requires.kept c.in-Site.atom group c.in-Site.first c.in-Site.second small.0 small.1 c.groups.result.now c.index-groups-group.result c.as_slice-members.result.now c.groups.ensures.list c.index-groups-group.is c.as_slice-members.ensures in
+    let rest = group_rest c.args.query.now c.requires.kept c.in-Site.atom group c.in-Site.first c.in-Site.second small.0 small.1 c.groups.result.now c.index-groups-group.result c.groups.ensures.list c.index-groups-group.is in
+    let above : length (members_at c.args.query.now (Site c.in-Site.atom group c.in-Site.first c.in-Site.second)) < get_or code at 0 = rw members at c.if-number-members.false in
+    rw (c.in-Site.is, c.left_open.ensures, rest) (open_chosen c.args.query.now c.in-Site.atom group c.in-Site.first c.in-Site.second code at begins above)
+
+-- ---- a template
+
+pub expanded-joined-requires-clause-template : goal.expanded-joined-requires-clause-template
+expanded-joined-requires-clause-template t c =
+    let query = c.args.query.now in
+    let template = template_read query c.args.t c.requires.small.there c.templates.result.now c.index-templates-t.result c.templates.ensures.list c.index-templates-t.is in
+    rw template (kept_template query c.requires.kept c.args.t c.requires.small.there)
+
+pub expanded-joined-requires-clause-pieces : goal.expanded-joined-requires-clause-pieces
+expanded-joined-requires-clause-pieces t c =
+    let query = c.args.query.now in
+    let template = template_read query c.args.t c.requires.small.there c.templates.result.now c.index-templates-t.result c.templates.ensures.list c.index-templates-t.is in
+    let chosen = c.in_ok-pieces.ensures.are in
+    rw (template, c.deref.ensures.value, chosen.are) (have_room query c.requires.kept c.args.t c.requires.small chosen.choice chosen.made)
+
+pub expanded-returns-clause-is : goal.expanded-returns-clause-is
+unfolding expansion
+expanded-returns-clause-is t c =
+    let query = c.args.query.now in
+    let template = template_read query c.args.t c.requires.small.there c.templates.result.now c.index-templates-t.result c.templates.ensures.list c.index-templates-t.is in
+    let chosen = c.in_ok-pieces.ensures.are in
+    let pieces = c.deref.ensures.value ∙ chosen.are in
+    record { choice = chosen.choice; made = chosen.made; spelt = chosen.spelt; is = rw (template, pieces) at c.in_ok-part.ensures }

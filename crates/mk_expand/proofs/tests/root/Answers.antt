@@ -1,0 +1,9 @@
+use Rattle.std.proofs.Common.{refl}
+use Rattle.mk_model.proofs.FitsOnLiterals.{root}
+use Rattle.mk_model.proofs.OnLiterals.{atom, bond, site_atom}
+use Rattle.mk_expand.proofs.tests.root.Goals as goal
+
+pub returns : goal.returns
+unfolding root atom bond site_atom
+returns c =
+    rw (c.of.ensures, c.in_ok-atoms.ensures.items, c.test.ensures, c.test-2.ensures, c.test-3.ensures, c.test-4.ensures, c.in_ok-bonds.ensures.items, c.bond.ensures, c.bond-2.ensures, c.bond-3.ensures, c.in_ok-slots.ensures.items, c.new.ensures) refl

@@ -1,0 +1,19 @@
+-- Laws of expansions.
+--     CodeAndHitAreShort        a code and a hit of its expansion together have at most 512 numbers
+--     OneExpansion              a code has one expansion
+use Rattle.std.specs.Prelude.{◌≡◌, ◌≤◌, ◌+◌, ℕ, List, length}
+use Rattle.mk_model.specs.Expansions.{IsExpansion}
+use Rattle.mk_model.specs.Graphs.{GraphView}
+use Rattle.mk_model.specs.Hits.{IsHit}
+use Rattle.mk_model.specs.Molecules.{Molecule}
+use Rattle.mk_model.specs.Queries.{QueryView}
+use Rattle.mk_model.specs.QueryFits.{QueryFits}
+
+-- a code and a hit of its expansion together have at most 512 numbers
+abbrev pub CodeAndHitAreShort : Type 0
+CodeAndHitAreShort = (query : QueryView) (code : List ℕ) (graph : GraphView) (mol : Molecule) (hit : List ℕ)
+    → QueryFits query → IsExpansion query code graph → IsHit graph mol hit → length code + length hit ≤ 512
+
+-- two graphs that are the expansion of a query by a code are one
+abbrev pub OneExpansion : Type 0
+OneExpansion = (query : QueryView) (code : List ℕ) (a b : GraphView) → IsExpansion query code a → IsExpansion query code b → a ≡ b

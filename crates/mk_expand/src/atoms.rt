@@ -1,0 +1,167 @@
+// The atoms of an expansion.
+ghost use Rattle.std.specs.Prelude.{◌≡◌, ◌≤◌, ◌<◌, ◌+◌, ◌-◌, ◌++◌, ℕ, All, IfOk, OnOk, length, map, replicate, slice_index};
+ghost use Rattle.mk_model.specs.Expansions.{atoms_of, atoms_of_piece, hydrogen};
+ghost use Rattle.mk_model.specs.Pieces.{before, piece_numbered, room, width};
+ghost use Rattle.mk_model.specs.QueryFits.{IsAtomOf};
+ghost use Rattle.mk_expand.specs.Laid.{AreFrees, IsLaid, piece_atoms, with_frees};
+
+use crate::part::Shape;
+use crate::piece::Piece;
+use mk_model::{AtomTest, GraphAtom, Kind, Memory, Template};
+use std::alloc::Global;
+
+/// What the atoms of the template become.
+pub fn expanded_atoms(
+    alloc: Global,
+    template: &Template,
+    pieces: &[Piece],
+    takers: &[u32],
+    befores: &[u32],
+    frees: &[u32],
+) -> Result<Vec<GraphAtom>, Memory>
+    requires laid { IsLaid template.now pieces.now takers.now befores.now }
+    requires frees { AreFrees template.now pieces.now frees.now }
+    ensures { IfOk result (λ atoms. atoms.items ≡ atoms_of template.now pieces.now (length template.now.atoms)) }
+{
+    let mut out = Vec::with_capacity(alloc, frees.len())?;
+    let atoms = template.atoms();
+    for i in 0..atoms.len() {
+        put_atoms(alloc, &mut out, template, pieces, takers, befores, frees, i)?;
+    }
+    Ok(out)
+}
+
+// What the atom at a place becomes.
+fn put_atoms(
+    alloc: Global,
+    out: &mut Vec<GraphAtom>,
+    template: &Template,
+    pieces: &[Piece],
+    takers: &[u32],
+    befores: &[u32],
+    frees: &[u32],
+    i: usize,
+) -> Result<(), Memory>
+    requires laid { IsLaid template.now pieces.now takers.now befores.now }
+    requires frees { AreFrees template.now pieces.now frees.now }
+    requires i { i < length template.now.atoms }
+    ensures { OnOk result (out.new.items ≡ out.old.items ++ atoms_of_piece template.now pieces.now (i + 1) (piece_numbered pieces.now (slice_index takers.now i))) }
+{
+    let number = takers[i] as usize;
+    let test = &template.atoms()[i];
+    if number == 0 {
+        return put_copies(alloc, out, test, frees, befores[i], 1);
+    }
+    put_piece(alloc, out, test, frees, befores[i], &pieces[number - 1])
+}
+
+// The atoms of a piece.
+fn put_piece(
+    alloc: Global,
+    out: &mut Vec<GraphAtom>,
+    test: &AtomTest,
+    frees: &[u32],
+    before: u32,
+    piece: &Piece,
+) -> Result<(), Memory>
+    requires { before + width piece.now ≤ length frees.now }
+    ensures { OnOk result (out.new.items ≡ out.old.items ++ piece_atoms frees.now test.now before piece.now) }
+{
+    match piece.shape() {
+        Shape::Copies(n) => put_copies(alloc, out, test, frees, before, *n),
+        Shape::Member(part) => put_part(alloc, out, part.atoms()),
+        Shape::Hydrogens(n) => put_hydrogens(out, *n),
+        Shape::Nothing => Ok(()),
+    }
+}
+
+// Copies of an atom.
+fn put_copies(
+    alloc: Global,
+    out: &mut Vec<GraphAtom>,
+    test: &AtomTest,
+    frees: &[u32],
+    before: u32,
+    count: u32,
+) -> Result<(), Memory>
+    requires { before + count ≤ length frees.now }
+    ensures { OnOk result (out.new.items ≡ out.old.items ++ with_frees frees.now test.now before count) }
+{
+    for j in 0..count as usize {
+        let copy = test.copied(alloc)?;
+        out.push(GraphAtom {
+            test: copy,
+            free: frees[before as usize + j],
+        })?;
+    }
+    Ok(())
+}
+
+// The atoms of a member.
+fn put_part(alloc: Global, out: &mut Vec<GraphAtom>, atoms: &[GraphAtom]) -> Result<(), Memory>
+    ensures { OnOk result (out.new.items ≡ out.old.items ++ atoms.now) }
+{
+    for atom in atoms {
+        out.push(GraphAtom {
+            test: atom.test.copied(alloc)?,
+            free: atom.free,
+        })?;
+    }
+    Ok(())
+}
+
+// Hydrogens.
+fn put_hydrogens(out: &mut Vec<GraphAtom>, count: u32) -> Result<(), Memory>
+    ensures { OnOk result (out.new.items ≡ out.old.items ++ replicate count hydrogen) }
+{
+    for _j in 0..count {
+        out.push(hydrogen())?;
+    }
+    Ok(())
+}
+
+// A hydrogen, with every other test off.
+fn hydrogen() -> GraphAtom
+    ensures { result ≡ hydrogen }
+{
+    GraphAtom {
+        test: AtomTest {
+            kind: Kind::Element(1),
+            charge: 0,
+            radical: 0,
+            hydrogens: 0,
+            ring_bonds: 0,
+            substitution: 0,
+            unsaturated: false,
+        },
+        free: 0,
+    }
+}
+
+/// The atoms with attachment point 1 and 2.
+pub fn expanded_points(
+    alloc: Global,
+    template: &Template,
+    pieces: &[Piece],
+    takers: &[u32],
+    befores: &[u32],
+) -> Result<Vec<u32>, Memory>
+    requires laid { IsLaid template.now pieces.now takers.now befores.now }
+    requires within { All (IsAtomOf template.now) template.now.points }
+    ensures { IfOk result (λ points. points.items ≡ map (λ x. before template.now pieces.now x + 1) template.now.points) }
+{
+    let mut points = Vec::with_capacity(alloc, 2)?;
+    for x in template.points() {
+        points.push(first_atom(template, pieces, takers, befores, *x))?;
+    }
+    Ok(points)
+}
+
+// The first of the atoms that atom x becomes.
+fn first_atom(template: &Template, pieces: &[Piece], takers: &[u32], befores: &[u32], x: u32) -> u32
+    requires laid { IsLaid template.now pieces.now takers.now befores.now }
+    requires within { IsAtomOf template.now x }
+    ensures { result ≡ before template.now pieces.now x + 1 }
+{
+    befores[x as usize - 1] + 1
+}

@@ -1,0 +1,101 @@
+// What a code chooses.
+ghost use Rattle.std.specs.Prelude.{◌≡◌, ◌≤◌, ◌<◌, ◌∷◌, [], IfOk, length, drop};
+ghost use Rattle.mk_model.specs.Queries.{slots_of};
+ghost use Rattle.mk_model.specs.QueryFits.{QueryFits};
+ghost use Rattle.mk_expand.specs.Choosing.{AreChosen, Begins, IsExpanded, IsSmallTemplate, MayBeFilledSmall, left_open_by};
+
+use crate::joining::joined;
+use crate::part::{Part, Shape};
+use crate::piece::Piece;
+use mk_model::{Group, Memory, Query, Slot};
+use std::alloc::Global;
+
+/// What template t becomes by the choice with which the code goes on at a place, and the place behind the choice.
+#[cycle(expansion)]
+pub fn expanded(
+    alloc: Global,
+    query: &Query,
+    t: usize,
+    code: &[u32],
+    at: usize,
+) -> Result<(Part, usize), Memory>
+    requires kept { QueryFits query.now }
+    requires small { IsSmallTemplate query.now t }
+    requires at { at ≤ length code.now }
+    requires begins { Begins query.now (slots_of query.now t) (drop at code.now) }
+    ensures within { IfOk result (λ r. (at ≤ r.1) × (r.1 ≤ length code.now)) }
+    ensures is { IfOk result (λ r. IsExpanded query.now t (drop at code.now) (drop r.1 code.now) r.0) }
+{
+    let (pieces, next) = chosen(alloc, query, t, code, at)?;
+    let part = joined(alloc, &query.templates()[t], &pieces)?;
+    Ok((part, next))
+}
+
+// What the slots of template t become.
+#[cycle(expansion)]
+fn chosen(
+    alloc: Global,
+    query: &Query,
+    t: usize,
+    code: &[u32],
+    at: usize,
+) -> Result<(Vec<Piece>, usize), Memory>
+    requires kept { QueryFits query.now }
+    requires small { IsSmallTemplate query.now t }
+    requires at { at ≤ length code.now }
+    requires begins { Begins query.now (slots_of query.now t) (drop at code.now) }
+    ensures within { IfOk result (λ r. (at ≤ r.1) × (r.1 ≤ length code.now)) }
+    ensures are { IfOk result (λ r. AreChosen query.now (slots_of query.now t) (drop at code.now) (drop r.1 code.now) r.0.items) }
+{
+    let slots = query.templates()[t].slots();
+    let mut pieces = Vec::with_capacity(alloc, slots.len())?;
+    let mut next = at;
+    for slot in slots {
+        let (piece, behind) = chosen_at(alloc, query, slot, code, next)?;
+        pieces.push(piece)?;
+        next = behind;
+    }
+    Ok((pieces, next))
+}
+
+// What a slot becomes.
+#[cycle(expansion)]
+fn chosen_at(
+    alloc: Global,
+    query: &Query,
+    slot: &Slot,
+    code: &[u32],
+    at: usize,
+) -> Result<(Piece, usize), Memory>
+    requires kept { QueryFits query.now }
+    requires small { MayBeFilledSmall query.now slot.now }
+    requires at { at ≤ length code.now }
+    requires begins { Begins query.now (slot.now ∷ []) (drop at code.now) }
+    ensures within { IfOk result (λ r. (at ≤ r.1) × (r.1 ≤ length code.now)) }
+    ensures are { IfOk result (λ r. AreChosen query.now (slot.now ∷ []) (drop at code.now) (drop r.1 code.now) (r.0 ∷ [])) }
+{
+    let number = code[at];
+    match slot {
+        Slot::Link { .. } => Ok((Piece::of(Shape::Copies(number)), at + 1)),
+        Slot::Site { group, second, .. } => {
+            let group = &query.groups()[*group as usize - 1];
+            let members = group.members.as_slice();
+            if number as usize <= members.len() {
+                let member = members[number as usize - 1] as usize;
+                let (part, next) = expanded(alloc, query, member, code, at + 1)?;
+                return Ok((Piece::of(Shape::Member(part)), next));
+            }
+            Ok((left_open(group, *second), at + 1))
+        }
+    }
+}
+
+// What an unfilled site becomes.
+fn left_open(group: &Group, second: u32) -> Piece
+    ensures { result ≡ left_open_by group.now.rest_hydrogen second }
+{
+    if !group.rest_hydrogen {
+        return Piece::of(Shape::Nothing);
+    }
+    Piece::of(Shape::Hydrogens(if second == 0 { 1 } else { 2 }))
+}

@@ -1,0 +1,32 @@
+// What a template becomes.
+ghost use Rattle.std.specs.Prelude.{◌≡◌, IfOk};
+ghost use Rattle.mk_model.specs.Expansions.{joined};
+ghost use Rattle.mk_expand.specs.Kept.{IsTemplate};
+ghost use Rattle.mk_expand.specs.Laid.{HaveRoom};
+
+use crate::atoms::{expanded_atoms, expanded_points};
+use crate::blocks::takers_of;
+use crate::bonds::{put_all_within, put_template_bonds};
+use crate::frees::frees_of;
+use crate::part::Part;
+use crate::piece::Piece;
+use crate::places::befores_of;
+use mk_model::{Memory, Template};
+use std::alloc::Global;
+
+/// What the template becomes where its slots have become these pieces.
+pub fn joined(alloc: Global, template: &Template, pieces: &[Piece]) -> Result<Part, Memory>
+    requires template { IsTemplate template.now }
+    requires pieces { HaveRoom template.now pieces.now }
+    ensures { IfOk result (λ part. part ≡ joined template.now pieces.now) }
+{
+    let takers = takers_of(alloc, template)?;
+    let befores = befores_of(alloc, template, pieces, &takers)?;
+    let frees = frees_of(alloc, template, pieces, &takers, &befores)?;
+    let atoms = expanded_atoms(alloc, template, pieces, &takers, &befores, &frees)?;
+    let mut bonds = Vec::with_capacity(alloc, template.bonds().len())?;
+    put_template_bonds(&mut bonds, template, pieces, &takers, &befores)?;
+    put_all_within(&mut bonds, template, pieces, &takers, &befores)?;
+    let points = expanded_points(alloc, template, pieces, &takers, &befores)?;
+    Ok(Part::of(atoms, bonds, points))
+}
