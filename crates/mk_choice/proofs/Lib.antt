@@ -8,3 +8,5 @@ pub mod BoundLemmas
 pub mod RowLemmas
 pub mod LostLemmas
 pub mod AheadLemmas
+pub mod ExampleFits
+pub mod OnLiterals
