@@ -299,3 +299,9 @@ fits = record {
     one_group = λ g h u least least' at at'. in_group g u least at ∙ sym (in_group h u least' at');
   };
 }
+
+-- lists that are those of the query
+pub fits_so : (templates : List TemplateView) (groups : List Group) → templates ≡ two_sites 1 2 ∷ single 9 ∷ single 17 ∷ []
+    → groups ≡ group (1 ∷ []) 2 (range 0 1) ∷ group (2 ∷ []) 0 (range 1 1) ∷ replicate 30 (plain_group []) → QueryFits (record { templates = templates; groups = groups })
+unfolding then_query
+fits_so templates groups same same' = rw (same, same') fits

@@ -1,7 +1,8 @@
 // The codes of the query of the example: `[C R# R# | 1-2 1-3]` with the groups 1 and 2, `[F | ]` and `[Cl | ]`, IF R1 THEN R2,
 // R1 `0-1`, R2 `1`.
-ghost use Rattle.std.specs.Prelude.{◌≡◌, IfOk};
-ghost use Rattle.mk_model.proofs.OnLiterals.{atom, bond, group, range, single, site_atom, then_query, two_sites};
+ghost use Rattle.std.specs.Prelude.{◌≡◌, ◌∷◌, [], IfOk, pos, false, replicate, ◌++◌};
+ghost use Rattle.mk_model.specs.declared.template.Slot.TheVariants.{Site};
+ghost use Rattle.mk_model.proofs.OnLiterals.{group, plain_group, range, single, then_query, two_sites};
 
 use crate::{Codes, least_code};
 use mk_model::{
@@ -34,10 +35,13 @@ fn codes_in_order(rt: HostRuntime) -> Result<(), Fail> {
     let query = then_query(rt.alloc())?;
     let mut codes = Codes::from_place(rt.alloc(), &query, &[])?;
     let mut told = Vec::new(rt.alloc());
-    while let Some(code) = codes.next() {
-        told.extend_from_slice(code)?;
+    for _ in 0..4 {
+        match codes.next() {
+            Some(code) => told.extend_from_slice(code)?,
+            None => told.push(0)?,
+        }
     }
-    assert_eq!(rt; told.as_slice(), [1, 1, 2, 1, 2, 2].as_slice());
+    assert_eq!(rt; told.as_slice(), [1, 1, 2, 1, 2, 2, 0].as_slice());
     assert_eq!(rt; codes.place(rt.alloc())?.as_slice(), [2, 2, 0].as_slice());
     Ok(())
 }
@@ -49,18 +53,16 @@ fn is_least(alloc: Global, query: &Query, front: &[u32], want: &[u32]) -> Result
     }
 }
 
-fn then_query(alloc: Global) -> Result<Query, Memory>
-    ensures { IfOk result (λ query. query ≡ then_query) }
-{
+fn then_query(alloc: Global) -> Result<Query, Memory> {
     let templates = vec![in alloc; root(alloc)?, single(alloc, 9)?, single(alloc, 17)?]?;
     let mut groups = vec![in alloc; group(alloc, 1, 2, 0)?, group(alloc, 2, 0, 1)?]?;
-    for _ in 0..30 {
+    for _ in 0..30u32 {
         groups.push(plain_group(alloc)?)?;
     }
     Ok(Query::of(templates, groups))
 }
 
-#[tactic(auto, unfolding(mk_model::proofs::OnLiterals::two_sites))]
+#[tactic(auto, unfolding(mk_model::proofs::OnLiterals::two_sites, mk_model::proofs::OnLiterals::atom, mk_model::proofs::OnLiterals::site_atom, mk_model::proofs::OnLiterals::bond))]
 fn root(alloc: Global) -> Result<Template, Memory>
     ensures { IfOk result (λ template. template ≡ two_sites 1 2) }
 {
@@ -70,6 +72,7 @@ fn root(alloc: Global) -> Result<Template, Memory>
     Ok(Template::of(atoms, bonds, slots, Numbers::new(alloc)))
 }
 
+#[tactic(auto, unfolding(mk_model::proofs::OnLiterals::single, mk_model::proofs::OnLiterals::atom))]
 fn single(alloc: Global, z: u8) -> Result<Template, Memory>
     ensures { IfOk result (λ template. template ≡ single z) }
 {
@@ -79,7 +82,9 @@ fn single(alloc: Global, z: u8) -> Result<Template, Memory>
     Ok(Template::of(atoms, Vec::new(alloc), Vec::new(alloc), points))
 }
 
-fn atom(kind: Kind) -> AtomTest {
+fn atom(kind: Kind) -> AtomTest
+    ensures { result ≡ record { kind = kind; charge = pos 0; radical = 0; hydrogens = 0; ring_bonds = pos 0; substitution = pos 0; unsaturated = false } }
+{
     AtomTest {
         kind,
         charge: 0,
@@ -91,7 +96,9 @@ fn atom(kind: Kind) -> AtomTest {
     }
 }
 
-fn bond(first: u32, second: u32) -> QueryBond {
+fn bond(first: u32, second: u32) -> QueryBond
+    ensures { result ≡ record { first = first; second = second; kind = 1; topology = 0 } }
+{
     QueryBond {
         first,
         second,
@@ -100,7 +107,9 @@ fn bond(first: u32, second: u32) -> QueryBond {
     }
 }
 
-fn site(atom: u32, group: u8) -> Slot {
+fn site(atom: u32, group: u8) -> Slot
+    ensures { result ≡ Site atom group 1 0 }
+{
     Slot::Site {
         atom,
         group,
@@ -110,7 +119,10 @@ fn site(atom: u32, group: u8) -> Slot {
 }
 
 // A group of one member, which is filled at most once, and at least so often.
-fn group(alloc: Global, member: u32, then_group: u8, least: u32) -> Result<Group, Memory> {
+#[tactic(auto, unfolding(mk_model::proofs::OnLiterals::group, mk_model::proofs::OnLiterals::range))]
+fn group(alloc: Global, member: u32, then_group: u8, least: u32) -> Result<Group, Memory>
+    ensures { IfOk result (λ one. one ≡ group (member ∷ []) then_group (range least 1)) }
+{
     let mut members = Numbers::new(alloc);
     members.push(member)?;
     let mut range = Range::new(alloc);
@@ -123,7 +135,10 @@ fn group(alloc: Global, member: u32, then_group: u8, least: u32) -> Result<Group
     })
 }
 
-fn plain_group(alloc: Global) -> Result<Group, Memory> {
+#[tactic(auto, unfolding(mk_model::proofs::OnLiterals::group, mk_model::proofs::OnLiterals::plain_group, mk_model::proofs::OnLiterals::range))]
+fn plain_group(alloc: Global) -> Result<Group, Memory>
+    ensures { IfOk result (λ one. one ≡ plain_group []) }
+{
     let mut range = Range::new(alloc);
     range.push(Interval {
         least: 1,
