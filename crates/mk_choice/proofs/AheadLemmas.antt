@@ -2,7 +2,7 @@
 --     nothing_is      no slots add nothing
 --     link_ahead, site_ahead      one slot more in front
 --     ahead_next      the next of some slots, behind those before it
-use Rattle.std.proofs.Common.{◌≡◌, ℕ, zero, suc, ◌+◌, ◌-◌, ◌*◌, ◌<◌, ◌≤◌, Bool, true, false, cond, List, [], ◌∷◌, ◌++◌, length, get_or, take, replicate, refl, sym, ap, ◌∙◌, arith}
+use Rattle.std.proofs.Common.{◌≡◌, ℕ, zero, suc, ◌+◌, ◌-◌, ◌*◌, ◌<◌, ◌≤◌, Bool, true, false, cond, List, [], ◌∷◌, ◌++◌, length, get_or, take, replicate, refl, ap, arith}
 use Rattle.std.specs.Prelude.{◌==◌, slice_index}
 use Rattle.std.proofs.lemmas.Bool.Decides.{nat_tests}
 use Rattle.std.proofs.lemmas.List.{take_more}
@@ -99,9 +99,23 @@ ahead_next most slots behind i d ahead below is =
     let more = take_more slots i d below in
     rw more (record {
       sites = λ j within.
-          omega (arith, is.sites j within, open_first (get_or slots i d) (take i slots ++ behind) (j + 1), open_both (take i slots) behind (j + 1),
-          open_both (take i slots ++ (get_or slots i d ∷ [])) behind (j + 1), open_both (take i slots) (get_or slots i d ∷ []) (j + 1), open_first (get_or slots i d) [] (j + 1));
+          omega (
+            arith,
+            is.sites j within,
+            open_first (get_or slots i d) (take i slots ++ behind) (j + 1),
+            open_both (take i slots) behind (j + 1),
+            open_both (take i slots ++ (get_or slots i d ∷ [])) behind (j + 1),
+            open_both (take i slots) (get_or slots i d ∷ []) (j + 1),
+            open_first (get_or slots i d) [] (j + 1),
+          );
       filled = λ j within.
-          omega (arith, is.filled j within, filled_first (bound_in most) (get_or slots i d) (take i slots ++ behind) (j + 1), filled_both (bound_in most) (take i slots) behind (j + 1),
-          filled_both (bound_in most) (take i slots ++ (get_or slots i d ∷ [])) behind (j + 1), filled_both (bound_in most) (take i slots) (get_or slots i d ∷ []) (j + 1), filled_first (bound_in most) (get_or slots i d) [] (j + 1));
+          omega (
+            arith,
+            is.filled j within,
+            filled_first (bound_in most) (get_or slots i d) (take i slots ++ behind) (j + 1),
+            filled_both (bound_in most) (take i slots) behind (j + 1),
+            filled_both (bound_in most) (take i slots ++ (get_or slots i d ∷ [])) behind (j + 1),
+            filled_both (bound_in most) (take i slots) (get_or slots i d ∷ []) (j + 1),
+            filled_first (bound_in most) (get_or slots i d) [] (j + 1),
+          );
     })

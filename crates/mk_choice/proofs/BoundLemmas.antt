@@ -1,13 +1,13 @@
 -- What is chosen at some slots fills a group at most as often as the bounds say.
 use Rattle.std.proofs.Common.{◌≡◌, ℕ, zero, suc, ◌+◌, ◌-◌, ◌<◌, ◌≤◌, ◌&&◌, Bool, true, false, cond, List, [], ◌∷◌, ◌++◌, length, get_or, refl, arith}
-use Rattle.std.specs.Prelude.{◌==◌, Contains, nat_le}
+use Rattle.std.specs.Prelude.{◌==◌, Contains}
 use Rattle.std.proofs.lemmas.Bool.Decides.{nat_tests}
 use Rattle.std.proofs.lemmas.List.Sums.{sum_by-append, sum_by-cons}
 use Rattle.mk_model.specs.declared.template.Slot.{Slot}
 use Rattle.mk_model.specs.declared.template.Slot.TheVariants.{Link, Site}
 use Rattle.mk_model.specs.Queries.{QueryView, slots_of}
 use Rattle.mk_model.specs.Labels.{is_filled_by, member, members_at}
-use Rattle.mk_model.specs.Logic.{Standing, filled_of}
+use Rattle.mk_model.specs.Logic.{filled_of}
 use Rattle.mk_model.specs.OpenSlots.{opened, standing_at, standing_by, Chooses}
 use Rattle.mk_choice.proofs.CountLemmas.{filled_both}
 use Rattle.mk_choice.specs.Bounds.{IsBound, most_filled, most_filled_at}

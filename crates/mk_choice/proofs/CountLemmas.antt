@@ -1,8 +1,7 @@
 -- The counts, one number after another.
 --     completes_first, completes_last     one number more, as the first of the others or as the last of those chosen
 --     completes_none      where nothing is left
-use Rattle.std.proofs.Common.{◌≡◌, ℕ, ◌+◌, ◌≤◌, ◌&&◌, cond, inl, inr, List, [], ◌∷◌, ◌++◌, refl, sym, arith}
-use Rattle.std.specs.Prelude.{◌==◌}
+use Rattle.std.proofs.Common.{◌≡◌, ℕ, ◌+◌, ◌≤◌, ◌&&◌, cond, List, [], ◌∷◌, ◌++◌, refl, sym, arith}
 use Rattle.std.proofs.lemmas.List.Sums.{sum_by-append}
 use Rattle.mk_model.specs.declared.query.Count.{Count}
 use Rattle.mk_model.specs.declared.template.Slot.{Slot}

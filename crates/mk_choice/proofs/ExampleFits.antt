@@ -1,6 +1,6 @@
 -- The query of the example keeps what every query keeps: `[C R# R# | 1-2 1-3]` with the groups 1 and 2, `[F | ]` and `[Cl | ]`, of
 -- which group 1 may be filled once or not, and then asks that group 2 is filled.
-use Rattle.std.proofs.Common.{◌≡◌, ◌≢◌, ℕ, zero, suc, ◌+◌, ◌-◌, ◌<◌, ◌≤◌, ◌⊎◌, inl, inr, true, List, [], ◌∷◌, length, replicate, Option, Some, None, refl, sym, ap, subst, ◌∙◌, arith, rules, All}
+use Rattle.std.proofs.Common.{◌≡◌, ◌≢◌, ℕ, zero, suc, ◌-◌, ◌<◌, ◌≤◌, ◌⊎◌, inl, inr, true, List, [], ◌∷◌, length, replicate, Option, Some, None, refl, sym, ap, subst, ◌∙◌, arith, rules, All}
 use Rattle.std.specs.Prelude.{◌==◌, AllPairs, Contains, slice_get, IsTrue, if◌then◌else◌}
 use Rattle.std.proofs.lemmas.Bool.{cases_eq, cases_lt}
 use Rattle.std.proofs.lemmas.Bool.Decides.{nat_tests}
@@ -10,7 +10,7 @@ use Rattle.mk_model.specs.declared.edge.Edge.{Edge}
 use Rattle.mk_model.specs.declared.group.Group.{Group}
 use Rattle.mk_model.specs.declared.template.QueryBond.{QueryBond}
 use Rattle.mk_model.specs.declared.template.Slot.{Slot}
-use Rattle.mk_model.specs.declared.template.Slot.TheVariants.{Link, Site}
+use Rattle.mk_model.specs.declared.template.Slot.TheVariants.{Site}
 use Rattle.mk_model.specs.Edges.{HasEnds, Joins}
 use Rattle.mk_model.specs.Tests.{IsBondInRange, IsTestInRange}
 use Rattle.mk_model.specs.Templates.{TemplateView, joins, slot_atom}

@@ -1,6 +1,6 @@
 -- The example of docs/MEANING.md, computed: `[C R# R# | 1-2 1-3]` with the groups 1 and 2, of which group 1 asks for group 2 where it is
 -- filled. Its valid codes are 1 1, 2 1 and 2 2.
-use Rattle.std.proofs.Common.{◌≡◌, ◌<◌, ℕ, inl, inr, List, [], ◌∷◌, None, refl, subst, arith}
+use Rattle.std.proofs.Common.{◌≡◌, ℕ, inl, inr, List, [], ◌∷◌, None, refl, subst, arith}
 use Rattle.mk_text.specs.Rising.{Holds, IsBelow, IsLeast, IsLeastFrom, IsRisingListOfAll}
 use Rattle.mk_model.specs.Logic.{IsValid}
 use Rattle.mk_model.specs.PlainCodes.{is_allowed_code, valid_codes}

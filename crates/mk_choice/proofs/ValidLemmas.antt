@@ -50,7 +50,7 @@ module _ (query : QueryView) (counts : List Count) (none : AreNone counts) where
   valid_of code is =
       let made = is_code_of query 0 code is.chooses in
       let stand : standing_by query (slots_of query 0) code ≡ standing_sites query (slots_of query 0) made.choice =
-          ap (standing_by query (slots_of query 0)) (sym made.spelt) ∙ standing_is query (slots_of query 0) made.choice made.made in
+      ap (standing_by query (slots_of query 0)) (sym made.spelt) ∙ standing_is query (slots_of query 0) made.choice made.made in
       record {
         choice = made.choice;
         made = made.made;
@@ -65,7 +65,7 @@ module _ (query : QueryView) (counts : List Count) (none : AreNone counts) where
   pub completes_of : (code : List ℕ) → IsValid query code → Completes query counts (slots_of query 0) code
   completes_of code is =
       let stand : standing_by query (slots_of query 0) code ≡ standing_sites query (slots_of query 0) is.choice =
-          ap (standing_by query (slots_of query 0)) (sym is.spelt) ∙ standing_is query (slots_of query 0) is.choice is.made in
+      ap (standing_by query (slots_of query 0)) (sym is.spelt) ∙ standing_is query (slots_of query 0) is.choice is.made in
       record {
         chooses = chooses_of query 0 code (record { choice = is.choice; made = is.made; spelt = is.spelt });
         logic = allowed_same query _ _ _ _

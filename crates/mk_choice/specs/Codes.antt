@@ -46,7 +46,8 @@ AreLeft left codes = IsRisingListOfAll (λ code. IsValid left.query code × (IsB
 -- a code that is taken is the first of those left before, and what is left behind it are the others
 abbrev pub NextIsFirst : Type 0
 NextIsFirst =
-    (old new : CodesLeft) (code : List ℕ) (codes : List (List ℕ)) → IsNext old new code → AreLeft new codes → AreLeft old (code ∷ codes)
+    (old new : CodesLeft) (code : List ℕ) (codes : List (List ℕ)) → IsNext old new code
+    → AreLeft new codes → AreLeft old (code ∷ codes)
 
 -- where none is taken none was left
 abbrev pub NoneIsLeft : Type 0
@@ -60,4 +61,5 @@ NoneBetween =
 
 -- no valid code begins another
 abbrev pub NoValidBeginsAnother : Type 0
-NoValidBeginsAnother = (query : QueryView) (code more : List ℕ) → IsValid query code → IsValid query (code ++ more) → more ≡ []
+NoValidBeginsAnother =
+    (query : QueryView) (code more : List ℕ) → IsValid query code → IsValid query (code ++ more) → more ≡ []

@@ -1,8 +1,7 @@
 // How what the open slots can still add changes, slot by slot.
-ghost use Rattle.std.specs.Prelude.{◌≡◌, ◌≤◌, ◌<◌, ◌+◌, ◌-◌, ◌*◌, ◌==◌, ◌∷◌, ◌++◌, [], ℕ, All, List, length, min, slice_index, if◌then◌else◌};
+ghost use Rattle.std.specs.Prelude.{◌≡◌, ◌≤◌, ◌<◌, ◌+◌, ◌-◌, ◌*◌, ◌==◌, ◌∷◌, ◌++◌, [], ℕ, All, List, length, slice_index, if◌then◌else◌};
 ghost use Rattle.mk_model.specs.declared.template.Slot.{Slot};
 ghost use Rattle.mk_choice.specs.Ahead.{HasRows, IsAhead};
-ghost use Rattle.mk_choice.specs.Bounds.{AreBounds};
 ghost use Rattle.mk_choice.specs.Search.{IsKnown};
 
 use crate::ahead::Ahead;
@@ -26,7 +25,8 @@ pub fn with_slots(most: &[u32], ahead: Ahead, slots: &[Slot]) -> Ahead
     requires known { All IsKnown slots.now }
     requires rows { HasRows ahead }
     ensures rows { HasRows result }
-    ensures ahead { (behind : List Slot) → length (slots.now ++ behind) ≤ 512 → IsAhead most.now behind ahead → IsAhead most.now (slots.now ++ behind) result }
+    ensures ahead { (behind : List Slot) → length (slots.now ++ behind) ≤ 512
+        → IsAhead most.now behind ahead → IsAhead most.now (slots.now ++ behind) result }
 {
     let mut ahead = ahead;
     for slot in slots {
@@ -42,7 +42,8 @@ fn with_slot(most: &[u32], ahead: Ahead, slot: Slot) -> Ahead
     requires known { IsKnown slot }
     requires rows { HasRows ahead }
     ensures rows { HasRows result }
-    ensures ahead { (slots : List Slot) → length slots ≤ 511 → IsAhead most.now slots ahead → IsAhead most.now (slot ∷ slots) result }
+    ensures ahead { (slots : List Slot) → length slots ≤ 511
+        → IsAhead most.now slots ahead → IsAhead most.now (slot ∷ slots) result }
 {
     let Slot::Site { group, .. } = slot else {
         return ahead;
@@ -77,7 +78,8 @@ fn one_more(sites: [u32; 32], h: usize) -> [u32; 32]
     requires size { length sites ≡ 32 }
     requires within { h < 32 }
     ensures size { length result ≡ 32 }
-    ensures more { (i : ℕ) → i < 32 → slice_index sites i ≤ 511 → slice_index result i ≡ slice_index sites i + (if h == i then 1 else 0) }
+    ensures more { (i : ℕ) → i < 32 → slice_index sites i ≤ 511
+        → slice_index result i ≡ slice_index sites i + (if h == i then 1 else 0) }
 {
     let mut sites = sites;
     sites[h] = sites[h].saturating_add(1);
@@ -102,7 +104,8 @@ fn raised(filled: [u32; 32], most: &[u32], h: usize) -> [u32; 32]
     requires rows { length most.now ≡ 1024 }
     requires within { h < 32 }
     ensures size { length result ≡ 32 }
-    ensures more { (i : ℕ) → i < 32 → slice_index filled i + slice_index most.now (h * 32 + i) ≤ 1000000 → slice_index result i ≡ slice_index filled i + slice_index most.now (h * 32 + i) }
+    ensures more { (i : ℕ) → i < 32 → slice_index filled i + slice_index most.now (h * 32 + i) ≤ 1000000
+        → slice_index result i ≡ slice_index filled i + slice_index most.now (h * 32 + i) }
 {
     let mut sums = filled;
     for i in 0..32 {

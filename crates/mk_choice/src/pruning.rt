@@ -1,10 +1,9 @@
 // Whether nothing that is chosen further is allowed.
-ghost use Rattle.std.specs.Prelude.{◌≡◌, ◌≤◌, ◌<◌, ◌+◌, ℕ, List, IsTrue, length};
+ghost use Rattle.std.specs.Prelude.{◌≡◌, ◌≤◌, ◌<◌, IsTrue};
 ghost use Rattle.std.specs.List.{list_all};
-ghost use Rattle.mk_model.specs.declared.template.Slot.{Slot};
-ghost use Rattle.mk_choice.specs.Ahead.{HasRows, IsAhead};
-ghost use Rattle.mk_choice.specs.Bounds.{AreBounds, Misses, lies_apart};
-ghost use Rattle.mk_choice.specs.Search.{AreCounts, CantComplete};
+ghost use Rattle.mk_choice.specs.Ahead.{HasRows, IsLost};
+ghost use Rattle.mk_choice.specs.Bounds.{Misses, lies_apart};
+ghost use Rattle.mk_choice.specs.Search.{AreCounts};
 
 use crate::ahead::Ahead;
 use mk_logic::{ends_below, is_asked};
@@ -14,7 +13,7 @@ use mk_model::{Count, Query, Range};
 pub fn cant_complete(query: &Query, counts: &[Count], ahead: &Ahead) -> bool
     requires counts { AreCounts 512 counts.now }
     requires rows { HasRows ahead.now }
-    ensures { IsTrue result → (most : List ℕ) (slots : List Slot) → AreBounds query.now most → IsAhead most slots ahead.now → CantComplete query.now counts.now slots }
+    ensures { IsTrue result → IsLost query.now counts.now ahead.now }
 {
     for i in 0..32 {
         if is_lost(query, counts, ahead, i) {
@@ -29,7 +28,7 @@ fn is_lost(query: &Query, counts: &[Count], ahead: &Ahead, i: usize) -> bool
     requires within { i < 32 }
     requires counts { AreCounts 512 counts.now }
     requires rows { HasRows ahead.now }
-    ensures { IsTrue result → (most : List ℕ) (slots : List Slot) → AreBounds query.now most → IsAhead most slots ahead.now → CantComplete query.now counts.now slots }
+    ensures { IsTrue result → IsLost query.now counts.now ahead.now }
 {
     let count = counts[i];
     if count.sites == 0 && ahead.sites[i] == 0 {

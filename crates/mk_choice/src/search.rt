@@ -1,5 +1,5 @@
 // The search for the least valid code. It goes from the left, one number after another.
-ghost use Rattle.std.specs.Prelude.{◌≡◌, ◌≤◌, ◌<◌, ◌+◌, ◌-◌, ◌∷◌, [], ℕ, All, IfNone, IfSome, None, length, drop, take};
+ghost use Rattle.std.specs.Prelude.{◌≡◌, ◌≤◌, ◌<◌, ◌+◌, ◌-◌, ◌∷◌, [], All, IfNone, IfSome, None, length, drop, take};
 ghost use Rattle.mk_text.specs.Rising.{IsLeast, IsLeastFrom};
 ghost use Rattle.mk_model.specs.Logic.{IsAllowed, IsValid};
 ghost use Rattle.mk_model.specs.OpenSlots.{most_at};
@@ -8,7 +8,7 @@ ghost use Rattle.mk_choice.specs.Fronts.{rest_after};
 ghost use Rattle.mk_choice.specs.Bounds.{AreBounds};
 ghost use Rattle.mk_choice.specs.Ahead.{HasRows, IsAhead};
 ghost use Rattle.mk_choice.specs.Pending.{open_slots};
-ghost use Rattle.mk_choice.specs.Search.{AreCounts, Completes, IsKnown, LeavesRoom};
+ghost use Rattle.mk_choice.specs.Search.{AreCounts, Completes, CompletesWith, IsKnown, LeavesRoom};
 
 use crate::ahead::Ahead;
 use crate::fronts::{below_first, rest_after};
@@ -17,17 +17,11 @@ use crate::numbers::{counted, first, most_at, no_counts, opened, slots_of};
 use crate::pending::Pending;
 use crate::pruning::cant_complete;
 use mk_logic::allowed;
-use mk_model::{Count, Query};
-use mk_model::Slot;
+use mk_model::{Count, Query, Slot};
 
 /// Puts the least valid code that isn't below the front in the first places, and tells how many numbers it has, where there is
 /// one.
-pub fn put_least(
-    query: &Query,
-    most: &[u32],
-    code: &mut Vec<u32>,
-    front: &[u32],
-) -> Option<usize>
+pub fn put_least(query: &Query, most: &[u32], code: &mut Vec<u32>, front: &[u32]) -> Option<usize>
     requires bounds { AreBounds query.now most.now }
     requires room { length code.old.items ≡ 512 }
     ensures size { length code.new.items ≡ 512 }
@@ -63,7 +57,8 @@ fn search(
     requires counts { AreCounts k counts }
     ensures same { take k code.new ≡ take k code.old }
     ensures within { IfSome result (λ n. k + n ≤ 512) }
-    ensures found { IfSome result (λ n. IsLeast front.now (Completes query.now counts (open_slots pending.now)) (take n (drop k code.new))) }
+    ensures found { IfSome result (λ n.
+        IsLeast front.now (Completes query.now counts (open_slots pending.now)) (take n (drop k code.new))) }
     ensures none { IfNone result (IsLeastFrom front.now (Completes query.now counts (open_slots pending.now)) None) }
 {
     if cant_complete(query, &counts, ahead) {
@@ -77,7 +72,9 @@ fn search(
     let mut above = below_first(front);
     while above < greatest {
         let number = above + 1;
-        if let Some(n) = try_number(query, most, slot, &behind, &left, code, k, counts, front, number) {
+        if let Some(n) = try_number(
+            query, most, slot, &behind, &left, code, k, counts, front, number,
+        ) {
             return Some(n + 1);
         }
         above = number;
@@ -111,22 +108,36 @@ fn try_number(
     ensures same { take k code.new ≡ take k code.old }
     ensures within { IfSome result (λ n. k + 1 + n ≤ 512) }
     ensures put { IfSome result (λ n. take (n + 1) (drop k code.new) ≡ number ∷ take n (drop (k + 1) code.new)) }
-    ensures found { IfSome result (λ n. IsLeast (rest_after front.now number) (λ others. Completes query.now counts (slot ∷ open_slots behind.now) (number ∷ others)) (take n (drop (k + 1) code.new))) }
-    ensures none { IfNone result (IsLeastFrom (rest_after front.now number) (λ others. Completes query.now counts (slot ∷ open_slots behind.now) (number ∷ others)) None) }
+    ensures found { IfSome result (λ n.
+        IsLeast (rest_after front.now number) (CompletesWith query.now counts (slot ∷ open_slots behind.now) number)
+        (take n (drop (k + 1) code.new))) }
+    ensures none { IfNone result
+        (IsLeastFrom (rest_after front.now number) (CompletesWith query.now counts (slot ∷ open_slots behind.now) number) None) }
 {
     code[k] = number;
     let counted = counted(query, slot, number, counts);
     let slots = opened(query, slot, number);
     let ahead = with_slots(most, *left, slots);
     let inside = Pending::Slots(slots, &*behind);
-    search(query, most, &inside, &ahead, code, k + 1, counted, rest_after(front, number))
+    search(
+        query,
+        most,
+        &inside,
+        &ahead,
+        code,
+        k + 1,
+        counted,
+        rest_after(front, number),
+    )
 }
 
 // No slot is open: no number is needed, where the front allows it and the counts are allowed.
 fn at_end(query: &Query, counts: &[Count], front: &[u32]) -> Option<usize>
     requires { AreCounts 512 counts.now }
-    ensures some { IfSome result (λ n. (n ≡ 0) × (front.now ≡ []) × IsAllowed query.now (sites_at counts.now) (filled_at counts.now)) }
-    ensures none { IfNone result (front.now ≡ [] → IsAllowed query.now (sites_at counts.now) (filled_at counts.now) → ⊥) }
+    ensures some { IfSome result (λ n.
+        (n ≡ 0) × (front.now ≡ []) × IsAllowed query.now (sites_at counts.now) (filled_at counts.now)) }
+    ensures none { IfNone result
+        (front.now ≡ [] → IsAllowed query.now (sites_at counts.now) (filled_at counts.now) → ⊥) }
 {
     if !front.is_empty() {
         return None;

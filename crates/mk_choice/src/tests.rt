@@ -1,6 +1,6 @@
 // The codes of the query of the example: `[C R# R# | 1-2 1-3]` with the groups 1 and 2, `[F | ]` and `[Cl | ]`, IF R1 THEN R2,
 // R1 `0-1`, R2 `1`.
-ghost use Rattle.std.specs.Prelude.{◌≡◌, ◌∷◌, [], IfOk, pos, false, replicate, ◌++◌};
+ghost use Rattle.std.specs.Prelude.{◌≡◌, ◌∷◌, [], IfOk, pos, false};
 ghost use Rattle.mk_model.specs.declared.template.Slot.TheVariants.{Site};
 ghost use Rattle.mk_model.proofs.OnLiterals.{group, plain_group, range, single, then_query, two_sites};
 
@@ -66,7 +66,11 @@ fn then_query(alloc: Global) -> Result<Query, Memory> {
 fn root(alloc: Global) -> Result<Template, Memory>
     ensures { IfOk result (λ template. template ≡ two_sites 1 2) }
 {
-    let atoms = vec![in alloc; atom(Kind::Element(6)), atom(Kind::Anything), atom(Kind::Anything)]?;
+    let atoms = vec![in alloc;
+        atom(Kind::Element(6)),
+        atom(Kind::Anything),
+        atom(Kind::Anything),
+    ]?;
     let bonds = vec![in alloc; bond(1, 2), bond(1, 3)]?;
     let slots = vec![in alloc; site(2, 1), site(3, 2)]?;
     Ok(Template::of(atoms, bonds, slots, Numbers::new(alloc)))
@@ -83,7 +87,15 @@ fn single(alloc: Global, z: u8) -> Result<Template, Memory>
 }
 
 fn atom(kind: Kind) -> AtomTest
-    ensures { result ≡ record { kind = kind; charge = pos 0; radical = 0; hydrogens = 0; ring_bonds = pos 0; substitution = pos 0; unsaturated = false } }
+    ensures { result ≡ record {
+      kind = kind;
+      charge = pos 0;
+      radical = 0;
+      hydrogens = 0;
+      ring_bonds = pos 0;
+      substitution = pos 0;
+      unsaturated = false;
+    } }
 {
     AtomTest {
         kind,

@@ -1,4 +1,4 @@
-use Rattle.std.proofs.Common.{◌≡◌, ◌≤◌, ℕ, refl, sym}
+use Rattle.std.proofs.Common.{refl}
 use Rattle.mk_choice.proofs.RowLemmas.{are_bounds, none_at, nothing_said}
 use Rattle.mk_choice.proofs.bounds.bounds_of.Goals as goal
 

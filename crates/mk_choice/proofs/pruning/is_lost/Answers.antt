@@ -1,5 +1,4 @@
-use Rattle.std.proofs.Common.{◌≡◌, ◌<◌, ◌+◌, get_or, length, refl, sym, ◌∙◌, arith}
-use Rattle.std.specs.Prelude.{slice_index}
+use Rattle.std.proofs.Common.{◌<◌, ◌+◌, get_or, length, refl, sym, ◌∙◌, arith}
 use Rattle.std.proofs.lemmas.Option.{slice_get-get_or, slice_get_read}
 use Rattle.mk_model.specs.declared.query.Count.{Count}
 use Rattle.mk_logic.specs.Counts.{filled_at, sites_at}
@@ -25,11 +24,11 @@ returns c = λ asked most slots bounds ahead.
     let filled = filled_is c.args.query.now c.args.counts.now c.args.i (get_or c.args.counts.now c.args.i no_sites) count in
     let opens = ahead.sites c.args.i c.requires.within in
     let stands : 0 < sites_at c.args.counts.now (c.args.i + 1) + open_sites slots (c.args.i + 1) =
-        elim c.else-count-eq0.branch [
-          | else-count-eq0-via-then-count-eq0+else-ahead-i-eq0 w ↦ omega (arith, opens, w.if-ahead-i-eq0.false)
-          | else-count-eq0-via-else-count-eq0 w ↦ omega (arith, sites, w.if-count-eq0.false)
-        ] in
+    elim c.else-count-eq0.branch [
+      | else-count-eq0-via-then-count-eq0+else-ahead-i-eq0 w ↦ omega (arith, opens, w.if-ahead-i-eq0.false)
+      | else-count-eq0-via-else-count-eq0 w ↦ omega (arith, sites, w.if-count-eq0.false)
+    ] in
     let missed : Misses c.index-groups-i.result.range (filled_at c.args.counts.now (c.args.i + 1)) (most_filled (bound_in most) slots (c.args.i + 1)) =
-        rw (filled, sym (ahead.filled c.args.i c.requires.within)) (rw (list, sym here) at (c.if-not-misses.ensures refl)) in
+    rw (filled, sym (ahead.filled c.args.i c.requires.within)) (rw (list, sym here) at (c.if-not-misses.ensures refl)) in
     lost c.args.query.now c.args.counts.now slots (c.args.i + 1) c.index-groups-i.result (group_at c.args.query.now c.args.counts.now c.args.i c.index-groups-i.result group) stands
     (asked_found c.args.query.now c.args.counts.now (c.args.i + 1) (rw list at (sym c.is_asked.ensures ∙ asked))) most bounds (omega (arith, c.requires.within)) missed

@@ -54,7 +54,7 @@ search-loop-above-preserved t c =
 pub search-try_number-requires : goal.search-try_number-requires
 search-try_number-requires t c =
     let leaves : LeavesRoom c.args.query.now (c.in-Some.slot ∷ open_slots c.in-Some.behind) c.args.k =
-        subst (λ (slots : List Slot). LeavesRoom c.args.query.now slots c.args.k) c.in-Some.ensures.some c.requires.leaves in
+    subst (λ (slots : List Slot). LeavesRoom c.args.query.now slots c.args.k) c.in-Some.ensures.some c.requires.leaves in
     let known = rw c.in-Some.ensures.some at c.requires.known in
     let ahead = c.without_first-left.ensures.ahead (open_slots c.in-Some.behind) (rw c.in-Some.ensures.some at c.requires.ahead) in
     let most = rw c.most_at-greatest.ensures at c.loop-above-test.true in

@@ -1,7 +1,7 @@
-use Rattle.std.proofs.Common.{◌≡◌, ◌+◌, ◌∷◌, ◌++◌, [], List, ℕ, replicate, sym, ap, ◌∙◌, refl, subst, arith}
+use Rattle.std.proofs.Common.{◌≡◌, ◌+◌, ◌∷◌, ◌++◌, [], List, ℕ, replicate, ap, ◌∙◌, subst, arith}
 use Rattle.std.proofs.lemmas.List.{replicate-append-replicate}
 use Rattle.mk_model.specs.declared.group.Group.{Group}
-use Rattle.mk_model.proofs.OnLiterals.{group, plain_group, range, single, two_sites}
+use Rattle.mk_model.proofs.OnLiterals.{group, plain_group, range}
 use Rattle.mk_choice.proofs.ExampleFits.{fits_so}
 use Rattle.mk_choice.proofs.tests.then_query.Goals as goal
 
