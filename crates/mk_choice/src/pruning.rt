@@ -1,5 +1,5 @@
 // Whether nothing that is chosen further is allowed.
-ghost use Rattle.std.specs.Prelude.{◌≡◌, ◌≤◌, ◌<◌, IsTrue};
+ghost use Rattle.std.specs.Prelude.{◌≡◌, ◌≤◌, ◌<◌, ◌+◌, nat_lt, IsTrue};
 ghost use Rattle.std.specs.List.{list_all};
 ghost use Rattle.mk_choice.specs.Ahead.{HasRows, IsLost};
 ghost use Rattle.mk_choice.specs.Bounds.{Misses, lies_apart};
@@ -31,7 +31,7 @@ fn is_lost(query: &Query, counts: &[Count], ahead: &Ahead, i: usize) -> bool
     ensures { IsTrue result → IsLost query.now counts.now ahead.now }
 {
     let count = counts[i];
-    if count.sites == 0 && ahead.sites[i] == 0 {
+    if !stands(count.sites, ahead.sites[i]) {
         return false;
     }
     let groups = query.groups();
@@ -39,6 +39,13 @@ fn is_lost(query: &Query, counts: &[Count], ahead: &Ahead, i: usize) -> bool
         return false;
     }
     is_asked(groups, counts, i as u8 + 1)
+}
+
+// A site of a group stands, or is open and will stand.
+fn stands(standing: u32, ahead: u32) -> bool
+    ensures { result ≡ nat_lt 0 (standing + ahead) }
+{
+    standing > 0 || ahead > 0
 }
 
 // Each interval ends below the first number, or begins above it and the second together; where the second is above 512, nothing is

@@ -1,4 +1,5 @@
 use Rattle.std.proofs.Common.{◌<◌, ◌+◌, get_or, length, refl, sym, ◌∙◌, arith}
+use Rattle.std.proofs.lemmas.Bool.Decides.{nat_tests}
 use Rattle.std.proofs.lemmas.Option.{slice_get-get_or, slice_get_read}
 use Rattle.mk_model.specs.declared.query.Count.{Count}
 use Rattle.mk_logic.specs.Counts.{filled_at, sites_at}
@@ -7,7 +8,6 @@ use Rattle.mk_choice.specs.Ahead.{open_sites}
 use Rattle.mk_choice.specs.Bounds.{Misses, bound_in, most_filled}
 use Rattle.mk_choice.proofs.LostLemmas.{lost}
 use Rattle.mk_choice.proofs.pruning.is_lost.Goals as goal
-use Rattle.mk_choice.proofs.pruning.is_lost.Goals.{else-count-eq0-via-else-count-eq0, else-count-eq0-via-then-count-eq0+else-ahead-i-eq0}
 
 -- what is read behind the end
 abbrev no_sites : Count
@@ -24,10 +24,7 @@ returns c = λ asked most slots bounds ahead.
     let filled = filled_is c.args.query.now c.args.counts.now c.args.i (get_or c.args.counts.now c.args.i no_sites) count in
     let opens = ahead.sites c.args.i c.requires.within in
     let stands : 0 < sites_at c.args.counts.now (c.args.i + 1) + open_sites slots (c.args.i + 1) =
-    elim c.else-count-eq0.branch [
-      | else-count-eq0-via-then-count-eq0+else-ahead-i-eq0 w ↦ omega (arith, opens, w.if-ahead-i-eq0.false)
-      | else-count-eq0-via-else-count-eq0 w ↦ omega (arith, sites, w.if-count-eq0.false)
-    ] in
+    (let test = sym (c.if-not-stands.ensures) in grind (arith, nat_tests, sites, opens)) in
     let missed : Misses c.index-groups-i.result.range (filled_at c.args.counts.now (c.args.i + 1)) (most_filled (bound_in most) slots (c.args.i + 1)) =
     rw (filled, sym (ahead.filled c.args.i c.requires.within)) (rw (list, sym here) at (c.if-not-misses.ensures refl)) in
     lost c.args.query.now c.args.counts.now slots (c.args.i + 1) c.index-groups-i.result (group_at c.args.query.now c.args.counts.now c.args.i c.index-groups-i.result group) stands
