@@ -10,7 +10,7 @@ use Rattle.std.proofs.lemmas.List.Sums.{count_by-le-length, sum_by-append, sum_b
 use Rattle.mk_model.specs.declared.template.Slot.{Slot}
 use Rattle.mk_model.specs.declared.template.Slot.TheVariants.{Link, Site}
 use Rattle.mk_model.specs.Labels.{bears_label}
-use Rattle.mk_choice.specs.declared.ahead.Ahead.{Ahead}
+use Rattle.mk_choice.specs.declared.pending.Ahead.{Ahead}
 use Rattle.mk_choice.specs.Ahead.{IsAhead, open_sites}
 use Rattle.mk_choice.specs.Bounds.{bound_in, most_filled, most_filled_at}
 

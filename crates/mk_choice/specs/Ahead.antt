@@ -8,7 +8,7 @@ use Rattle.mk_model.specs.declared.template.Slot.{Slot}
 use Rattle.mk_model.specs.declared.query.Count.{Count}
 use Rattle.mk_model.specs.Queries.{QueryView}
 use Rattle.mk_model.specs.Labels.{bears_label}
-use Rattle.mk_choice.specs.declared.ahead.Ahead.{Ahead}
+use Rattle.mk_choice.specs.declared.pending.Ahead.{Ahead}
 use Rattle.mk_choice.specs.Bounds.{AreBounds, bound_in, most_filled}
 use Rattle.mk_choice.specs.Search.{CantComplete}
 

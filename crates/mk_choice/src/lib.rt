@@ -10,13 +10,12 @@
 //! aren't known here.
 #![tactic(auto)]
 
-mod ahead;
 mod bounds;
 mod codes;
 mod fronts;
 mod laws;
-mod looking;
 mod numbers;
+mod outlook;
 mod pending;
 mod pruning;
 mod search;

@@ -5,7 +5,7 @@ ghost use Rattle.mk_choice.specs.Ahead.{HasRows, IsLost};
 ghost use Rattle.mk_choice.specs.Bounds.{Misses, lies_apart};
 ghost use Rattle.mk_choice.specs.Search.{AreCounts};
 
-use crate::ahead::Ahead;
+use crate::pending::Ahead;
 use mk_logic::{ends_below, is_asked};
 use mk_model::{Count, Query, Range};
 

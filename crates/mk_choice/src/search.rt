@@ -10,11 +10,10 @@ ghost use Rattle.mk_choice.specs.Ahead.{HasRows, IsAhead};
 ghost use Rattle.mk_choice.specs.Pending.{open_slots};
 ghost use Rattle.mk_choice.specs.Search.{AreCounts, Completes, CompletesWith, IsKnown, LeavesRoom};
 
-use crate::ahead::Ahead;
 use crate::fronts::{below_first, rest_after};
-use crate::looking::{nothing_ahead, with_slots, without_first};
 use crate::numbers::{counted, first, most_at, no_counts, opened, slots_of};
-use crate::pending::Pending;
+use crate::outlook::{nothing_ahead, with_slots, without_first};
+use crate::pending::{Ahead, Pending};
 use crate::pruning::cant_complete;
 use mk_logic::allowed;
 use mk_model::{Count, Query, Slot};

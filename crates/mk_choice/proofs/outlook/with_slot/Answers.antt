@@ -1,6 +1,6 @@
 use Rattle.mk_choice.proofs.AheadLemmas.{site_ahead}
 use Rattle.mk_choice.proofs.SlotLemmas.{known_site}
-use Rattle.mk_choice.proofs.looking.with_slot.Goals as goal
+use Rattle.mk_choice.proofs.outlook.with_slot.Goals as goal
 
 pub returns-clause-ahead : goal.returns-clause-ahead
 returns-clause-ahead c = λ slots few is.

@@ -1,7 +1,7 @@
 use Rattle.std.proofs.Common.{◌≤◌, ◌++◌, List, length, take}
 use Rattle.mk_model.specs.declared.template.Slot.{Slot}
 use Rattle.mk_choice.specs.Ahead.{HasRows, IsAhead}
-use Rattle.mk_choice.proofs.looking.with_slots.Given as goal
+use Rattle.mk_choice.proofs.outlook.with_slots.Given as goal
 
 abbrev pub invariant-loop-slot : goal.invariant-loop-slot
 invariant-loop-slot l = record {

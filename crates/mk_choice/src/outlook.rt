@@ -4,7 +4,7 @@ ghost use Rattle.mk_model.specs.declared.template.Slot.{Slot};
 ghost use Rattle.mk_choice.specs.Ahead.{HasRows, IsAhead};
 ghost use Rattle.mk_choice.specs.Search.{IsKnown};
 
-use crate::ahead::Ahead;
+use crate::pending::Ahead;
 use mk_model::Slot;
 
 /// What no slots add.
