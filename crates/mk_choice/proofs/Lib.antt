@@ -1,0 +1,12 @@
+pub mod FrontLemmas
+pub mod SlotLemmas
+pub mod CountLemmas
+pub mod SearchLemmas
+pub mod ValidLemmas
+pub mod CodesLemmas
+pub mod BoundLemmas
+pub mod RowLemmas
+pub mod LostLemmas
+pub mod AheadLemmas
+pub mod ExampleFits
+pub mod OnLiterals

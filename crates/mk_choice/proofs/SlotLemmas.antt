@@ -1,0 +1,117 @@
+-- The open slots: they are known, something can be chosen at them, and it has room.
+--     slots_known         the slots of a template are known
+--     room_left           where a slot is left there is room for a number
+--     leaves_more         behind one number more there is room too
+--     few_open            at most 512 slots are open
+use Rattle.std.proofs.Common.{◌≡◌, ℕ, suc, ◌+◌, ◌<◌, ◌≤◌, false, List, [], ◌∷◌, ◌++◌, length, get_or, length-append, Option, Some, None, refl, subst, arith, All, true}
+use Rattle.std.specs.Prelude.{◌==◌, slice_get}
+use Rattle.std.proofs.lemmas.Bool.Decides.{nat_tests}
+use Rattle.std.proofs.lemmas.List.Elements.{All-append}
+use Rattle.mk_model.specs.declared.template.Slot.{Slot}
+use Rattle.mk_model.specs.declared.template.Slot.TheVariants.{Link, Site}
+use Rattle.mk_model.specs.Templates.{TemplateView}
+use Rattle.mk_model.specs.Queries.{QueryView, slots_of}
+use Rattle.mk_model.specs.Labels.{is_filled_by, members_at}
+use Rattle.mk_model.specs.QueryFits.{QueryFits, IsInRange, IsSlotOf}
+use Rattle.mk_model.specs.OpenSlots.{most_at, opened, Chooses}
+use Rattle.mk_model.proofs.ForCallers.{all_at, at_place}
+use Rattle.mk_model.specs.declared.query.Count.{Count}
+use Rattle.mk_choice.specs.Search.{AreCounts, IsKnown, LeavesRoom}
+
+-- ---- known slots
+
+slot_known : (template : TemplateView) (slot : Slot) → IsSlotOf template slot → IsKnown slot
+slot_known template (Link atom most from to) is = omega (arith, is.1.twice)
+slot_known template (Site atom group first second) is = is.1 group (let same : (group == group) ≡ true = grind (arith, nat_tests) in same)
+
+-- no slots
+none_known : All IsKnown []
+none_known = λ k d below. absurd (omega arith)
+
+-- the slots of a template
+pub slots_known : (query : QueryView) → QueryFits query → (t : ℕ) → All IsKnown (slots_of query t)
+slots_known query fits t = by_template (slice_get query.templates t) refl
+  where
+    by_template : (o : Option TemplateView) → slice_get query.templates t ≡ o → All IsKnown (slots_of query t)
+    by_template None e = rw e none_known
+    by_template (Some template) e =
+        let in_range : IsInRange template = all_at IsInRange query.templates t template fits.in_range.templates e in
+        rw e (λ k d below. slot_known template (get_or template.slots k d) (in_range.slots k d below))
+
+-- the slots of a template at its place
+pub slots_at : (query : QueryView) (t : ℕ) (d : TemplateView) → t < length query.templates → slots_of query t ≡ (get_or query.templates t d).slots
+slots_at query t d below = rw (at_place query.templates t d below) refl
+
+-- the label of a site
+pub known_site : (slot : Slot) (atom group first second : ℕ) → slot ≡ Site atom group first second → IsKnown slot → 1 ≤ group
+known_site slot atom group first second is known = (let site : IsKnown (Site atom group first second) = subst IsKnown is known in site.0)
+
+-- the first of some, and the others
+pub known_first : (slot : Slot) (slots : List Slot) → All IsKnown (slot ∷ slots) → IsKnown slot
+known_first slot slots known = known 0 slot (omega arith)
+
+pub known_others : (slot : Slot) (slots : List Slot) → All IsKnown (slot ∷ slots) → All IsKnown slots
+known_others slot slots known = λ k d below. known (suc k) d (omega arith)
+
+-- what a number opens, in front of the others
+pub known_next : (slot : Slot) (slots inside : List Slot) → All IsKnown inside → All IsKnown (slot ∷ slots) → All IsKnown (inside ++ slots)
+known_next slot slots inside opens known = All-append IsKnown inside slots opens (known_others slot slots known)
+
+-- ---- something can be chosen
+
+-- the greatest number at a site opens nothing
+opens_none : (query : QueryView) (slot : Slot) → is_filled_by query slot (length (members_at query slot) + 1) ≡ false
+opens_none query slot = grind (arith, nat_tests)
+
+pub some_code : (query : QueryView) (slots : List Slot) → All IsKnown slots → (code : List ℕ) × Chooses query slots code
+some_code query [] known = ([], tt)
+some_code query (Link atom most from to ∷ slots) known =
+    let others = some_code query slots (known_others _ slots known) in
+    (1 ∷ others.0, (omega arith, known_first (Link atom most from to) slots known, others.1))
+some_code query (Site atom group first second ∷ slots) known =
+    let others = some_code query slots (known_others _ slots known) in
+    ((length ((members_at query (Site atom group first second))) + 1) ∷ others.0, (omega arith, omega arith, rw (opens_none query (Site atom group first second)) others.1))
+
+-- ---- room
+
+-- where nothing is left, there was room for all
+pub room_enough : (query : QueryView) (k : ℕ) → LeavesRoom query [] k → k ≤ 512
+room_enough query k leaves = omega (arith, leaves [] tt)
+
+-- where a slot is left there is room for a number
+pub room_left : (query : QueryView) (slot : Slot) (slots : List Slot) (k : ℕ) → All IsKnown (slot ∷ slots) → LeavesRoom query (slot ∷ slots) k → k < 512
+room_left query slot slots k known leaves = (let code = some_code query (slot ∷ slots) known in by_code code.0 code.1)
+  where
+    by_code : (code : List ℕ) → Chooses query (slot ∷ slots) code → k < 512
+    by_code [] chooses = absurd chooses
+    by_code (number ∷ code) chooses = omega (arith, leaves (number ∷ code) chooses)
+
+-- behind one number more there is room too
+pub leaves_more : (query : QueryView) (slot : Slot) (slots : List Slot) (k number : ℕ) → 1 ≤ number → number ≤ most_at query slot → LeavesRoom query (slot ∷ slots) k → LeavesRoom query (opened query slot number ++ slots) (k + 1)
+leaves_more query slot slots k number least most leaves others chooses = omega (arith, leaves (number ∷ others) (least, most, chooses))
+
+-- counts that are at most so many are at most more
+pub counts_grow : (k n : ℕ) (counts : List Count) → k ≤ n → AreCounts k counts → AreCounts n counts
+counts_grow k n counts more are = record {
+  all = are.all;
+  few = λ i d below. (let few = are.few i d below in (omega (arith, more, few.0), omega (arith, more, few.1)));
+}
+
+-- whatever is open, so many numbers have room
+pub room_any : (query : QueryView) (slots : List Slot) (k : ℕ) → All IsKnown slots → LeavesRoom query slots k → k ≤ 512
+room_any query slots k known leaves = (let code = some_code query slots known in omega (arith, leaves code.0 code.1))
+
+-- ---- how many slots are open
+
+-- each slot takes a number
+pub a_number_each : (query : QueryView) (slots : List Slot) (code : List ℕ) → Chooses query slots code → length slots ≤ length code
+a_number_each query [] code chooses = omega arith
+a_number_each query (slot ∷ slots) [] chooses = absurd chooses
+a_number_each query (slot ∷ slots) (k ∷ code) chooses =
+    omega (arith, a_number_each query (opened query slot k ++ slots) code chooses.2, length-append (opened query slot k) slots)
+
+-- so no more slots are open than there is room
+pub few_open : (query : QueryView) (slots : List Slot) (k : ℕ) → All IsKnown slots → LeavesRoom query slots k → length slots ≤ 512
+few_open query slots k known leaves =
+    let code = some_code query slots known in
+    omega (arith, leaves code.0 code.1, a_number_each query slots code.0 code.1)

@@ -1,0 +1,13 @@
+-- What lending a code leaves.
+use Rattle.std.specs.Prelude.{[], ⊤}
+use Rattle.std.specs.Borrow.{Fml, MutBor, follows_so}
+use mathlib.Core.Option.{none}
+use mir.Syntax.{named}
+use Rattle.mk_choice.specs.Codes.{CodesLeft}
+use Rattle.mk_choice.specs.contracts.codes.Codes.{the_row}
+
+-- the lender ends at a value of which P holds
+abbrev pub Ends : MutBor CodesLeft → (CodesLeft → Type 0) → Fml
+Ends s P =
+    let lender = the_row (record { mir = named 1; lft = [] }) in
+    follows_so lender lender s.ghost_name none (λ _ _. ⊤) P

@@ -1,0 +1,7 @@
+pub mod Fronts
+pub mod Pending
+pub mod Search
+pub mod Bounds
+pub mod Ahead
+pub mod Codes
+pub mod Lending

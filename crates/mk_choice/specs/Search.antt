@@ -1,0 +1,58 @@
+-- For the code: what a search for codes keeps for the numbers chosen so far.
+--     IsKnown slot                    a slot as queries have them
+--     Completes query counts slots others    the others choose at the open slots, and make the counts allowed
+--     CompletesWith query counts slots number others    a number and the others behind it do
+--     CantComplete query counts slots        nothing does
+--     AreCounts k counts              the counts of 32 groups, each at most k
+--     AreNone counts                  counts of nothing
+--     LeavesRoom query slots k        what can be chosen at the open slots has room behind k numbers
+use Rattle.std.specs.Prelude.{◌≡◌, ◌≤◌, ◌+◌, ℕ, List, ◌∷◌, length, All}
+use Rattle.mk_model.specs.declared.query.Count.{Count}
+use Rattle.mk_model.specs.declared.template.Slot.{Slot}
+use Rattle.mk_model.specs.declared.template.Slot.TheVariants.{Link, Site}
+use Rattle.mk_model.specs.Queries.{QueryView}
+use Rattle.mk_model.specs.Logic.{IsAllowed, Standing, sites_of, filled_of}
+use Rattle.mk_model.specs.OpenSlots.{Chooses, standing_by}
+use Rattle.mk_logic.specs.Counts.{filled_at, sites_at}
+
+-- a link may stand once, and a site bears the label of one of 32 groups
+abbrev pub IsKnown : Slot → Type 0
+IsKnown (Link atom most from to) = 1 ≤ most
+IsKnown (Site atom group first second) = (1 ≤ group) × (group ≤ 32)
+
+-- the sites of group g that are counted, and those among some more
+abbrev pub sites_with : List Count → List Standing → ℕ → ℕ
+sites_with counts more g = sites_at counts g + sites_of more g
+
+-- the filled sites of group g that are counted, and those among some more
+abbrev pub filled_with : QueryView → List Count → List Standing → ℕ → ℕ
+filled_with query counts more g = filled_at counts g + filled_of query more g
+
+-- the numbers choose at the open slots, and together with the sites that stand there the counts are allowed
+pub record Completes (query : QueryView) (counts : List Count) (slots : List Slot) (others : List ℕ) : Type 0 where
+  pub chooses : Chooses query slots others
+  pub logic :
+      let more = standing_by query slots others in
+      IsAllowed query (sites_with counts more) (filled_with query counts more)
+
+-- the number does, with the others behind it
+abbrev pub CompletesWith : QueryView → List Count → List Slot → ℕ → List ℕ → Type 0
+CompletesWith query counts slots number others = Completes query counts slots (number ∷ others)
+
+-- nothing that is chosen at the open slots makes the counts allowed
+abbrev pub CantComplete : QueryView → List Count → List Slot → Type 0
+CantComplete query counts slots = (others : List ℕ) → Completes query counts slots others → ⊥
+
+-- the counts of the groups from 1 to 32, none above k
+pub record AreCounts (k : ℕ) (counts : List Count) : Type 0 where
+  pub all : length counts ≡ 32
+  pub few : All (λ count. (count.sites ≤ k) × (count.filled ≤ k)) counts
+
+-- counts of nothing
+pub record AreNone (counts : List Count) : Type 0 where
+  pub sites : (g : ℕ) → sites_at counts g ≡ 0
+  pub filled : (g : ℕ) → filled_at counts g ≡ 0
+
+-- what can be chosen at the open slots has room behind k numbers: all together are at most 512
+abbrev pub LeavesRoom : QueryView → List Slot → ℕ → Type 0
+LeavesRoom query slots k = (others : List ℕ) → Chooses query slots others → k + length others ≤ 512

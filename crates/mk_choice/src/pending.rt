@@ -1,0 +1,16 @@
+// What is still to be chosen, and what that can add.
+use mk_model::Slot;
+
+/// Slots of a template that are open, and behind them those of the templates around it.
+#[derive(Clone, Copy)]
+pub enum Pending<'a> {
+    Nothing,
+    Slots(&'a [Slot], &'a Pending<'a>),
+}
+
+/// For each group from 1 on how many of the open slots are its sites, and how often it can be filled there at most.
+#[derive(Clone, Copy)]
+pub struct Ahead {
+    pub sites: [u32; 32],
+    pub filled: [u32; 32],
+}
