@@ -1,0 +1,65 @@
+-- Rows by rising number.
+--     Rows T                       what is seen of a `ByNumber`: its rows, and how many more it has room for
+--     IsRising rows                each number is below all later ones
+--     holds n rows                 some row has the number
+--     item_at n rows               the item under the number
+--     put_in_order row rows        the rows with a further one
+--     replaced row rows            the rows with this one in place of that of its number
+--     without n rows               the rows of another number
+--     IsLeastFrom from rows n      the number is the least that is held, from there on
+--     NoneFrom from rows           from there on none is held
+-- What follows serves code alone:
+--     place_of n rows              how many rows are below a number
+use Rattle.std.specs.Prelude.{◌≡◌, ℕ, ◌+◌, ◌<◌, ◌≤◌, nat_eq, nat_lt, Bool, true, false, not, if◌then◌else◌, List, [], ◌∷◌, filter, Option, Some, None, ⊤}
+use Rattle.std.specs.List.{AllByRecursion, list_any}
+use Rattle.mk_index.specs.declared.by_number.Numbered.{Numbered}
+
+-- what is seen of a `ByNumber`
+pub record Rows (T : Type 0) : Type 0 where
+  pub rows : List (Numbered T)
+  pub spare : ℕ
+
+-- each number is below all later ones
+abbrev pub IsRising : {T : Type 0} → List (Numbered T) → Type 0
+IsRising [] = ⊤
+IsRising (row ∷ rows) = AllByRecursion (λ later. row.number < later.number) rows × IsRising rows
+
+-- some row has the number
+abbrev pub holds : {T : Type 0} → ℕ → List (Numbered T) → Bool
+holds n rows = list_any (λ row. nat_eq row.number n) rows
+
+-- the item under the number, if it is held
+abbrev pub item_at : {T : Type 0} → ℕ → List (Numbered T) → Option T
+item_at n [] = None
+item_at n (row ∷ rows) = if nat_eq row.number n then Some row.item else item_at n rows
+
+-- the row stands before the first of a greater number, or behind all
+abbrev pub put_in_order : {T : Type 0} → Numbered T → List (Numbered T) → List (Numbered T)
+put_in_order row [] = row ∷ []
+put_in_order row (x ∷ rows) = if nat_lt row.number x.number then row ∷ x ∷ rows else x ∷ put_in_order row rows
+
+-- the row stands in place of the first of its number
+abbrev pub replaced : {T : Type 0} → Numbered T → List (Numbered T) → List (Numbered T)
+replaced row [] = []
+replaced row (x ∷ rows) = if nat_eq x.number row.number then row ∷ rows else x ∷ replaced row rows
+
+-- the rows of another number
+abbrev pub without : {T : Type 0} → ℕ → List (Numbered T) → List (Numbered T)
+without n rows = filter (λ row. not (nat_eq row.number n)) rows
+
+-- the number is held and not below `from`, and so is none below it
+pub record IsLeastFrom {T : Type 0} (from : ℕ) (rows : List (Numbered T)) (n : ℕ) : Type 0 where
+  pub held : holds n rows ≡ true
+  pub not_below : from ≤ n
+  pub least : (other : ℕ) → from ≤ other → holds other rows ≡ true → n ≤ other
+
+-- no number is held from there on
+abbrev pub NoneFrom : {T : Type 0} → ℕ → List (Numbered T) → Type 0
+NoneFrom from rows = (n : ℕ) → from ≤ n → holds n rows ≡ false
+
+-- ---- for the code
+
+-- how many rows stand before the first that isn't below the number
+abbrev pub place_of : {T : Type 0} → ℕ → List (Numbered T) → ℕ
+place_of n [] = 0
+place_of n (x ∷ rows) = if nat_lt x.number n then place_of n rows + 1 else 0
