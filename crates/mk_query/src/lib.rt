@@ -12,9 +12,7 @@ mod bond_checks;
 mod checking;
 mod property_checks;
 mod table_faults;
-#[cfg(test)]
-mod tests;
 
-pub use checking::first_fault;
+
 pub use mk_text::Memory;
 pub use table_faults::Fault;
