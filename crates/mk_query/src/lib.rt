@@ -12,7 +12,10 @@ mod bond_checks;
 mod checking;
 mod property_checks;
 mod table_faults;
-
+#[cfg(test)]
+mod tests;
+mod values;
 
 pub use mk_text::Memory;
 pub use table_faults::Fault;
+pub use values::{ValueKind, last_values};
