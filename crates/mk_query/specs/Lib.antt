@@ -5,5 +5,6 @@ pub mod Drawn
 pub mod FirstFault
 pub mod LastValues
 pub mod LinkChecks
+pub mod LogicSearch
 pub mod Searches
 pub mod SiteChecks

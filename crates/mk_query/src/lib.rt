@@ -10,6 +10,7 @@
 mod atom_checks;
 mod bond_checks;
 mod checking;
+mod logic_lines;
 mod property_checks;
 mod table_faults;
 #[cfg(test)]
