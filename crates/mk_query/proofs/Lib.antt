@@ -1,2 +1,5 @@
 pub mod AtomLemmas
 pub mod BondLemmas
+pub mod MarkLemmas
+pub mod NearLemmas
+pub mod SiteLemmas

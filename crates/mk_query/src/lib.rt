@@ -10,9 +10,12 @@
 mod atom_checks;
 mod bond_checks;
 mod checking;
+mod drawn;
+mod near;
 mod property_checks;
 mod table_faults;
-
+#[cfg(test)]
+mod tests;
 
 pub use mk_text::Memory;
 pub use table_faults::Fault;
