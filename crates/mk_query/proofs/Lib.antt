@@ -3,3 +3,4 @@ pub mod BondLemmas
 pub mod MarkLemmas
 pub mod NearLemmas
 pub mod SiteLemmas
+pub mod ValueLemmas

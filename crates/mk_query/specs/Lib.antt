@@ -3,6 +3,7 @@ pub mod CompileFaults
 pub mod Compiled
 pub mod Drawn
 pub mod FirstFault
+pub mod LastValues
 pub mod LinkChecks
 pub mod Marks
 pub mod Searches

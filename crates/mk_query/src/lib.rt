@@ -16,6 +16,8 @@ mod property_checks;
 mod table_faults;
 #[cfg(test)]
 mod tests;
+mod values;
 
 pub use mk_text::Memory;
 pub use table_faults::Fault;
+pub use values::{ValueKind, last_values};
