@@ -1,5 +1,9 @@
 pub mod AtomLemmas
 pub mod BondLemmas
+pub mod MarkLemmas
+pub mod NearLemmas
+pub mod SiteLemmas
 pub mod ValueLemmas
 pub mod LogicLemmas
 pub mod NumberedLemmas
+pub mod LinkMarkLemmas

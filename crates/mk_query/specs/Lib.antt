@@ -5,6 +5,8 @@ pub mod Drawn
 pub mod FirstFault
 pub mod LastValues
 pub mod LinkChecks
+pub mod LinkMarks
 pub mod LogicSearch
+pub mod Marks
 pub mod Searches
 pub mod SiteChecks

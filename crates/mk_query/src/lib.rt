@@ -10,7 +10,11 @@
 mod atom_checks;
 mod bond_checks;
 mod checking;
+mod drawn;
+mod linked;
+mod linked_atoms;
 mod logic_lines;
+mod near;
 mod property_checks;
 mod table_faults;
 #[cfg(test)]

@@ -175,7 +175,7 @@ fn fault_of(alloc: Global, text: &str) -> Result<Fault, Fail> {
     let spans = lines(alloc, text.as_bytes())?;
     match read_table(alloc, text.as_bytes(), &spans, 0) {
         Ok((table, _)) if table.props.as_slice().len() < 100 => {
-            match first_fault(alloc, &table)? {
+            match first_fault(alloc, &[], true, &table)? {
                 Some(fault) => Ok(fault),
                 None => Ok(Fault { check: 0, item: 0 }),
             }
