@@ -7,3 +7,5 @@ pub mod ValueLemmas
 pub mod LogicLemmas
 pub mod NumberedLemmas
 pub mod LinkMarkLemmas
+pub mod PointLemmas
+pub mod StandingLemmas

@@ -8,5 +8,7 @@ pub mod LinkChecks
 pub mod LinkMarks
 pub mod LogicSearch
 pub mod Marks
+pub mod PointSearch
 pub mod Searches
 pub mod SiteChecks
+pub mod Standings

@@ -15,7 +15,10 @@ mod linked;
 mod linked_atoms;
 mod logic_lines;
 mod near;
+mod points;
 mod property_checks;
+mod standing;
+mod standing_atoms;
 mod table_faults;
 #[cfg(test)]
 mod tests;
