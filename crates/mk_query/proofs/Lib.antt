@@ -9,3 +9,5 @@ pub mod NumberedLemmas
 pub mod LinkMarkLemmas
 pub mod PointLemmas
 pub mod StandingLemmas
+pub mod FollowLemmas
+pub mod BlockSearchLemmas

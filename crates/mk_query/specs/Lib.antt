@@ -1,3 +1,4 @@
+pub mod BlockSearch
 pub mod Checks
 pub mod CompileFaults
 pub mod Compiled

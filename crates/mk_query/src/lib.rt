@@ -8,9 +8,12 @@
 #![tactic(auto)]
 
 mod atom_checks;
+mod blocks;
 mod bond_checks;
 mod checking;
 mod drawn;
+mod drawn_bonds;
+mod link_ends;
 mod linked;
 mod linked_atoms;
 mod logic_lines;
