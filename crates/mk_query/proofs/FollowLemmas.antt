@@ -18,7 +18,8 @@ use Rattle.mk_query.specs.BlockSearch.{AreNumbersOf, IsLed, IsLonger, IsReached,
 
 -- ---- bonds and their numbers
 
-edge_at : (bonds : List QueryBond) (b : ℕ) (d : QueryBond) → b < length bonds → get_or (query_edges bonds) b (query_edge d) ≡ query_edge (get_or bonds b d)
+-- the edge of a bond
+pub edge_at : (bonds : List QueryBond) (b : ℕ) (d : QueryBond) → b < length bonds → get_or (query_edges bonds) b (query_edge d) ≡ query_edge (get_or bonds b d)
 edge_at bonds b d below = get_or-map query_edge bonds b d (query_edge d) below
 
 -- a bond that touches y has it at an end

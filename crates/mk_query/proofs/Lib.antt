@@ -11,3 +11,4 @@ pub mod PointLemmas
 pub mod StandingLemmas
 pub mod FollowLemmas
 pub mod BlockSearchLemmas
+pub mod LinkLemmas

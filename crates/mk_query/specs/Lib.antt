@@ -7,6 +7,7 @@ pub mod FirstFault
 pub mod LastValues
 pub mod LinkChecks
 pub mod LinkMarks
+pub mod LinkSearch
 pub mod LogicSearch
 pub mod Marks
 pub mod PointSearch

@@ -3,11 +3,7 @@
 --     IsPointedBy is_root standing first second x      the demand on atom x, by the lowest atoms that bear point 1 and 2
 use Rattle.std.specs.Prelude.{◌≡◌, ◌≢◌, ◌≤◌, ◌<◌, ◌⊎◌, ℕ, Bool, true, false}
 use Rattle.mk_query.specs.declared.standing.Standing.{Standing}
-use Rattle.mk_query.specs.Standings.{HasPlace, bears, is_link, is_site}
-
--- so many atoms have a place
-abbrev pub HasEachPlace : Standing → ℕ → Type 0
-HasEachPlace standing atoms = (x : ℕ) → 1 ≤ x → x ≤ atoms → HasPlace standing x
+use Rattle.mk_query.specs.Standings.{bears, is_link, is_site}
 
 -- the lowest of so many atoms that bears point p, and 0 where none does
 pub record IsFirstBearer (standing : Standing) (p atoms lowest : ℕ) : Type 0 where

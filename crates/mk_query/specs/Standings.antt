@@ -1,6 +1,6 @@
 -- What the code knows of the atoms of a table: sites, attachment points and links. For the code alone.
 --     AreStanding table standing     it is that of the table
---     HasPlace standing x            x is one of the atoms
+--     HasPlace standing x            x is one of the atoms; HasEachPlace, so many of them
 --     is_site, is_link, bears        what is asked of atom x
 use Rattle.std.specs.Prelude.{◌≡◌, ◌≤◌, ◌-◌, ℕ, pos, Bool, false, length, map, slice_index_or}
 use Rattle.mk_ctab.specs.declared.raw.RawTable.{RawTable}
@@ -27,6 +27,10 @@ pub record HasPlace (standing : Standing) (x : ℕ) : Type 0 where
   pub of_sites : x ≤ length standing.sites.items
   pub of_points : x ≤ length standing.points.items
   pub of_links : x ≤ length standing.links.items
+
+-- so many atoms have a place
+abbrev pub HasEachPlace : Standing → ℕ → Type 0
+HasEachPlace standing atoms = (x : ℕ) → 1 ≤ x → x ≤ atoms → HasPlace standing x
 
 -- atom x is a site
 abbrev pub is_site : Standing → ℕ → Bool

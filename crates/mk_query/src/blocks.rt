@@ -6,8 +6,7 @@ ghost use Rattle.std.specs.Prelude.{◌≡◌, ◌≤◌, ◌<◌, ◌+◌, ◌-
 ghost use Rattle.mk_model.specs.Edges.{AreBetween, rows_of};
 ghost use Rattle.mk_model.specs.Templates.{hang_together, joins, query_edges};
 ghost use Rattle.mk_query.specs.BlockSearch.{AreNumbersOf, HasPlainBlock, IsLonger, IsReached, KeepReached, LeadsOn, MayHold, is_own, is_reached, others, unreached};
-ghost use Rattle.mk_query.specs.PointSearch.{HasEachPlace};
-ghost use Rattle.mk_query.specs.Standings.{HasPlace, bears, is_link, is_site};
+ghost use Rattle.mk_query.specs.Standings.{HasEachPlace, HasPlace, bears, is_link, is_site};
 
 use crate::drawn_bonds::joins;
 use crate::link_ends::LinkEnds;

@@ -16,6 +16,7 @@ mod drawn_bonds;
 mod link_ends;
 mod linked;
 mod linked_atoms;
+mod links;
 mod logic_lines;
 mod near;
 mod points;

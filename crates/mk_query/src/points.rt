@@ -2,8 +2,8 @@
 ghost use Rattle.std.specs.Prelude.{◌≡◌, ◌≢◌, ◌≤◌, ◌↔◌, false, true, IfOk, IsTrue, length};
 ghost use Rattle.mk_text.specs.Items.{FindsLeast};
 ghost use Rattle.mk_query.specs.LinkChecks.{HasPoint};
-ghost use Rattle.mk_query.specs.PointSearch.{HasEachPlace, IsFirstBearer, IsPointedBy};
-ghost use Rattle.mk_query.specs.Standings.{HasPlace, bears, is_link, is_site};
+ghost use Rattle.mk_query.specs.PointSearch.{IsFirstBearer, IsPointedBy};
+ghost use Rattle.mk_query.specs.Standings.{HasEachPlace, HasPlace, bears, is_link, is_site};
 
 use crate::standing::Standing;
 use crate::standing_atoms::{bears, is_link, is_site, standing_of};
