@@ -11,8 +11,9 @@ mod atom_checks;
 mod bond_checks;
 mod checking;
 mod drawn;
-mod near;
+mod marks;
 mod property_checks;
+mod sites;
 mod table_faults;
 #[cfg(test)]
 mod tests;
