@@ -2,6 +2,7 @@ pub mod AtomLemmas
 pub mod BondLemmas
 pub mod DemandLemmas
 pub mod LabelLemmas
+pub mod ListLemmas
 pub mod MarkLemmas
 pub mod NearLemmas
 pub mod SiteLemmas

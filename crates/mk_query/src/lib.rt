@@ -11,6 +11,7 @@ mod atom_checks;
 mod bond_checks;
 mod checking;
 mod drawn;
+mod lists;
 mod marks;
 mod property_checks;
 mod sites;
