@@ -5,5 +5,6 @@ pub mod LabelLemmas
 pub mod ListLemmas
 pub mod MarkLemmas
 pub mod NearLemmas
+pub mod OrderLemmas
 pub mod SiteLemmas
 pub mod ValueLemmas

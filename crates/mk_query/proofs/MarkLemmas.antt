@@ -1,10 +1,14 @@
 -- What is noted of each atom, one thing after the other.
-use Rattle.std.proofs.Common.{◌≡◌, ℕ, ◌+◌, ◌-◌, ◌<◌, ◌≤◌, true, false, cond, eqb, List, [], ◌∷◌, ◌++◌, length, get_or, replicate, set, take, refl, sym, ap, ◌∙◌, arith, ⊎_elim}
+use Rattle.std.proofs.Common.{◌≡◌, ℕ, ◌+◌, ◌-◌, ◌<◌, ◌≤◌, true, false, cond, eqb, List, [], ◌∷◌, ◌++◌, length, get_or, replicate, set, take, refl, sym, subst, ap, ◌∙◌, arith, ⊎_elim}
 use Rattle.std.proofs.lemmas.Bool.{cases_eq, eq-eqb, ne_eqb}
 use Rattle.std.proofs.lemmas.List.{append-nil, append_assoc, get_or-replicate, get_or-set_same, get_or-set_other, get_or_default, length-replicate, length-set, take_all, take_more}
 use Rattle.mk_query.specs.Marks.{AreMarks, AreMore, HasMore}
 
 -- ---- notes
+
+-- what is noted of an atom
+pub marks-at : {X : Type 0} (Is : ℕ → X → Type 0) (marks : List X) (n : ℕ) (d : X) → 1 ≤ n → n ≤ length marks → AreMarks Is marks → Is n (get_or marks (n - 1) d)
+marks-at Is marks n d least most are = (let place : n - 1 + 1 ≡ n = omega arith in subst (λ (x : ℕ). Is x (get_or marks (n - 1) d)) place (are (n - 1) d (omega arith)))
 
 -- a list of notes says nothing new where it is the same
 pub more-none : {V X : Type 0} (Is : List V → X → Type 0) (list : List X) → AreMore Is (λ x. []) list list

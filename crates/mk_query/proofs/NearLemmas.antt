@@ -1,8 +1,8 @@
 -- The neighbours of each atom, noted bond by bond.
-use Rattle.std.proofs.Common.{◌≡◌, ◌≢◌, ℕ, ◌+◌, ◌≤◌, Bool, true, false, cond, eqb, List, [], ◌∷◌, ◌++◌, length, refl, sym, ap, ◌∙◌, arith}
+use Rattle.std.proofs.Common.{◌≡◌, ◌≢◌, ℕ, Bool, true, false, cond, eqb, List, [], ◌∷◌, ◌++◌, refl, ap, ◌∙◌, arith}
 use Rattle.std.proofs.lemmas.Bool.{ne_eqb}
 use Rattle.std.proofs.lemmas.Bool.Decides.{nat_tests}
-use Rattle.std.proofs.lemmas.List.{length_push, map_push}
+use Rattle.std.proofs.lemmas.List.{map_push}
 use Rattle.mk_model.specs.declared.template.QueryBond.{QueryBond}
 use Rattle.mk_ctab.specs.declared.raw.RawBond.{RawBond}
 use Rattle.mk_query.specs.declared.marks.Near.{Near}

@@ -1,5 +1,5 @@
 -- Sites: what is noted of them, and where they stand.
-use Rattle.std.proofs.Common.{◌≡◌, ℕ, ◌+◌, ◌-◌, ◌<◌, ◌≤◌, Bool, true, false, not, ◌||◌, ◌&&◌, List, [], ◌∷◌, All, Option, Some, None, length, map, refl, sym, ap, subst, ◌∙◌, get_or, arith}
+use Rattle.std.proofs.Common.{◌≡◌, ℕ, ◌+◌, ◌-◌, ◌<◌, ◌≤◌, Bool, true, false, not, ◌||◌, List, [], ◌∷◌, All, Option, Some, None, length, map, refl, sym, ap, ◌∙◌, get_or, arith}
 use Rattle.std.specs.Option.{option_map, unwrap_or}
 use Rattle.std.specs.Prelude.{slice_get, IsTrue}
 use Rattle.std.proofs.lemmas.Bool.{and_parts, and_from, true≢false, not-true}

@@ -6,5 +6,6 @@ pub mod FirstFault
 pub mod LastValues
 pub mod LinkChecks
 pub mod Marks
+pub mod OrderSearch
 pub mod Searches
 pub mod SiteChecks

@@ -13,6 +13,7 @@ mod checking;
 mod drawn;
 mod lists;
 mod marks;
+mod orders;
 mod property_checks;
 mod sites;
 mod table_faults;

@@ -1,6 +1,6 @@
 use Rattle.std.proofs.Common.{arith}
 use Rattle.mk_query.specs.Marks.{IsNear}
-use Rattle.mk_query.proofs.MarkLemmas.{more-at, more-past}
+use Rattle.mk_query.proofs.MarkLemmas.{more-at}
 use Rattle.mk_query.proofs.drawn.add_neighbour.Goals as goal
 
 pub returns-then-place-len : goal.returns-then-place-len
