@@ -1,10 +1,16 @@
 pub mod AtomLemmas
+pub mod BlockSearchLemmas
 pub mod BondLemmas
-pub mod DemandLemmas
+pub mod FollowLemmas
 pub mod LabelLemmas
+pub mod LinkMarkLemmas
 pub mod ListLemmas
+pub mod LogicLemmas
 pub mod MarkLemmas
 pub mod NearLemmas
+pub mod NumberedLemmas
 pub mod OrderLemmas
+pub mod PointLemmas
 pub mod SiteLemmas
+pub mod StandingLemmas
 pub mod ValueLemmas

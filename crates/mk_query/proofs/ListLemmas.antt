@@ -16,7 +16,7 @@ use Rattle.mk_query.specs.declared.marks.ListMark.{ListMark}
 use Rattle.mk_query.specs.Drawn.{ElementList, by_numbers, by_symbols, listed_atom, lists_at, symbol_lists}
 use Rattle.mk_query.specs.Marks.{AreMarks, AreMore, HasMore, IsListMark, lists_for}
 use Rattle.mk_query.specs.SiteChecks.{HasKnownMembers, HasLists, IsListed}
-use Rattle.mk_query.proofs.DemandLemmas.{Demanded}
+use Rattle.mk_query.proofs.NumberedLemmas.{Numbered}
 use Rattle.mk_query.proofs.MarkLemmas.{TellsOn, more-both, more-same, noted}
 
 -- ---- words
@@ -106,12 +106,12 @@ lists_fail table b tested failed = record {
 }
 
 -- where each names one, it is an atom
-pub atom_fails : (table : RawTable) (item : ℕ) → All (λ (list : RawList). IsAtom (length table.atoms) list.atom) table.lists → IsLeastFailing (Demanded (HasListsAt table) table.atoms) item → IsLeastFailing (HasLists table) item
+pub atom_fails : (table : RawTable) (item : ℕ) → All (λ (list : RawList). IsAtom (length table.atoms) list.atom) table.lists → IsLeastFailing (Numbered (HasListsAt table) table.atoms) item → IsLeastFailing (HasLists table) item
 atom_fails table item named least = record {
   lower = λ j below. (λ none. named, least.lower j below);
   fails = λ has. least.fails has.1;
 }
 
 -- or none
-pub all_listed : (table : RawTable) → All (λ (list : RawList). IsAtom (length table.atoms) list.atom) table.lists → ((item : ℕ) → Demanded (HasListsAt table) table.atoms item) → (item : ℕ) → HasLists table item
+pub all_listed : (table : RawTable) → All (λ (list : RawList). IsAtom (length table.atoms) list.atom) table.lists → ((item : ℕ) → Numbered (HasListsAt table) table.atoms item) → (item : ℕ) → HasLists table item
 all_listed table named all item = (λ none. named, all item)

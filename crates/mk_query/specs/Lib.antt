@@ -1,3 +1,4 @@
+pub mod BlockSearch
 pub mod Checks
 pub mod CompileFaults
 pub mod Compiled
@@ -5,7 +6,11 @@ pub mod Drawn
 pub mod FirstFault
 pub mod LastValues
 pub mod LinkChecks
+pub mod LinkMarks
+pub mod LogicSearch
 pub mod Marks
 pub mod OrderSearch
+pub mod PointSearch
 pub mod Searches
 pub mod SiteChecks
+pub mod Standings

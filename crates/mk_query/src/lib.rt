@@ -8,14 +8,23 @@
 #![tactic(auto)]
 
 mod atom_checks;
+mod blocks;
 mod bond_checks;
 mod checking;
 mod drawn;
+mod drawn_bonds;
+mod link_ends;
+mod linked;
+mod linked_atoms;
 mod lists;
+mod logic_lines;
 mod marks;
 mod orders;
+mod points;
 mod property_checks;
 mod sites;
+mod standing;
+mod standing_atoms;
 mod table_faults;
 #[cfg(test)]
 mod tests;
