@@ -1,6 +1,6 @@
 -- The values that the last entries give to atoms.
-use Rattle.std.proofs.Common.{◌≡◌, ◌≢◌, ◌≤◌, ◌<◌, ◌+◌, ◌-◌, ℕ, true, false, cond, List, [], ◌∷◌, ◌++◌, refl, ap, sym, ◌∙◌, length, get_or, replicate, set, take, arith, inl, inr}
-use Rattle.std.specs.Prelude.{ℤ, pos, ◌⊎◌, ◌==◌}
+use Rattle.std.proofs.Common.{◌≡◌, ◌≢◌, ◌≤◌, ◌<◌, ◌+◌, ◌-◌, ℕ, List, [], ◌∷◌, ◌++◌, refl, ap, sym, ◌∙◌, length, get_or, replicate, set, take, arith, inl, inr}
+use Rattle.std.specs.Prelude.{ℤ, pos, ◌⊎◌}
 use Rattle.std.proofs.lemmas.Bool.{cases_eq, eq-eqb, ne_eqb}
 use Rattle.std.proofs.lemmas.List.{append-nil, append_assoc, length-set, get_or-replicate, get_or-set_same, get_or-set_other, length-replicate, take_all, take_more}
 use Rattle.mk_props.specs.declared.property.Pair.{Pair}

@@ -6,8 +6,8 @@
 --     lists_at table x             the lists of elements that name it
 --     neighbours_at bonds x        the atoms bonded to it
 --     bears_point table p x        it bears attachment point p
-use Rattle.std.specs.Prelude.{◌≡◌, ◌-◌, ◌==◌, ◌||◌, ◌&&◌, ℕ, ℤ, pos, Bool, true, false, List, [], ◌∷◌, ◌++◌, Option, Some, None, slice_get, length, map, codes, bytes_eq, if◌then◌else◌}
-use Rattle.std.specs.List.{filter, list_any}
+use Rattle.std.specs.Prelude.{◌-◌, ◌==◌, ◌||◌, ℕ, ℤ, pos, Bool, false, List, [], ◌∷◌, ◌++◌, Option, Some, None, slice_get, map, codes, bytes_eq, if◌then◌else◌}
+use Rattle.std.specs.List.{filter}
 use Rattle.mk_props.specs.declared.property.AtomList.{AtomList}
 use Rattle.mk_props.specs.declared.property.LinkEntry.{LinkEntry}
 use Rattle.mk_props.specs.declared.property.Pair.{Pair}

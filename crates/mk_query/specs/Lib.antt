@@ -10,6 +10,7 @@ pub mod LinkMarks
 pub mod LinkSearch
 pub mod LogicSearch
 pub mod Marks
+pub mod OrderSearch
 pub mod PointSearch
 pub mod Searches
 pub mod SiteChecks

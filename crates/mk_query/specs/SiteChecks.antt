@@ -3,7 +3,7 @@
 --     HasLabel groups table item   `R#` exactly where a label stands, one label alone, and its group has a member
 --     HasSitePlace table item      a site has one or two neighbours, none of them a site
 --     HasSiteOrder table item      an `M  AAL` orders the neighbours of a site, and no later one orders them again
-use Rattle.std.specs.Prelude.{◌≡◌, ◌≢◌, ◌≤◌, ◌-◌, ◌↔◌, ℕ, ℤ, pos, Bool, List, [], All, Contains, length, drop, codes, IsTrue}
+use Rattle.std.specs.Prelude.{◌≡◌, ◌≢◌, ◌≤◌, ◌↔◌, ℕ, ℤ, pos, List, [], All, Contains, length, drop, codes, IsTrue}
 use Rattle.mk_text.specs.Items.{OfItem}
 use Rattle.mk_props.specs.declared.property.Pair.{Pair}
 use Rattle.mk_props.specs.declared.property.Property.{Property}
@@ -23,16 +23,16 @@ abbrev pub HasKnownMembers : ElementList → Type 0
 HasKnownMembers (by_numbers list) = All (IsWithin (pos 1) (pos 118)) list.numbers
 HasKnownMembers (by_symbols list) = All IsElementName list.symbols
 
--- Every list for atom x has known members, also one in whose place another holds; and its symbol is `L` exactly where there is a
--- list for it.
-pub record IsListed (table : RawTable) (x : ℕ) (atom : RawAtom) : Type 0 where
-  pub members : All HasKnownMembers (lists_at table x)
-  pub word : (atom.symbol ≡ codes "L") ↔ (lists_at table x ≢ [])
+-- Every list that names the atom has known members, also one in whose place another holds; and the atom's symbol is `L` exactly
+-- where there is such a list.
+pub record IsListed (lists : List ElementList) (atom : RawAtom) : Type 0 where
+  pub members : All HasKnownMembers lists
+  pub word : (atom.symbol ≡ codes "L") ↔ (lists ≢ [])
 
 -- Item 0 stands for the atom-list lines: each names an atom of the table. Any other is an atom.
 abbrev pub HasLists : RawTable → ℕ → Type 0
 HasLists table item =
-    (item ≡ 0 → All (λ list. IsAtom (length table.atoms) list.atom) table.lists) × OfItem (IsListed table item) table.atoms item
+    (item ≡ 0 → All (λ list. IsAtom (length table.atoms) list.atom) table.lists) × OfItem (IsListed (lists_at table item)) table.atoms item
 
 -- ---- labels
 
@@ -41,25 +41,25 @@ abbrev pub HasMember : List RawGroup → ℤ → Type 0
 HasMember groups label = (group : RawGroup) × Contains groups group × (pos group.number ≡ label) × (1 ≤ length group.members)
 
 -- `R#` exactly where a label stands, no second label, and the group of the label has a member
-pub record IsLabelled (groups : List RawGroup) (table : RawTable) (x : ℕ) (atom : RawAtom) : Type 0 where
-  pub word : IsTrue (is_site atom) ↔ (labels_at table x ≢ [])
-  pub alone : length (labels_at table x) ≤ 1
-  pub members : All (HasMember groups) (labels_at table x)
+pub record IsLabelled (groups : List RawGroup) (labels : List ℤ) (atom : RawAtom) : Type 0 where
+  pub word : IsTrue (is_site atom) ↔ (labels ≢ [])
+  pub alone : length labels ≤ 1
+  pub members : All (HasMember groups) labels
 
 abbrev pub HasLabel : List RawGroup → RawTable → ℕ → Type 0
-HasLabel groups table item = OfItem (IsLabelled groups table item) table.atoms item
+HasLabel groups table item = OfItem (IsLabelled groups (labels_at table item)) table.atoms item
 
 -- ---- neighbours
 
--- one or two atoms are bonded to the site, and no site
-pub record IsPlaced (table : RawTable) (x : ℕ) : Type 0 where
-  pub some : 1 ≤ length (drawn_neighbours table x)
-  pub two : length (drawn_neighbours table x) ≤ 2
-  pub apart : All (λ y. ¬ (IsTrue (is_site_at table y))) (drawn_neighbours table x)
+-- the neighbours are one or two, and none is a site
+pub record ArePlaced (table : RawTable) (neighbours : List ℕ) : Type 0 where
+  pub some : 1 ≤ length neighbours
+  pub two : length neighbours ≤ 2
+  pub apart : All (λ y. ¬ (IsTrue (is_site_at table y))) neighbours
 
--- so it is where the atom is a site
+-- so are the neighbours of an atom that is a site
 abbrev pub HasSitePlace : RawTable → ℕ → Type 0
-HasSitePlace table item = OfItem (λ atom. IsTrue (is_site atom) → IsPlaced table item) table.atoms item
+HasSitePlace table item = OfItem (λ atom. IsTrue (is_site atom) → ArePlaced table (drawn_neighbours table item)) table.atoms item
 
 -- ---- orders
 

@@ -1,11 +1,14 @@
 // What is drawn at each atom of a table, each in one pass.
 ghost use Rattle.std.specs.Prelude.{◌≡◌, ◌==◌, ◌∷◌, [], IfOk, bytes_eq, length, map, if◌then◌else◌};
-ghost use Rattle.mk_query.specs.Drawn.{is_site, neighbours_at, query_bond, query_bonds};
-ghost use Rattle.mk_query.specs.Marks.{AreMarks, AreMore, HasMore, IsNear};
+ghost use Rattle.mk_ctab.specs.Charges.{values_for};
+ghost use Rattle.mk_ctab.specs.Numbers.{natural};
+ghost use Rattle.mk_query.specs.Drawn.{is_site, labels_of, neighbours_at, pairs_by, query_bond, query_bonds};
+ghost use Rattle.mk_query.specs.Marks.{AreMarks, AreMore, HasMore, IsLabels, IsNear};
 
 use crate::bond_checks::{first_end, second_end};
-use crate::near::Near;
-use mk_ctab::{RawAtom, RawBond};
+use crate::marks::{Labels, Near};
+use mk_ctab::{RawAtom, RawBond, natural};
+use mk_props::{Pair, Property};
 use mk_text::Memory;
 use std::alloc::Global;
 
@@ -20,16 +23,18 @@ pub fn sites_of(alloc: Global, atoms: &[RawAtom]) -> Result<Vec<bool>, Memory>
     Ok(sites)
 }
 
-fn is_site(atom: &RawAtom) -> bool
+/// Whether the atom is a site.
+pub fn is_site(atom: &RawAtom) -> bool
     ensures { result ≡ is_site atom.now }
 {
-    is_word(atom.symbol.as_slice(), b"R#")
+    is_symbol(atom, b"R#")
 }
 
-fn is_word(symbol: &[u8], word: &[u8]) -> bool
-    ensures { result ≡ bytes_eq symbol.now word.now }
+/// Whether the atom has this symbol.
+pub fn is_symbol(atom: &RawAtom, word: &[u8]) -> bool
+    ensures { result ≡ bytes_eq atom.now.symbol word.now }
 {
-    symbol == word
+    atom.symbol.as_slice() == word
 }
 
 /// The neighbours of each atom.
@@ -39,28 +44,26 @@ pub fn neighbours_of(alloc: Global, atoms: u32, bonds: &[RawBond]) -> Result<Vec
 {
     let mut near = vec![in alloc; Near::Nothing; atoms as usize]?;
     for bond in bonds {
-        put_bond(&mut near, bond);
+        add_bond(&mut near, bond);
     }
     Ok(near)
 }
 
 // Notes a bond at its ends.
-fn put_bond(near: &mut Vec<Near>, bond: &RawBond)
-    ensures size { length near.new.items ≡ length near.old.items }
-    ensures more { AreMore (neighbours_at (query_bond bond.now ∷ [])) near.old.items near.new.items }
+fn add_bond(near: &mut Vec<Near>, bond: &RawBond)
+    ensures { AreMore IsNear (neighbours_at (query_bond bond.now ∷ [])) near.old.items near.new.items }
 {
     let first = first_end(bond);
     let second = second_end(bond);
-    add_at(near, first, second);
+    add_neighbour(near, first, second);
     if second != first {
-        add_at(near, second, first);
+        add_neighbour(near, second, first);
     }
 }
 
-// Notes one neighbour more of atom n, where there is one.
-fn add_at(near: &mut Vec<Near>, n: u32, y: u32)
-    ensures size { length near.new.items ≡ length near.old.items }
-    ensures more { AreMore (λ x. if n == x then y ∷ [] else []) near.old.items near.new.items }
+// Notes a neighbour of atom n, where there is one.
+fn add_neighbour(near: &mut Vec<Near>, n: u32, y: u32)
+    ensures { AreMore IsNear (λ x. if n == x then y ∷ [] else []) near.old.items near.new.items }
 {
     let place = n as usize;
     if place >= 1 && place <= near.len() {
@@ -69,11 +72,66 @@ fn add_at(near: &mut Vec<Near>, n: u32, y: u32)
 }
 
 fn and_one(near: Near, y: u32) -> Near
-    ensures { HasMore (y ∷ []) near result }
+    ensures { HasMore IsNear (y ∷ []) near result }
 {
     match near {
         Near::Nothing => Near::One(y),
         Near::One(first) => Near::Two(first, y),
         _ => Near::More,
+    }
+}
+
+/// The labels of each atom.
+pub fn labels_of(alloc: Global, atoms: u32, props: &[Property]) -> Result<Vec<Labels>, Memory>
+    ensures size { IfOk result (λ labels. length labels.items ≡ atoms) }
+    ensures labels { IfOk result (λ labels. AreMarks (λ x. IsLabels (values_for x (pairs_by labels_of props.now))) labels.items) }
+{
+    let mut labels = vec![in alloc; Labels::Nothing; atoms as usize]?;
+    for property in props {
+        add_labels(&mut labels, label_pairs(property));
+    }
+    Ok(labels)
+}
+
+// The pairs of an `M  RGP`, and none of another property.
+fn label_pairs(property: &Property) -> &[Pair]
+    ensures { result.now ≡ labels_of property.now }
+{
+    match property {
+        Property::Label(pairs) => pairs.as_slice(),
+        _ => &[],
+    }
+}
+
+// Notes the labels that the pairs give.
+fn add_labels(labels: &mut Vec<Labels>, pairs: &[Pair])
+    ensures { AreMore IsLabels (λ x. values_for x pairs.now) labels.old.items labels.new.items }
+{
+    for pair in pairs {
+        add_label(labels, pair);
+    }
+}
+
+fn add_label(labels: &mut Vec<Labels>, pair: &Pair)
+    ensures { AreMore IsLabels (λ x. values_for x (pair.now ∷ [])) labels.old.items labels.new.items }
+{
+    let place = atom_of(pair) as usize;
+    if place >= 1 && place <= labels.len() {
+        labels[place - 1] = and_label(labels[place - 1], pair);
+    }
+}
+
+fn atom_of(pair: &Pair) -> u32
+    ensures { result ≡ natural pair.now.atom }
+{
+    natural(pair.atom)
+}
+
+fn and_label(labels: Labels, pair: &Pair) -> Labels
+    ensures { HasMore IsLabels (pair.now.value ∷ []) labels result }
+{
+    match labels {
+        Labels::Nothing => Labels::One(pair.value),
+        _ => Labels::More,
     }
 }
