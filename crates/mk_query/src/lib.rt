@@ -23,6 +23,8 @@ mod marks;
 mod orders;
 mod points;
 mod property_checks;
+#[cfg(test)]
+mod site_tests;
 mod sites;
 mod standing;
 mod standing_atoms;
@@ -31,6 +33,7 @@ mod table_faults;
 mod tests;
 mod values;
 
+pub use checking::first_fault;
 pub use mk_text::Memory;
 pub use table_faults::Fault;
 pub use values::{ValueKind, last_values};
