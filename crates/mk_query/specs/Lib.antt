@@ -1,3 +1,17 @@
+pub mod BlockSearch
 pub mod Checks
+pub mod CompileFaults
+pub mod Compiled
+pub mod Drawn
 pub mod FirstFault
+pub mod LastValues
+pub mod LinkChecks
+pub mod LinkMarks
+pub mod LinkSearch
+pub mod LogicSearch
+pub mod Marks
+pub mod OrderSearch
+pub mod PointSearch
 pub mod Searches
+pub mod SiteChecks
+pub mod Standings

@@ -33,7 +33,8 @@ fn is_symbol(symbol: &[u8]) -> bool
     is_element_name(symbol) || is_query_word(symbol)
 }
 
-fn is_element_name(symbol: &[u8]) -> bool
+/// Whether the bytes name an element.
+pub fn is_element_name(symbol: &[u8]) -> bool
     ensures { IsTrue result ↔ IsElementName symbol.now }
 {
     number_of(symbol).is_some()
