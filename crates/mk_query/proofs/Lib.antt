@@ -1,2 +1,3 @@
 pub mod AtomLemmas
 pub mod BondLemmas
+pub mod RecursionLemmas

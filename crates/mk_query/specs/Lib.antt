@@ -4,5 +4,6 @@ pub mod Compiled
 pub mod Drawn
 pub mod FirstFault
 pub mod LinkChecks
+pub mod Recursion
 pub mod Searches
 pub mod SiteChecks

@@ -11,6 +11,7 @@ mod atom_checks;
 mod bond_checks;
 mod checking;
 mod property_checks;
+mod recursion;
 mod table_faults;
 
 
