@@ -1,3 +1,4 @@
 pub mod AtomLemmas
 pub mod BondLemmas
+pub mod PointFitsLemmas
 pub mod RecursionLemmas

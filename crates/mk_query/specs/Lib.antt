@@ -4,6 +4,7 @@ pub mod Compiled
 pub mod Drawn
 pub mod FirstFault
 pub mod LinkChecks
+pub mod PointFits
 pub mod Recursion
 pub mod Searches
 pub mod SiteChecks

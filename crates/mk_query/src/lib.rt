@@ -10,6 +10,7 @@
 mod atom_checks;
 mod bond_checks;
 mod checking;
+mod point_fits;
 mod property_checks;
 mod recursion;
 mod table_faults;
