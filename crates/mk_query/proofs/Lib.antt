@@ -1,4 +1,6 @@
 pub mod AtomLemmas
 pub mod BondLemmas
+pub mod CapLemmas
 pub mod PointFitsLemmas
 pub mod RecursionLemmas
+pub mod RootSizesLemmas

@@ -3,14 +3,17 @@
 --     any_more                         none so far, and not the next
 --     hold_more                        one more entry of a table of rows and columns
 --     chain_leads, leads_chain         a table leads on to another exactly where one of its sites leads to its group
-use Rattle.std.proofs.Common.{◌≡◌, ℕ, zero, suc, ◌+◌, ◌-◌, ◌*◌, ◌<◌, ◌≤◌, Bool, true, false, inl, inr, ◌⊎◌, ⊎_elim, Option, None, ◌&&◌, ◌||◌, List, [], ◌∷◌, ◌++◌, Some, refl, sym, ap, subst, ◌∙◌, arith, length, get_or, take, All}
-use Rattle.std.specs.Prelude.{◌==◌, Contains, IsTrue, slice_get}
-use Rattle.std.specs.List.{list_any}
+--     ranked                           where none uses itself, the groups to which a table leads rank it
+use Rattle.std.proofs.Common.{◌≡◌, ℕ, zero, suc, ◌+◌, ◌-◌, ◌*◌, ◌<◌, ◌≤◌, Bool, true, false, cond, inl, inr, ◌⊎◌, ⊎_elim, Option, None, ◌&&◌, ◌||◌, List, [], ◌∷◌, ◌++◌, Some, refl, sym, ap, subst, ◌∙◌, arith, length, get_or, take, All}
+use Rattle.std.specs.Prelude.{◌==◌, count_by, Contains, IsTrue, slice_get}
+use Rattle.std.specs.List.{list_any, range_with_len}
 use Rattle.std.proofs.lemmas.Bool.Decides.{nat_tests}
 use Rattle.std.proofs.lemmas.Bool.{cases_lt, true≢false}
 use Rattle.std.proofs.lemmas.List.{take_more}
 use Rattle.std.proofs.lemmas.List.Elements.{Contains-append_cases}
 use Rattle.std.proofs.lemmas.List.Folds.{list_any_at, list_any_more}
+use Rattle.std.proofs.lemmas.List.FromFn.{get_or-range_with_len, length-range_with_len}
+use Rattle.std.proofs.lemmas.List.Sums.{count_by-le-length, sum_by-cons}
 use Rattle.std.proofs.lemmas.Option.{slice_get_within, get_or_from_slice_get}
 use Rattle.mk_text.proofs.ForCallers.{both, and_true, or_left, or_right}
 use Rattle.mk_model.specs.declared.group.Group.{Group}
@@ -19,7 +22,7 @@ use Rattle.mk_model.specs.declared.template.Slot.TheVariants.{Link, Site}
 use Rattle.mk_model.specs.Labels.{IsChain, PutsIn, bears_label, members_at}
 use Rattle.mk_model.specs.Queries.{QueryView, members_of, slots_of}
 use Rattle.mk_model.specs.Templates.{TemplateView}
-use Rattle.mk_model.proofs.ForCallers.{IsPassed, all_at, at_place, some_passes}
+use Rattle.mk_model.proofs.ForCallers.{IsPassed, IsRanked, all_at, at_place, some_passes}
 use Rattle.mk_query.specs.CompileFaults.{IsNoCycle}
 use Rattle.mk_query.specs.Recursion.{ComesBack, HasGroup, HoldSoFar, Holds, asks_for, cell, comes_back, entry, leads, leads_on, of_templates}
 
@@ -170,34 +173,52 @@ puts_in query t (Link atom most from to) h u at bears member = absurd cc
 puts_in query t (Site atom group first second) h u at bears member =
     record { slot = Site atom group first second; at = at; fills = (let same : group ≡ h = same_numbers group h bears in rw same member) }
 
+-- the group of a table asks for that of a site which leads on
+on_from : (query : QueryView) (k : ℕ) → 32 ≤ k → (h v g : ℕ) (slot : Slot) → Contains (members_of query h) v → HasGroup slot → Contains (slots_of query v) slot
+    → leads_on (leads query k) g slot ≡ true → leads query k h g ≡ true
+on_from query k enough h v g (Link atom most from to) member has at on = absurd cc
+on_from query k enough h v g (Site atom group first second) member has at on =
+    let asked : asks_for query h group ≡ true =
+        from_list (λ u. list_any (λ slot. bears_label slot group) (slots_of query u)) (members_of query h) v member
+        (from_list (λ slot. bears_label slot group) (slots_of query v) (Site atom group first second) at (numbers_same group group refl)) in
+    let here : leads query k h group ≡ true = more_between query k h group asked in
+    by_label (group == g) refl here
+  where
+    by_label : (b : Bool) → (group == g) ≡ b → leads query k h group ≡ true → leads query k h g ≡ true
+    by_label true e here = (let same : group ≡ g = same_numbers group g e in rw same at here)
+    by_label false e here = through query k h group g has.0 (omega (arith, has.1)) here (one_of _ _ on e)
+
+-- A table that puts in another leads to a group of the other, and to all groups to which the other leads.
+pub record LeadsOn (query : QueryView) (k t u : ℕ) : Type 0 where
+  pub group : ℕ
+  pub some : 1 ≤ group
+  pub few : group ≤ 32
+  pub member : Contains (members_of query group) u
+  pub here : comes_back (leads query k) group (slots_of query t) ≡ true
+  pub on : (g : ℕ) → comes_back (leads query k) g (slots_of query u) ≡ true → comes_back (leads query k) g (slots_of query t) ≡ true
+
+pub puts_leads : (query : QueryView) (k : ℕ) → 32 ≤ k → HasGroups query → (t u : ℕ) → PutsIn query t u → LeadsOn query k t u
+puts_leads query k enough has t u puts =
+    let label = label_of query puts.slot u (has t puts.slot puts.at) puts.fills in
+    record {
+      group = label.0;
+      some = label.1;
+      few = label.2;
+      member = label.3;
+      here = from_list (leads_on (leads query k) label.0) (slots_of query t) puts.slot puts.at (bears_leads (leads query k) label.0 puts.slot (label.4 label.0 refl));
+      on = λ g later.
+          let on = in_list (leads_on (leads query k) g) (slots_of query u) later in
+          from_list (leads_on (leads query k) g) (slots_of query t) puts.slot puts.at
+          (label.5 (leads query k) g (on_from query k enough label.0 u g on.0 label.3 (has u on.0 on.1) on.1 on.2));
+    }
+
 -- a table that puts in one which leads on does so itself
 pub chain_leads : (query : QueryView) (k : ℕ) → 32 ≤ k → HasGroups query → (t : ℕ) (via : List ℕ) (u : ℕ) → IsChain query t via u
     → (g : ℕ) × (1 ≤ g) × (g ≤ 32) × Contains (members_of query g) u × (comes_back (leads query k) g (slots_of query t) ≡ true)
-chain_leads query k enough has t [] u chain =
-    let label = label_of query chain.slot u (has t chain.slot chain.at) chain.fills in
-    (label.0, label.1, label.2, label.3,
-    from_list (leads_on (leads query k) label.0) (slots_of query t) chain.slot chain.at (bears_leads (leads query k) label.0 chain.slot (label.4 label.0 refl)))
+chain_leads query k enough has t [] u chain = (let leads = puts_leads query k enough has t u chain in (leads.group, leads.some, leads.few, leads.member, leads.here))
 chain_leads query k enough has t (v ∷ via) u chain =
-    let label = label_of query chain.0.slot v (has t chain.0.slot chain.0.at) chain.0.fills in
     let later = chain_leads query k enough has v via u chain.1 in
-    let on = in_list (leads_on (leads query k) later.0) (slots_of query v) later.4 in
-    (later.0, later.1, later.2, later.3,
-    from_list (leads_on (leads query k) later.0) (slots_of query t) chain.0.slot chain.0.at
-    (label.5 (leads query k) later.0 (on_from query k enough label.0 v later.0 on.0 label.3 (has v on.0 on.1) on.1 on.2)))
-  where
-    -- the group asks for that of a site which leads on
-    on_from : (query : QueryView) (k : ℕ) → 32 ≤ k → (h v g : ℕ) (slot : Slot) → Contains (members_of query h) v → HasGroup slot → Contains (slots_of query v) slot → leads_on (leads query k) g slot ≡ true → leads query k h g ≡ true
-    on_from query k enough h v g (Link atom most from to) member has at on = absurd cc
-    on_from query k enough h v g (Site atom group first second) member has at on =
-        let asked : asks_for query h group ≡ true =
-            from_list (λ u. list_any (λ slot. bears_label slot group) (slots_of query u)) (members_of query h) v member
-            (from_list (λ slot. bears_label slot group) (slots_of query v) (Site atom group first second) at (numbers_same group group refl)) in
-        let here : leads query k h group ≡ true = more_between query k h group asked in
-        by_label (group == g) refl here
-      where
-        by_label : (b : Bool) → (group == g) ≡ b → leads query k h group ≡ true → leads query k h g ≡ true
-        by_label true e here = (let same : group ≡ g = same_numbers group g e in rw same at here)
-        by_label false e here = through query k h group g has.0 (omega (arith, has.1)) here (one_of _ _ on e)
+    (later.0, later.1, later.2, later.3, (puts_leads query k enough has t v chain.0).on later.0 later.4)
 
 -- the way from a site's group to another is a chain of tables, up to any member of it
 ways_down : (query : QueryView) (t : ℕ) (slot : Slot) (h : ℕ) (via : List ℕ) (g u : ℕ) → Contains (slots_of query t) slot → bears_label slot h ≡ true → Asks query h via g
@@ -349,3 +370,63 @@ module _ (templates : List TemplateView) (groups : List Group) (k : ℕ) (list :
           let member : Contains group.members t = rw e at at in
           let each = all_at (λ (group : Group). All (λ (u : ℕ). u < length templates) group.members) groups (g - 1) group within e in
           subst (λ (u : ℕ). u < length templates) member.2 (each member.0 t member.1)
+
+-- ---- ranks
+
+-- fewer pass where one does that doesn't pass here
+count_more : (p q : ℕ → Bool) (xs : List ℕ) → ((x : ℕ) → p x ≡ true → q x ≡ true) → count_by p xs ≤ count_by q xs
+count_more p q [] more = omega arith
+count_more p q (x ∷ xs) more =
+    let others = count_more p q xs more in
+    let here : cond (p x) 1 0 ≤ cond (q x) 1 0 = by_test (p x) refl in
+    omega (arith, others, here, sum_by-cons (λ y. cond (p y) 1 0) x xs, sum_by-cons (λ y. cond (q y) 1 0) x xs)
+  where
+    by_test : (b : Bool) → p x ≡ b → cond b 1 0 ≤ cond (q x) 1 0
+    by_test true e = rw (more x e) (omega arith)
+    by_test false e = omega arith
+
+-- what an element counts
+counted : (b c : Bool) → b ≡ c → ◌≡◌ {A = ℕ} (cond b 1 0) (cond c 1 0)
+counted b c same = ap (λ (d : Bool). cond d 1 0) same
+
+count_less : (p q : ℕ → Bool) (xs : List ℕ) → ((x : ℕ) → p x ≡ true → q x ≡ true) → (h : ℕ) → Contains xs h → p h ≡ false → q h ≡ true → count_by p xs < count_by q xs
+count_less p q [] more h (k, below, is) not here = absurd (omega (arith, below))
+count_less p q (x ∷ xs) more h (zero, below, is) not here =
+    let same : x ≡ h = is in
+    let others = count_more p q xs more in
+    let none = counted (p x) false (rw same not) in
+    let one = counted (q x) true (rw same here) in
+    omega (arith, others, none, one, sum_by-cons (λ y. cond (p y) 1 0) x xs, sum_by-cons (λ y. cond (q y) 1 0) x xs)
+count_less p q (x ∷ xs) more h (suc k, below, is) not here =
+    let others = count_less p q xs more h (k, omega (arith, below), is) not here in
+    let first : cond (p x) 1 0 ≤ cond (q x) 1 0 = by_test (p x) refl in
+    omega (arith, others, first, sum_by-cons (λ y. cond (p y) 1 0) x xs, sum_by-cons (λ y. cond (q y) 1 0) x xs)
+  where
+    by_test : (b : Bool) → p x ≡ b → cond b 1 0 ≤ cond (q x) 1 0
+    by_test true e = rw (more x e) (omega arith)
+    by_test false e = omega arith
+
+-- the number of groups to which a table leads
+abbrev pub rank_of : QueryView → ℕ → ℕ → ℕ
+rank_of query k t = count_by (λ g. comes_back (leads query k) g (slots_of query t)) (range_with_len 1 32)
+
+pub few_ranks : (query : QueryView) (k t : ℕ) → rank_of query k t ≤ 32
+few_ranks query k t = omega (arith, count_by-le-length (λ g. comes_back (leads query k) g (slots_of query t)) (range_with_len 1 32), length-range_with_len 1 32)
+
+-- a number is one of those from 1 on
+in_range : (n g : ℕ) → 1 ≤ g → g ≤ n → Contains (range_with_len 1 n) g
+in_range n g some few = (g - 1, omega (arith, some, few, length-range_with_len 1 n), get_or-range_with_len 1 n (g - 1) g (omega (arith, some, few)) ∙ omega (arith, some))
+
+pub ranked : (query : QueryView) (k : ℕ) → 32 ≤ k → HasGroups query → ((t : ℕ) → IsNoCycle query t) → IsRanked query (rank_of query k)
+ranked query k enough has none t u puts =
+    let on = puts_leads query k enough has t u puts in
+    count_less (λ g. comes_back (leads query k) g (slots_of query u)) (λ g. comes_back (leads query k) g (slots_of query t)) (range_with_len 1 32) on.on
+    on.group (in_range 32 on.group on.some on.few) (by_test (comes_back (leads query k) on.group (slots_of query u)) refl) on.here
+  where
+    by_test : (b : Bool) → comes_back (leads query k) (puts_leads query k enough has t u puts).group (slots_of query u) ≡ b
+        → comes_back (leads query k) (puts_leads query k enough has t u puts).group (slots_of query u) ≡ false
+    by_test false e = e
+    by_test true e =
+        let on = puts_leads query k enough has t u puts in
+        let chain = leads_chain query k u on.group u on.member e in
+        absurd (none u chain.0 chain.1)

@@ -6,5 +6,6 @@ pub mod FirstFault
 pub mod LinkChecks
 pub mod PointFits
 pub mod Recursion
+pub mod RootSizes
 pub mod Searches
 pub mod SiteChecks

@@ -13,6 +13,7 @@ mod checking;
 mod point_fits;
 mod property_checks;
 mod recursion;
+mod root_sizes;
 mod table_faults;
 
 
