@@ -94,13 +94,14 @@ value_at select table x = last_or (pos 0) (values_for x (pairs_by select table.p
 abbrev pub labels_at : RawTable → ℕ → List ℤ
 labels_at table x = values_for x (pairs_by labels_of table.props)
 
--- Atom x bears attachment point 1 where the last entry for it says 1 or 3, and point 2 where it says 2 or 3.
+-- the value of an `M  APO` gives attachment point p: 1 the first, 2 the second, and 3 both
+abbrev pub gives_point : ℕ → ℤ → Bool
+gives_point p (pos v) = (v == p) || (v == 3)
+gives_point p other = false
+
+-- atom x bears attachment point p where the last entry for it gives the point
 abbrev pub bears_point : RawTable → ℕ → ℕ → Bool
-bears_point table p x = says (value_at points_of table x)
-  where
-    says : ℤ → Bool
-    says (pos v) = (v == p) || (v == 3)
-    says other = false
+bears_point table p x = gives_point p (value_at points_of table x)
 
 -- ---- links
 

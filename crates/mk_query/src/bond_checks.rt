@@ -93,13 +93,13 @@ fn count_bond(counts: &mut Vec<u32>, bond: &RawBond)
     }
 }
 
-fn first_end(bond: &RawBond) -> u32
+pub fn first_end(bond: &RawBond) -> u32
     ensures { result ≡ natural bond.now.first }
 {
     natural(bond.first)
 }
 
-fn second_end(bond: &RawBond) -> u32
+pub fn second_end(bond: &RawBond) -> u32
     ensures { result ≡ natural bond.now.second }
 {
     natural(bond.second)

@@ -8,14 +8,27 @@
 #![tactic(auto)]
 
 mod atom_checks;
+mod blocks;
 mod bond_checks;
 mod checking;
+mod drawn;
+mod drawn_bonds;
+mod link_ends;
+mod linked;
+mod linked_atoms;
+mod links;
+mod logic_lines;
+mod near;
 mod point_fits;
+mod points;
 mod property_checks;
 mod recursion;
 mod root_sizes;
+mod standing;
+mod standing_atoms;
 mod table_faults;
-
+mod values;
 
 pub use mk_text::Memory;
 pub use table_faults::Fault;
+pub use values::{ValueKind, last_values};

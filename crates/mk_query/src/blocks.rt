@@ -1,0 +1,135 @@
+// The block of a link: what hangs together with it once its bonds to the two neighbours that it names are taken away.
+//
+// The search goes from the link over the other bonds, and stops at the first atom that a block may not hold. So the blocks that
+// are searched whole have no atom in common.
+ghost use Rattle.std.specs.Prelude.{◌≡◌, ◌≤◌, ◌<◌, ◌+◌, ◌-◌, ◌↔◌, ◌||◌, false, true, IfOk, IsTrue, OnOk, length, slice_index, slice_index_or};
+ghost use Rattle.mk_model.specs.Edges.{AreBetween, rows_of};
+ghost use Rattle.mk_model.specs.Templates.{hang_together, joins, query_edges};
+ghost use Rattle.mk_query.specs.BlockSearch.{AreNumbersOf, HasPlainBlock, IsLonger, IsReached, KeepReached, LeadsOn, MayHold, is_own, is_reached, others, unreached};
+ghost use Rattle.mk_query.specs.Standings.{HasEachPlace, HasPlace, bears, is_link, is_site};
+
+use crate::drawn_bonds::joins;
+use crate::link_ends::LinkEnds;
+use crate::standing::Standing;
+use crate::standing_atoms::{bears, is_link, is_site};
+use mk_model::{Neighbours, QueryBond};
+use mk_text::Memory;
+use std::alloc::Global;
+
+/// Whether the block of the link holds nothing that it may not hold.
+pub fn has_plain_block(
+    alloc: Global,
+    atoms: u32,
+    near: &Neighbours,
+    bonds: &[QueryBond],
+    standing: &Standing,
+    link: LinkEnds,
+) -> Result<bool, Memory>
+    requires few { atoms ≤ 999 }
+    requires size { length near.now ≡ atoms }
+    requires ends { AreBetween atoms (query_edges bonds.now) }
+    requires rows { near.now ≡ rows_of atoms (query_edges bonds.now) }
+    requires places { HasEachPlace standing.now atoms }
+    requires least { 1 ≤ link.atom }
+    requires most { link.atom ≤ atoms }
+    ensures { IfOk result (λ plain. IsTrue plain ↔ HasPlainBlock bonds.now standing.now link) }
+{
+    let mut reached = vec![in alloc; false; atoms as usize + 1]?;
+    let mut queue = Vec::with_capacity(alloc, 1)?;
+    reached[link.atom as usize] = true;
+    queue.push(link.atom)?;
+    let mut i = 0;
+    while i < queue.len() {
+        let y = queue[i];
+        if !may_hold(standing, link, y) {
+            return Ok(false);
+        }
+        follow(&mut reached, &mut queue, numbers_of(near, bonds, y), bonds, link, y)?;
+        i += 1;
+    }
+    Ok(true)
+}
+
+/// The numbers of the bonds of atom y.
+pub fn numbers_of<'a>(near: &'a Neighbours, bonds: &[QueryBond], y: u32) -> &'a [u32]
+    requires rows { near.now ≡ rows_of (length near.now) (query_edges bonds.now) }
+    requires least { 1 ≤ y }
+    requires most { y ≤ length near.now }
+    ensures { AreNumbersOf bonds.now y result.now }
+{
+    near.at(y)
+}
+
+// Whether the block of the link may hold the atom.
+fn may_hold(standing: &Standing, link: LinkEnds, y: u32) -> bool
+    requires { HasPlace standing.now y }
+    ensures { IsTrue result ↔ MayHold standing.now link y }
+{
+    y != link.from
+        && y != link.to
+        && !is_site(standing, y)
+        && is_no_other_link(standing, link, y)
+        && !bears(standing, 1, y)
+        && !bears(standing, 2, y)
+}
+
+fn is_no_other_link(standing: &Standing, link: LinkEnds, y: u32) -> bool
+    requires { HasPlace standing.now y }
+    ensures { result ≡ true ↔ (¬ (y ≡ link.atom) → is_link standing.now y ≡ false) }
+{
+    y == link.atom || !is_link(standing, y)
+}
+
+// Puts the atoms that are first reached over a bond of atom y behind the others.
+fn follow(
+    reached: &mut Vec<bool>,
+    queue: &mut Vec<u32>,
+    numbers: &[u32],
+    bonds: &[QueryBond],
+    link: LinkEnds,
+    y: u32,
+) -> Result<(), Memory>
+    requires few { length reached.old.items ≤ 1000 }
+    requires ends { AreBetween (length reached.old.items - 1) (query_edges bonds.now) }
+    requires numbers { AreNumbersOf bonds.now y numbers.now }
+    requires hangs { IsTrue (hang_together (others link bonds.now) link.atom y) }
+    requires reached { IsReached bonds.now link reached.old.items queue.old.items }
+    ensures size { length reached.new.items ≡ length reached.old.items }
+    ensures reached { OnOk result (IsReached bonds.now link reached.new.items queue.new.items) }
+    ensures kept { OnOk result (KeepReached reached.old.items reached.new.items) }
+    ensures longer { OnOk result (IsLonger queue.old.items queue.new.items) }
+    ensures leads { OnOk result (LeadsOn bonds.now link reached.new.items y) }
+    ensures fewer { OnOk result (unreached reached.new.items + length queue.new.items ≡ unreached reached.old.items + length queue.old.items) }
+{
+    for number in numbers {
+        let bond = bonds[*number as usize - 1];
+        if is_own(link, bond) {
+            continue;
+        }
+        let z = other_end(bond, y);
+        if reached[z as usize] {
+            continue;
+        }
+        reached[z as usize] = true;
+        queue.push(z)?;
+    }
+    Ok(())
+}
+
+// Whether the bond leads from the link to one of the two neighbours.
+fn is_own(link: LinkEnds, bond: QueryBond) -> bool
+    ensures { result ≡ is_own link bond }
+{
+    joins(link.atom, link.from, bond) || joins(link.atom, link.to, bond)
+}
+
+// The end of a bond that isn't y.
+fn other_end(bond: QueryBond, y: u32) -> u32
+    ensures first { bond.first ≡ y → result ≡ bond.second }
+    ensures second { ¬ (bond.first ≡ y) → result ≡ bond.first }
+{
+    if bond.first == y {
+        return bond.second;
+    }
+    bond.first
+}

@@ -1,0 +1,181 @@
+// What is demanded of links.
+ghost use Rattle.std.specs.Prelude.{◌≡◌, ◌≢◌, ◌≤◌, ◌≤ℤ◌, ◌↔◌, ℕ, pos, IfOk, IsTrue, length};
+ghost use Rattle.mk_text.specs.Items.{FindsLeast};
+ghost use Rattle.mk_model.specs.Edges.{AreBetween, rows_of};
+ghost use Rattle.mk_model.specs.Templates.{joins, query_edges};
+ghost use Rattle.mk_ctab.specs.Numbers.{IsAtom, natural};
+ghost use Rattle.mk_query.specs.BlockSearch.{AreNumbersOf};
+ghost use Rattle.mk_query.specs.Checks.{IsQueryBond};
+ghost use Rattle.mk_query.specs.LinkChecks.{HasLink};
+ghost use Rattle.mk_query.specs.LinkSearch.{AreAlikeBonds, AreRightBy, HasLike, IsLike, IsLinkable, IsRightLink};
+ghost use Rattle.mk_query.specs.Standings.{HasEachPlace, HasPlace};
+
+use crate::blocks::{has_plain_block, numbers_of};
+use crate::drawn_bonds::{edges_of, joins, query_bonds_of};
+use crate::link_ends::LinkEnds;
+use crate::linked::Linked;
+use crate::standing::Standing;
+use crate::standing_atoms::{is_site, links_at, standing_of};
+use mk_ctab::{RawTable, is_atom, natural};
+use mk_model::{Neighbours, QueryBond};
+use mk_props::LinkEntry;
+use mk_text::Memory;
+use std::alloc::Global;
+
+/// The first atom that two links name, or whose link can't stand there.
+pub fn first_unknown_link(alloc: Global, table: &RawTable) -> Result<Option<u32>, Memory>
+    requires few_atoms { length table.now.atoms ≤ 999 }
+    requires few_bonds { length table.now.bonds ≤ 999 }
+    requires bonds { (item : ℕ) → IsQueryBond (length table.now.atoms) table.now.bonds item }
+    ensures { IfOk result (FindsLeast (HasLink table.now)) }
+{
+    let atoms = table.atoms.as_slice().len() as u32;
+    let standing = standing_of(alloc, table)?;
+    let bonds = query_bonds_of(alloc, table.bonds.as_slice())?;
+    let edges = edges_of(alloc, &bonds)?;
+    let near = Neighbours::of(alloc, atoms, &edges)?;
+    for i in 0..atoms {
+        let right = are_right(alloc, atoms, &near, &bonds, &standing, i + 1)?;
+        if !right {
+            return Ok(Some(i + 1));
+        }
+    }
+    Ok(None)
+}
+
+// Whether no link names atom x, or one that can stand there.
+fn are_right(
+    alloc: Global,
+    atoms: u32,
+    near: &Neighbours,
+    bonds: &[QueryBond],
+    standing: &Standing,
+    x: u32,
+) -> Result<bool, Memory>
+    requires few { atoms ≤ 999 }
+    requires size { length near.now ≡ atoms }
+    requires ends { AreBetween atoms (query_edges bonds.now) }
+    requires rows { near.now ≡ rows_of atoms (query_edges bonds.now) }
+    requires places { HasEachPlace standing.now atoms }
+    requires least { 1 ≤ x }
+    requires most { x ≤ atoms }
+    ensures { IfOk result (λ right. IsTrue right ↔ AreRightBy atoms bonds.now standing.now x) }
+{
+    match links_at(standing, x) {
+        Linked::Nothing => Ok(true),
+        Linked::One(link) => is_right_link(alloc, atoms, near, bonds, standing, x, &link),
+        Linked::More => Ok(false),
+    }
+}
+
+// Whether the link can stand at atom x.
+fn is_right_link(
+    alloc: Global,
+    atoms: u32,
+    near: &Neighbours,
+    bonds: &[QueryBond],
+    standing: &Standing,
+    x: u32,
+    link: &LinkEntry,
+) -> Result<bool, Memory>
+    requires few { atoms ≤ 999 }
+    requires size { length near.now ≡ atoms }
+    requires ends { AreBetween atoms (query_edges bonds.now) }
+    requires rows { near.now ≡ rows_of atoms (query_edges bonds.now) }
+    requires places { HasEachPlace standing.now atoms }
+    requires least { 1 ≤ x }
+    requires most { x ≤ atoms }
+    ensures { IfOk result (λ right. IsTrue right ↔ IsRightLink atoms bonds.now standing.now x link.now) }
+{
+    let linkable = is_linkable(atoms, standing, x, link);
+    if !linkable {
+        return Ok(false);
+    }
+    let ends = ends_of(x, link);
+    let alike = are_alike(bonds, numbers_of(near, bonds, x), ends);
+    if !alike {
+        return Ok(false);
+    }
+    has_plain_block(alloc, atoms, near, bonds, standing, ends)
+}
+
+fn ends_of(x: u32, link: &LinkEntry) -> LinkEnds
+    ensures { result ≡ record { atom = x; from = natural link.now.from; to = natural link.now.to } }
+{
+    LinkEnds {
+        atom: x,
+        from: natural(link.from),
+        to: natural(link.to),
+    }
+}
+
+// Whether the atom is no site, and the numbers of the link are such as there are.
+fn is_linkable(atoms: u32, standing: &Standing, x: u32, link: &LinkEntry) -> bool
+    requires { HasPlace standing.now x }
+    ensures { IsTrue result ↔ IsLinkable atoms standing.now x link.now }
+{
+    !is_site(standing, x)
+        && is_twice(link)
+        && has_from(atoms, link)
+        && has_to(atoms, link)
+        && has_two(link)
+}
+
+fn is_twice(link: &LinkEntry) -> bool
+    ensures { IsTrue result ↔ pos 2 ≤ℤ link.now.most }
+{
+    link.most >= 2
+}
+
+fn has_from(atoms: u32, link: &LinkEntry) -> bool
+    ensures { IsTrue result ↔ IsAtom atoms link.now.from }
+{
+    is_atom(atoms, link.from)
+}
+
+fn has_to(atoms: u32, link: &LinkEntry) -> bool
+    ensures { IsTrue result ↔ IsAtom atoms link.now.to }
+{
+    is_atom(atoms, link.to)
+}
+
+fn has_two(link: &LinkEntry) -> bool
+    ensures { IsTrue result ↔ link.now.from ≢ link.now.to }
+{
+    link.from != link.to
+}
+
+// Whether two bonds that are alike lead from the link to the two neighbours.
+fn are_alike(bonds: &[QueryBond], numbers: &[u32], link: LinkEnds) -> bool
+    requires { AreNumbersOf bonds.now link.atom numbers.now }
+    ensures { IsTrue result ↔ AreAlikeBonds bonds.now link }
+{
+    for number in numbers {
+        let one = bonds[*number as usize - 1];
+        let found = joins(link.atom, link.from, one) && has_like(bonds, numbers, link, one);
+        if found {
+            return true;
+        }
+    }
+    false
+}
+
+// Whether a bond to the second neighbour is like this one.
+fn has_like(bonds: &[QueryBond], numbers: &[u32], link: LinkEnds, one: QueryBond) -> bool
+    requires { AreNumbersOf bonds.now link.atom numbers.now }
+    ensures { IsTrue result ↔ HasLike bonds.now link one }
+{
+    for number in numbers {
+        let other = bonds[*number as usize - 1];
+        if is_like(link, one, other) {
+            return true;
+        }
+    }
+    false
+}
+
+fn is_like(link: LinkEnds, one: QueryBond, other: QueryBond) -> bool
+    ensures { IsTrue result ↔ IsLike link one other }
+{
+    joins(link.atom, link.to, other) && one.kind == other.kind && one.topology == other.topology
+}
