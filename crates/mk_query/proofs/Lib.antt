@@ -9,6 +9,7 @@ pub mod LogicLemmas
 pub mod MarkLemmas
 pub mod NearLemmas
 pub mod NumberedLemmas
+pub mod OwnSizesLemmas
 pub mod PointFitsLemmas
 pub mod PointLemmas
 pub mod RecursionLemmas

@@ -10,6 +10,7 @@ pub mod LinkMarks
 pub mod LinkSearch
 pub mod LogicSearch
 pub mod Marks
+pub mod OwnSizes
 pub mod PointFits
 pub mod PointSearch
 pub mod Recursion

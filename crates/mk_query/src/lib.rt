@@ -19,6 +19,7 @@ mod linked_atoms;
 mod links;
 mod logic_lines;
 mod near;
+mod own_sizes;
 mod point_fits;
 mod points;
 mod property_checks;

@@ -6,8 +6,10 @@ ghost use Rattle.mk_model.specs.Sizes.{greatest};
 ghost use Rattle.mk_model.specs.Queries.{members_of};
 ghost use Rattle.mk_query.specs.CompileFaults.{IsNoCycle, IsSmall};
 ghost use Rattle.mk_query.specs.Recursion.{HasGroup};
-ghost use Rattle.mk_query.specs.RootSizes.{AreGreatest, AreOwnSizes, capped, of_group, own_size, site_size, sites_size, size_by_lists};
+ghost use Rattle.mk_query.specs.OwnSizes.{IsSized};
+ghost use Rattle.mk_query.specs.RootSizes.{capped, of_group, site_size, sites_size, size_by_lists};
 
+use crate::own_sizes::own_sizes;
 use mk_model::{Group, Slot, Template};
 use mk_text::Memory;
 use std::alloc::Global;
@@ -24,6 +26,7 @@ pub fn is_small(alloc: Global, templates: &[Template], groups: &[Group]) -> Resu
     requires all { length groups.now ≡ 32 }
     requires members { All (λ group. All (λ u. u < length templates.now) group.members) groups.now }
     requires labels { All (λ template. All HasGroup template.slots) templates.now }
+    requires sized { All (λ template. IsSized template) templates.now }
     requires no_cycle { (t : ℕ) → IsNoCycle (record { templates = templates.now; groups = groups.now }) t }
     ensures { IfOk result (λ small. IsTrue small ↔ IsSmall (record { templates = templates.now; groups = groups.now })) }
 {
@@ -33,15 +36,6 @@ pub fn is_small(alloc: Global, templates: &[Template], groups: &[Group]) -> Resu
         of_groups = next_greatest(alloc, templates, groups, &own, &of_groups)?;
     }
     Ok(size_by_lists(templates, &own, &of_groups, 0) < MORE)
-}
-
-// The own sizes of all templates, capped.
-fn own_sizes(alloc: Global, templates: &[Template]) -> Result<Vec<u32>, Memory>
-    ensures own { IfOk result (λ own. AreOwnSizes templates.now own.items) }
-    ensures capped { IfOk result (λ own. All (λ n. n ≤ 513) own.items) }
-{
-    // not written yet
-    Err(Memory)
 }
 
 // The greatest sizes in the groups where chains may be longer by one.
@@ -114,7 +108,8 @@ fn size_by_lists(templates: &[Template], own: &[u32], of_groups: &[u32], u: u32)
     capped(own[place] + sites_size(templates[place].slots(), of_groups))
 }
 
-fn capped(n: u32) -> u32
+/// The number, or 513 where it is above 512.
+pub fn capped(n: u32) -> u32
     ensures { result ≡ capped n }
 {
     if n < MORE { n } else { MORE }
