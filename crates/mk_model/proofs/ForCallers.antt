@@ -23,7 +23,7 @@ pub use Rattle.mk_model.proofs.PlaceLemmas.{at_place, place_within, place_is, al
 pub use Rattle.mk_model.proofs.GraphsLemmas.{few_bonds}
 pub use Rattle.mk_model.proofs.TemplatesLemmas.{simple_template}
 pub use Rattle.mk_model.proofs.BlockLemmas.{Hangs, hangs, hangs_tested, hangs_same, hangs_back, hangs_on, hangs_by, GoesAlong, hangs_closed, kept_within, kept_all, one_block}
-pub use Rattle.mk_model.proofs.SizesLemmas.{IsRanked, none_in_itself, size_by_rank, sizing_of, one_sizing, greatest_contains, ranked_by_size}
+pub use Rattle.mk_model.proofs.SizesLemmas.{IsRanked, none_in_itself, size_same, within_same, size_by_rank, sizing_of, one_sizing, greatest_contains, ranked_by_size}
 pub use Rattle.mk_model.proofs.CodesLemmas.{AreOne, one_choice}
 pub use Rattle.mk_model.proofs.OpenSlotsLemmas.{IsCut, cut, walks, enough, is_code_of, chooses_of, standing_walks, standing_is}
 pub use Rattle.mk_model.proofs.CodeLengthLemmas.{most_numbers, no_longer, code_is_short}

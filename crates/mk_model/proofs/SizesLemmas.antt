@@ -11,6 +11,7 @@ use Rattle.mk_model.specs.Templates.{TemplateView, neighbour_count}
 use Rattle.mk_model.specs.Queries.{QueryView}
 use Rattle.mk_model.specs.Labels.{IsChain, PutsIn, members_at}
 use Rattle.mk_model.specs.Sizes.{IsSizing, atom_numbers, greatest, is_fixed, size_by, size_of_slot}
+use Rattle.mk_model.specs.SizesWithin.{size_if, size_within}
 
 -- a template's rank is above that of each template that a site of it may be filled by
 abbrev pub IsRanked : QueryView → (ℕ → ℕ) → Type 0
@@ -51,7 +52,7 @@ sums_same f g (slot ∷ slots) same =
     omega (arith, sum_by-cons f slot slots, sum_by-cons g slot slots)
 
 -- the size of a template, by sizes that agree on what it puts in
-size_same : (query : QueryView) (size other : ℕ → ℕ) (t : ℕ) (template : TemplateView) → slice_get query.templates t ≡ Some template → ((u : ℕ) → PutsIn query t u → size u ≡ other u)
+pub size_same : (query : QueryView) (size other : ℕ → ℕ) (t : ℕ) (template : TemplateView) → slice_get query.templates t ≡ Some template → ((u : ℕ) → PutsIn query t u → size u ≡ other u)
     → size_by query size template ≡ size_by query other template
 size_same query size other t template at same =
     ap (λ (n : ℕ). count_by (is_fixed template) (atom_numbers template) + n)
@@ -59,16 +60,6 @@ size_same query size other t template at same =
     (λ slot within. slot_same query size other template slot (λ u fills. same u (record { slot = slot; at = rw at within; fills = fills }))))
 
 -- ---- the sizing
-
--- the size of a template, where there is one, by the sizes of others
-abbrev pub size_if : QueryView → (ℕ → ℕ) → Option TemplateView → ℕ
-size_if query size None = 0
-size_if query size (Some template) = size_by query size template
-
--- the size of a template, where no chain is longer than n
-abbrev pub size_within : ℕ → QueryView → ℕ → ℕ
-size_within zero query t = 0
-size_within (suc n) query t = size_if query (size_within n query) (slice_get query.templates t)
 
 -- sizes that agree on what a template puts in, where there is one
 if_same : (query : QueryView) (size other : ℕ → ℕ) (t : ℕ) → ((u : ℕ) → PutsIn query t u → size u ≡ other u) → size_if query size (slice_get query.templates t) ≡ size_if query other (slice_get query.templates t)
@@ -79,7 +70,7 @@ if_same query size other t same = by_template (slice_get query.templates t) refl
     by_template (Some template) e = rw e (size_same query size other t template e same)
 
 -- more room changes nothing
-within_same : (query : QueryView) (rank : ℕ → ℕ) → IsRanked query rank → (n m t : ℕ) → rank t < n → rank t < m → size_within n query t ≡ size_within m query t
+pub within_same : (query : QueryView) (rank : ℕ → ℕ) → IsRanked query rank → (n m t : ℕ) → rank t < n → rank t < m → size_within n query t ≡ size_within m query t
 within_same query rank ranked zero m t below below' = absurd (omega (arith, below))
 within_same query rank ranked (suc n) zero t below below' = absurd (omega (arith, below'))
 within_same query rank ranked (suc n) (suc m) t below below' =

@@ -13,6 +13,7 @@ pub mod Templates
 pub mod Queries
 pub mod Labels
 pub mod Sizes
+pub mod SizesWithin
 pub mod QueryFits
 pub mod Codes
 pub mod Logic

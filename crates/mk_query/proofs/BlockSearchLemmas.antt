@@ -2,6 +2,7 @@
 --     reached-first      the link alone is reached
 --     done-more          one atom more is done
 --     plain_block        where all that was reached is done, the block holds nothing else
+--     whole_block        where all that was reached is followed, it is the block
 --     numbers_are        the numbers of an atom's bonds
 use Rattle.std.proofs.Common.{◌≡◌, ◌≤◌, ◌<◌, ◌+◌, ◌-◌, ℕ, Bool, true, false, List, [], ◌∷◌, ◌++◌, refl, ap, sym, subst, ◌∙◌, length, get_or, replicate, set, arith, ⊎_elim}
 use Rattle.std.specs.Prelude.{◌↔◌, Contains, IsTrue, slice_get, Some}
@@ -14,7 +15,7 @@ use Rattle.mk_model.proofs.ForCallers.{Hangs, hangs, hangs_tested, hangs_same, h
 use Rattle.mk_ctab.proofs.ForCallers.{numbers_are, numbers-within}
 use Rattle.mk_query.specs.declared.link_ends.LinkEnds.{LinkEnds}
 use Rattle.mk_query.specs.declared.standing.Standing.{Standing}
-use Rattle.mk_query.specs.BlockSearch.{AreNumbersOf, HasPlainBlock, IsLed, IsLonger, IsReached, KeepReached, LeadsOn, MayHold, is_reached, others}
+use Rattle.mk_query.specs.BlockSearch.{AreNumbersOf, HasPlainBlock, IsBlock, IsLed, IsLonger, IsReached, KeepReached, LeadsOn, MayHold, is_reached, others}
 
 -- ---- the link alone
 
@@ -92,6 +93,49 @@ plain_block bonds standing link reached queue i all are done y is =
       forth = λ bond at here. ((done_at bond.first here).leads bond at).forth refl;
       back = λ bond at here. ((done_at bond.second here).leads bond at).back refl;
     }
+
+-- ---- the block alone
+
+-- the other bonds of the first i of the queue lead to atoms that were reached
+abbrev pub AreFollowed : List QueryBond → LinkEnds → List Bool → List ℕ → ℕ → Type 0
+AreFollowed bonds link reached queue i = (k : ℕ) → k < i → LeadsOn bonds link reached (get_or queue k 0)
+
+pub followed-none : (bonds : List QueryBond) (link : LinkEnds) (reached : List Bool) (queue : List ℕ) → AreFollowed bonds link reached queue 0
+followed-none bonds link reached queue k below = absurd (omega (arith, below))
+
+pub followed-more : (bonds : List QueryBond) (link : LinkEnds) (old new : List Bool) (before after : List ℕ) (i : ℕ) → i < length before → KeepReached old new → IsLonger before after
+    → LeadsOn bonds link new (get_or before i 0) → AreFollowed bonds link old before i → AreFollowed bonds link new after (i + 1)
+followed-more bonds link old new before after i inside keep longer leads followed k below =
+    let same : get_or after k 0 ≡ get_or before k 0 = longer.same k (omega (arith, below, inside)) in
+    subst (LeadsOn bonds link new) (sym same)
+    (⊎_elim
+    (λ earlier. λ bond at. (let led = followed k earlier bond at in record { forth = λ e. keep bond.second (led.forth e); back = λ e. keep bond.first (led.back e) }))
+    (λ here.
+    let at : i ≡ k = omega (arith, here, below) in
+    subst (λ (j : ℕ). LeadsOn bonds link new (get_or before j 0)) at leads)
+    (cases_lt k i))
+
+-- where all are followed, what was reached is the block
+pub whole_block : (bonds : List QueryBond) (link : LinkEnds) (reached : List Bool) (queue : List ℕ) (i : ℕ) → length queue ≤ i → IsReached bonds link reached queue
+    → AreFollowed bonds link reached queue i → IsBlock bonds link reached
+whole_block bonds link reached queue i all are followed y = by_tests (get_or reached y false) (hang_together (others link bonds) link.atom y) refl refl
+  where
+    led : (x : ℕ) → is_reached reached x ≡ true → LeadsOn bonds link reached x
+    led x is = (let found = are.listed x is in subst (LeadsOn bonds link reached) found.2 (followed found.0 (omega (arith, found.1, all))))
+
+    along : GoesAlong (λ (x : ℕ). is_reached reached x ≡ true) (others link bonds)
+    along = record { forth = λ bond at here. (led bond.first here bond at).forth refl; back = λ bond at here. (led bond.second here bond at).back refl }
+
+    by_tests : (a b : Bool) → get_or reached y false ≡ a → hang_together (others link bonds) link.atom y ≡ b → get_or reached y false ≡ hang_together (others link bonds) link.atom y
+    by_tests true true e e' = e ∙ sym e'
+    by_tests false false e e' = e ∙ sym e'
+    by_tests true false e e' =
+        let found = are.listed y e in
+        let hung : hang_together (others link bonds) link.atom y ≡ true = subst (λ (x : ℕ). hang_together (others link bonds) link.atom x ≡ true) found.2 (are.hang found.0 found.1) in
+        absurd (true≢false (sym hung ∙ e'))
+    by_tests false true e e' =
+        let P : ℕ → Type 0 = λ x. is_reached reached x ≡ true in
+        absurd (true≢false (sym (hangs_closed P (others link bonds) link.atom y along (hangs (others link bonds) link.atom y e') are.start) ∙ e))
 
 -- ---- numbers
 

@@ -7,12 +7,17 @@ pub mod LabelLemmas
 pub mod LinkLemmas
 pub mod LinkMarkLemmas
 pub mod ListLemmas
+pub mod CapLemmas
 pub mod LogicLemmas
 pub mod MarkLemmas
 pub mod NearLemmas
 pub mod NumberedLemmas
 pub mod OrderLemmas
 pub mod PointLemmas
+pub mod OwnSizesLemmas
+pub mod PointFitsLemmas
+pub mod RecursionLemmas
+pub mod RootSizesLemmas
 pub mod SiteLemmas
 pub mod StandingLemmas
 pub mod ValueLemmas

@@ -3,6 +3,7 @@
 --     others link bonds                      all other bonds
 --     MayHold standing link y                a block may hold atom y
 --     HasPlainBlock bonds standing link      the block holds no other
+--     IsBlock bonds link block               for each atom whether the block holds it
 --     AreNumbersOf bonds y numbers           the numbers of the bonds of atom y
 --     IsReached bonds link reached queue     the atoms that were reached so far, and the same in their order
 --     LeadsOn bonds link reached y           the other bonds of y lead to atoms that were reached
@@ -37,6 +38,10 @@ pub record MayHold (standing : Standing) (link : LinkEnds) (y : ℕ) : Type 0 wh
 -- the block may hold what it holds
 abbrev pub HasPlainBlock : List QueryBond → Standing → LinkEnds → Type 0
 HasPlainBlock bonds standing link = (y : ℕ) → IsTrue (hang_together (others link bonds) link.atom y) → MayHold standing link y
+
+-- for each atom, whether the block of the link holds it
+abbrev pub IsBlock : List QueryBond → LinkEnds → List Bool → Type 0
+IsBlock bonds link block = (y : ℕ) → slice_index_or block y false ≡ hang_together (others link bonds) link.atom y
 
 -- ---- the search
 

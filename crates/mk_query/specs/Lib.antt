@@ -11,7 +11,11 @@ pub mod LinkSearch
 pub mod LogicSearch
 pub mod Marks
 pub mod OrderSearch
+pub mod OwnSizes
+pub mod PointFits
 pub mod PointSearch
+pub mod Recursion
+pub mod RootSizes
 pub mod Searches
 pub mod SiteChecks
 pub mod Standings

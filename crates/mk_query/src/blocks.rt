@@ -5,7 +5,7 @@
 ghost use Rattle.std.specs.Prelude.{◌≡◌, ◌≤◌, ◌<◌, ◌+◌, ◌-◌, ◌↔◌, ◌||◌, false, true, IfOk, IsTrue, OnOk, length, slice_index, slice_index_or};
 ghost use Rattle.mk_model.specs.Edges.{AreBetween, rows_of};
 ghost use Rattle.mk_model.specs.Templates.{hang_together, joins, query_edges};
-ghost use Rattle.mk_query.specs.BlockSearch.{AreNumbersOf, HasPlainBlock, IsLonger, IsReached, KeepReached, LeadsOn, MayHold, is_own, is_reached, others, unreached};
+ghost use Rattle.mk_query.specs.BlockSearch.{AreNumbersOf, HasPlainBlock, IsBlock, IsLonger, IsReached, KeepReached, LeadsOn, MayHold, is_own, is_reached, others, unreached};
 ghost use Rattle.mk_query.specs.Standings.{HasEachPlace, HasPlace, bears, is_link, is_site};
 
 use crate::drawn_bonds::joins;
@@ -55,6 +55,36 @@ pub fn has_plain_block(
         i += 1;
     }
     Ok(true)
+}
+
+/// For each atom whether it is in the block of the link; place 0 stands for none.
+pub fn block_of(
+    alloc: Global,
+    atoms: u32,
+    near: &Neighbours,
+    bonds: &[QueryBond],
+    link: LinkEnds,
+) -> Result<Vec<bool>, Memory>
+    requires few { atoms ≤ 999 }
+    requires size { length near.now ≡ atoms }
+    requires ends { AreBetween atoms (query_edges bonds.now) }
+    requires rows { near.now ≡ rows_of atoms (query_edges bonds.now) }
+    requires least { 1 ≤ link.atom }
+    requires most { link.atom ≤ atoms }
+    ensures size { IfOk result (λ block. length block.items ≡ atoms + 1) }
+    ensures block { IfOk result (λ block. IsBlock bonds.now link block.items) }
+{
+    let mut reached = vec![in alloc; false; atoms as usize + 1]?;
+    let mut queue = Vec::with_capacity(alloc, 1)?;
+    reached[link.atom as usize] = true;
+    queue.push(link.atom)?;
+    let mut i = 0;
+    while i < queue.len() {
+        let y = queue[i];
+        follow(&mut reached, &mut queue, numbers_of(near, bonds, y), bonds, link, y)?;
+        i += 1;
+    }
+    Ok(reached)
 }
 
 /// The numbers of the bonds of atom y.

@@ -1,8 +1,11 @@
-//! Queries: whether the tables of a query can be meant. So far the checks Q1 to Q10 of one table stand.
+//! Queries: whether they can be meant. So far the checks Q1 to Q10 of one table stand, and of the checks across the tables of a
+//! query Q11 to Q13, on its templates and groups.
 //!
-//! Callers use one promise. `first_fault` gives the first check that a table fails, with its least atom, bond or property, and None
+//! Callers use two promises. `first_fault` gives the first check that a table fails, with its least atom, bond or property, and None
 //! exactly where the table passes (`FindsFirst` in `specs/FirstFault.antt` over the demands of `specs/Checks.antt`, `SiteChecks.antt`
-//! and `LinkChecks.antt`; told in docs/FORMAT.md, "The checks of a query").
+//! and `LinkChecks.antt`; told in docs/FORMAT.md, "The checks of a query"). `first_recursive`, `first_misfit` and `is_small` give the
+//! first template that uses itself, the first site that its members don't fit, and whether the root's size is at most 512
+//! (`specs/CompileFaults.antt`).
 //!
 //! What any table has to keep stands in mk_ctab. What a query means isn't said here.
 #![tactic(auto)]
@@ -21,8 +24,12 @@ mod lists;
 mod logic_lines;
 mod marks;
 mod orders;
+mod own_sizes;
+mod point_fits;
 mod points;
 mod property_checks;
+mod recursion;
+mod root_sizes;
 #[cfg(test)]
 mod site_tests;
 mod sites;
@@ -35,5 +42,8 @@ mod values;
 
 pub use checking::first_fault;
 pub use mk_text::Memory;
+pub use point_fits::{SitePlace, first_misfit};
+pub use recursion::first_recursive;
+pub use root_sizes::is_small;
 pub use table_faults::Fault;
 pub use values::{ValueKind, last_values};

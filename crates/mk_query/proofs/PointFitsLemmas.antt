@@ -1,0 +1,111 @@
+-- Sites whose members don't have as many points as the site has neighbours.
+--     told_more         one group more of which it is told
+--     fits_told         what is told of a slot is so
+--     misfit_found, all_fit     a table with a misfit and its lowest atom; a table without one
+use Rattle.std.proofs.Common.{◌≡◌, ℕ, ◌+◌, ◌-◌, ◌<◌, ◌≤◌, Bool, true, false, cond, List, [], ◌∷◌, ◌++◌, Some, refl, sym, subst, ⊎_elim, ◌∙◌, arith, length, get_or, All}
+use Rattle.std.specs.Prelude.{◌==◌, ◌↔◌, AllPairs, Contains, IsTrue, slice_get, slice_index_or}
+use Rattle.std.proofs.lemmas.Bool.{cases_lt, true≢false}
+use Rattle.std.proofs.lemmas.List.{get_or_append_left, get_or_push}
+use Rattle.std.proofs.lemmas.Option.{slice_get_within, get_or_from_slice_get}
+use Rattle.mk_text.specs.Items.{IsLeastFailing}
+use Rattle.mk_model.specs.declared.group.Group.{Group}
+use Rattle.mk_model.specs.declared.template.Slot.{Slot}
+use Rattle.mk_model.specs.declared.template.Slot.TheVariants.{Link, Site}
+use Rattle.mk_model.specs.Queries.{QueryView, members_of}
+use Rattle.mk_model.specs.QueryFits.{FitsPoints, HasRisingSlots}
+use Rattle.mk_model.specs.Templates.{TemplateView, slot_atom}
+use Rattle.mk_model.proofs.ForCallers.{at_place}
+use Rattle.mk_query.specs.CompileFaults.{FitsAt, FitsTable}
+use Rattle.mk_query.specs.PointFits.{AllHavePoints, AreTold, FindsUnfit, IsUnfit, told_fit}
+use Rattle.mk_query.specs.Recursion.{HasGroup}
+
+-- ---- one group more
+
+-- what is told of the first g groups
+abbrev pub AreToldSoFar : QueryView → ℕ → ℕ → List Bool → Type 0
+AreToldSoFar query n m list = (g : ℕ) → g < m → IsTrue (slice_index_or list g false) ↔ AllHavePoints query.templates n (members_of query (g + 1))
+
+pub told_more : (query : QueryView) (n g : ℕ) (list : List Bool) (x : Bool) → length list ≡ g → IsTrue x ↔ AllHavePoints query.templates n (members_of query (g + 1))
+    → AreToldSoFar query n g list → AreToldSoFar query n (g + 1) (list ++ x ∷ [])
+told_more query n g list x size here before h below =
+    ⊎_elim
+    (λ earlier. let same : get_or (list ++ x ∷ []) h false ≡ get_or list h false = get_or_append_left list (x ∷ []) false h (omega (arith, earlier, size)) in rw same (before h earlier))
+    (λ last.
+    let at : h ≡ g = omega (arith, below, last) in
+    let same : get_or (list ++ x ∷ []) h false ≡ x = get_or_push list x false h (omega (arith, at, size)) in
+    rw (same, at) here)
+    (cases_lt h g)
+
+-- ---- one slot
+
+module _ (query : QueryView) (one two : List Bool) (first : AreTold query 1 one) (second : AreTold query 2 two) where
+  -- a member of a site's group has as many points as the site has neighbours, by what is told of the group
+  pub fits_told : (slot : Slot) → HasGroup slot → told_fit one two slot ≡ true ↔ FitsPoints query slot
+  fits_told (Link atom most from to) has = (λ _ u template at. absurd (let below = at.1 in omega arith), λ _. refl)
+  fits_told (Site atom group x y) has = by_second (y == 0)
+    where
+      place : group - 1 + 1 ≡ group
+      place = omega (arith, has.0)
+      by_second : (b : Bool)
+          → cond b (slice_index_or one (group - 1) false) (slice_index_or two (group - 1) false) ≡ true
+          ↔ ((u : ℕ) (template : TemplateView) → Contains (members_of query group) u → slice_get query.templates u ≡ Some template → length template.points ≡ cond b 1 2)
+      by_second true =
+          let told = rw place at (first.each (group - 1) (omega (arith, has))) in
+          (λ is u template at found. told.0 is u at template found, λ fits. told.1 (λ u at template found. fits u template at found))
+      by_second false =
+          let told = rw place at (second.each (group - 1) (omega (arith, has))) in
+          (λ is u template at found. told.0 is u at template found, λ fits. told.1 (λ u at template found. fits u template at found))
+
+  -- ---- one table
+
+  module _ (t : ℕ) (template : TemplateView) (at : slice_get query.templates t ≡ Some template) (has : All HasGroup template.slots) where
+    -- the label of a slot at its place
+    label : (j : ℕ) (slot : Slot) → slice_get template.slots j ≡ Some slot → HasGroup slot
+    label j slot found = subst HasGroup (get_or_from_slice_get template.slots j slot slot found) (has j slot (slice_get_within template.slots j slot found))
+
+    -- the template of this number is this one
+    same_template : (other : TemplateView) → slice_get query.templates t ≡ Some other → template ≡ other
+    same_template other found = (let both : Some template ≡ Some other = sym at ∙ found in cc)
+
+    -- every slot fits
+    pub all_fit : FindsUnfit one two template.slots Rattle.std.proofs.Common.None → FitsTable query t
+    all_fit fit x other slot found within atom =
+        let same = same_template other found in
+        let inside : Contains template.slots slot = rw same within in
+        let slot_at : slice_get template.slots inside.0 ≡ Some slot = at_place template.slots inside.0 slot inside.1 ∙ rw inside.2 refl in
+        (fits_told slot (label inside.0 slot slot_at)).0 (fit inside.0 slot slot_at)
+
+    -- the first that doesn't is at the lowest atom
+    pub misfit_found : HasRisingSlots template → (x : ℕ) → IsUnfit one two template.slots x → IsLeastFailing (FitsAt query t) x
+    misfit_found rising x unfit = record { lower = lower; fails = fails }
+      where
+        place : get_or template.slots unfit.place unfit.slot ≡ unfit.slot
+        place = get_or_from_slice_get template.slots unfit.place unfit.slot unfit.slot unfit.at
+        fails : FitsAt query t x → ⊥
+        fails fits =
+            let fit = fits template unfit.slot at (unfit.place, slice_get_within template.slots unfit.place unfit.slot unfit.at, place) unfit.atom in
+            absurd (true≢false (sym ((fits_told unfit.slot (label unfit.place unfit.slot unfit.at)).1 fit) ∙ unfit.unfit))
+        lower : (y : ℕ) → y < x → FitsAt query t y
+        lower y below other slot found within atom =
+            let same = same_template other found in
+            let inside : Contains template.slots slot = rw same within in
+            let slot_at : slice_get template.slots inside.0 ≡ Some slot = at_place template.slots inside.0 slot inside.1 ∙ rw inside.2 refl in
+            let earlier : inside.0 < unfit.place =
+                ⊎_elim (λ is. is)
+                (λ behind. absurd (behind_it inside.0 slot inside.1 inside.2 (omega (arith, behind)) atom below))
+                (cases_lt inside.0 unfit.place) in
+            (fits_told slot (label inside.0 slot slot_at)).0 (unfit.before inside.0 slot earlier slot_at)
+          where
+            -- a slot at or behind the first that doesn't fit is at no lower atom
+            behind_it : (j : ℕ) (slot : Slot) → j < length template.slots → get_or template.slots j slot ≡ slot → unfit.place ≤ j → slot_atom slot ≡ y → y < x → ⊥
+            behind_it j slot within is most atom below =
+                ⊎_elim
+                (λ later. let order = rising unfit.place j slot later within in
+                let first : get_or template.slots unfit.place slot ≡ unfit.slot = get_or_from_slice_get template.slots unfit.place unfit.slot slot unfit.at in
+                let falls : slot_atom unfit.slot < slot_atom slot = rw (first, is) at order in omega (arith, falls, unfit.atom, atom, below))
+                (λ same.
+                let equal : j ≡ unfit.place = omega (arith, most, same) in
+                let one : slot ≡ unfit.slot = sym is ∙ rw equal (get_or_from_slice_get template.slots unfit.place unfit.slot slot unfit.at) in
+                let atoms : slot_atom slot ≡ slot_atom unfit.slot = rw one refl in
+                omega (arith, atoms, unfit.atom, atom, below))
+                (cases_lt unfit.place j)

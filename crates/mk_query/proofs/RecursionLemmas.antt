@@ -1,0 +1,432 @@
+-- Which groups lead to which, and the tables that use themselves.
+--     slots_at, members_at_place       a table's slots and a group's members, by their places
+--     any_more                         none so far, and not the next
+--     hold_more                        one more entry of a table of rows and columns
+--     chain_leads, leads_chain         a table leads on to another exactly where one of its sites leads to its group
+--     ranked                           where none uses itself, the groups to which a table leads rank it
+use Rattle.std.proofs.Common.{◌≡◌, ℕ, zero, suc, ◌+◌, ◌-◌, ◌*◌, ◌<◌, ◌≤◌, Bool, true, false, cond, inl, inr, ◌⊎◌, ⊎_elim, Option, None, ◌&&◌, ◌||◌, List, [], ◌∷◌, ◌++◌, Some, refl, sym, ap, subst, ◌∙◌, arith, length, get_or, take, All}
+use Rattle.std.specs.Prelude.{◌==◌, count_by, Contains, IsTrue, slice_get}
+use Rattle.std.specs.List.{list_any, range_with_len}
+use Rattle.std.proofs.lemmas.Bool.Decides.{nat_tests}
+use Rattle.std.proofs.lemmas.Bool.{cases_lt, true≢false}
+use Rattle.std.proofs.lemmas.List.{take_more}
+use Rattle.std.proofs.lemmas.List.Elements.{Contains-append_cases}
+use Rattle.std.proofs.lemmas.List.Folds.{list_any_at, list_any_more}
+use Rattle.std.proofs.lemmas.List.FromFn.{get_or-range_with_len, length-range_with_len}
+use Rattle.std.proofs.lemmas.List.Sums.{count_by-le-length, sum_by-cons}
+use Rattle.std.proofs.lemmas.Option.{slice_get_within, get_or_from_slice_get}
+use Rattle.mk_text.proofs.ForCallers.{both, and_true, or_left, or_right}
+use Rattle.mk_model.specs.declared.group.Group.{Group}
+use Rattle.mk_model.specs.declared.template.Slot.{Slot}
+use Rattle.mk_model.specs.declared.template.Slot.TheVariants.{Link, Site}
+use Rattle.mk_model.specs.Labels.{IsChain, PutsIn, bears_label, members_at}
+use Rattle.mk_model.specs.Queries.{QueryView, members_of, slots_of}
+use Rattle.mk_model.specs.Templates.{TemplateView}
+use Rattle.mk_model.proofs.ForCallers.{IsPassed, IsRanked, all_at, at_place, some_passes}
+use Rattle.mk_query.specs.CompileFaults.{IsNoCycle}
+use Rattle.mk_query.specs.Recursion.{ComesBack, HasGroup, HoldSoFar, Holds, asks_for, cell, comes_back, entry, leads, leads_on, of_templates}
+
+-- ---- by places
+
+-- the slots of the table at a place
+pub slots_at : (templates : List TemplateView) (u : ℕ) (x : TemplateView) → u < length templates → x ≡ get_or templates u x → slots_of (of_templates templates) u ≡ x.slots
+slots_at templates u x below is = (let at : slice_get templates u ≡ Some x = at_place templates u x below ∙ ap Some (sym is) in rw at refl)
+
+-- the members of the group at a place
+pub members_at_place : (templates : List TemplateView) (groups : List Group) (a : ℕ) (x : Group) → a < length groups → x ≡ get_or groups a x
+    → members_of (record { templates = templates; groups = groups }) (a + 1) ≡ x.members
+members_at_place templates groups a x below is =
+    let at : slice_get groups a ≡ Some x = at_place groups a x below ∙ ap Some (sym is) in
+    let place : a + 1 - 1 ≡ a = omega arith in
+    rw (place, at) refl
+
+-- an element that passes is in the list
+in_list : {X : Type 0} (p : X → Bool) (xs : List X) → list_any p xs ≡ true → (x : X) × Contains xs x × (p x ≡ true)
+in_list p xs any =
+    let found = some_passes p xs any in
+    (found.item, (found.place, slice_get_within xs found.place found.item found.at, get_or_from_slice_get xs found.place found.item found.item found.at), found.passes)
+
+-- and one of the list that passes is enough
+from_list : {X : Type 0} (p : X → Bool) (xs : List X) (x : X) → Contains xs x → p x ≡ true → list_any p xs ≡ true
+from_list p xs x at passes = list_any_at p xs at.0 x at.1 (ap p at.2 ∙ passes)
+
+-- none so far, and not the next
+pub any_more : {X : Type 0} (p : X → Bool) (xs : List X) (i : ℕ) (d : X) → i < length xs → list_any p (take i xs) ≡ false → p (get_or xs i d) ≡ false → list_any p (take (i + 1) xs) ≡ false
+any_more p xs i d below before here = list_any_more p xs i d below ∙ rw (before, here) refl
+
+-- ---- ways from group to group
+
+-- group g asks for the first of the groups between, and so on, up to group h
+abbrev Asks : QueryView → ℕ → List ℕ → ℕ → Type 0
+Asks query g [] h = asks_for query g h ≡ true
+Asks query g (v ∷ via) h = (asks_for query g v ≡ true) × Asks query v via h
+
+-- two ways, one behind the other
+joined : (query : QueryView) (g : ℕ) (via : List ℕ) (v : ℕ) (others : List ℕ) (h : ℕ) → Asks query g via v → Asks query v others h → Asks query g (via ++ v ∷ others) h
+joined query g [] v others h first second = (first, second)
+joined query g (w ∷ via) v others h first second = (first.0, joined query w via v others h first.1 second)
+
+-- numbers by their test
+same_numbers : (n m : ℕ) → (n == m) ≡ true → n ≡ m
+same_numbers n m e = grind (arith, nat_tests)
+
+numbers_same : (n m : ℕ) → n ≡ m → (n == m) ≡ true
+numbers_same n m e = grind (arith, nat_tests)
+
+other_number : (n k : ℕ) → n ≤ suc k → (n == suc k) ≡ false → n ≤ k
+other_number n k most e = grind (arith, nat_tests)
+
+-- one of two tests
+one_of : (a b : Bool) → (a || b) ≡ true → (a ≡ false → b ≡ true)
+one_of true b holds e = absurd cc
+one_of false b holds e = holds
+
+-- what leads on is a way
+way : (query : QueryView) (k g h : ℕ) → leads query k g h ≡ true → (via : List ℕ) × Asks query g via h
+way query zero g h is = ([], is)
+way query (suc k) g h is = by_first (leads query k g h) refl (way query k)
+  where
+    by_first : (b : Bool) → leads query k g h ≡ b → ((g h : ℕ) → leads query k g h ≡ true → (via : List ℕ) × Asks query g via h) → (via : List ℕ) × Asks query g via h
+    by_first true e ways = ways g h e
+    by_first false e ways =
+        let two = both (leads query k g (suc k)) (leads query k (suc k) h) (one_of _ _ is e) in
+        let first = ways g (suc k) two.0 in
+        let second = ways (suc k) h two.1 in
+        (first.0 ++ suc k ∷ second.0, joined query g first.0 (suc k) second.0 h first.1 second.1)
+
+-- with more groups between no less
+more_between : (query : QueryView) (k g h : ℕ) → leads query 0 g h ≡ true → leads query k g h ≡ true
+more_between query zero g h is = is
+more_between query (suc k) g h is = or_left (leads query k g h) _ (more_between query k g h is)
+
+-- through one of the groups between
+module _ (query : QueryView) where
+  -- what leads on by one group more leads on to it, and from it
+  last_to : (k g : ℕ) → leads query (suc k) g (suc k) ≡ true → leads query k g (suc k) ≡ true
+  last_to k g is = by_first (leads query k g (suc k)) refl
+    where
+      by_first : (b : Bool) → leads query k g (suc k) ≡ b → leads query k g (suc k) ≡ true
+      by_first true e = e
+      by_first false e = (both (leads query k g (suc k)) _ (one_of _ _ is e)).0
+
+  last_from : (k h : ℕ) → leads query (suc k) (suc k) h ≡ true → leads query k (suc k) h ≡ true
+  last_from k h is = by_first (leads query k (suc k) h) refl
+    where
+      by_first : (b : Bool) → leads query k (suc k) h ≡ b → leads query k (suc k) h ≡ true
+      by_first true e = e
+      by_first false e = (both (leads query k (suc k) (suc k)) (leads query k (suc k) h) (one_of _ _ is e)).1
+
+  -- by the last group
+  by_last : (k g h : ℕ) → leads query k g (suc k) ≡ true → leads query k (suc k) h ≡ true → leads query (suc k) g h ≡ true
+  by_last k g h first second = or_right (leads query k g h) _ (and_true _ _ first second)
+
+  -- through a group is a way
+  abbrev GoesThrough : ℕ → Type 0
+  GoesThrough k = (g v h : ℕ) → 1 ≤ v → v ≤ k → leads query k g v ≡ true → leads query k v h ≡ true → leads query k g h ≡ true
+
+  -- through one that isn't the last, where each of the two ways goes by the last or not
+  inside : (k : ℕ) → GoesThrough k → (g v h : ℕ) → 1 ≤ v → v ≤ k → leads query (suc k) g v ≡ true → leads query (suc k) v h ≡ true
+      → (a b : Bool) → leads query k g v ≡ a → leads query k v h ≡ b → leads query (suc k) g h ≡ true
+  inside k goes g v h some low first second true true e e' = or_left (leads query k g h) _ (goes g v h some low e e')
+  inside k goes g v h some low first second true false e e' =
+      let two = both (leads query k v (suc k)) (leads query k (suc k) h) (one_of _ _ second e') in
+      by_last k g h (goes g v (suc k) some low e two.0) two.1
+  inside k goes g v h some low first second false true e e' =
+      let two = both (leads query k g (suc k)) (leads query k (suc k) v) (one_of _ _ first e) in
+      by_last k g h two.0 (goes (suc k) v h some low two.1 e')
+  inside k goes g v h some low first second false false e e' =
+      let two = both (leads query k g (suc k)) (leads query k (suc k) v) (one_of _ _ first e) in
+      let other = both (leads query k v (suc k)) (leads query k (suc k) h) (one_of _ _ second e') in
+      by_last k g h two.0 other.1
+
+  pub through : (k : ℕ) → GoesThrough k
+  through zero g v h some few first second = absurd (omega arith)
+  through (suc k) g v h some few first second = by_place (v == suc k) refl (through k)
+    where
+      by_place : (b : Bool) → (v == suc k) ≡ b → GoesThrough k → leads query (suc k) g h ≡ true
+      by_place true e goes =
+          let same : v ≡ suc k = same_numbers v (suc k) e in
+          by_last k g h (last_to k g (rw same at first)) (last_from k h (rw same at second))
+      by_place false e goes = (let low : v ≤ k = other_number v k few e in inside k goes g v h some low first second _ _ refl refl)
+
+-- ---- tables and groups
+
+-- the labels of all sites are groups' numbers
+abbrev pub HasGroups : QueryView → Type 0
+HasGroups query = (t : ℕ) (slot : Slot) → Contains (slots_of query t) slot → HasGroup slot
+
+-- the label of a slot by which a table puts another in
+label_of : (query : QueryView) (slot : Slot) (u : ℕ) → HasGroup slot → Contains (members_at query slot) u
+    → (h : ℕ) × (1 ≤ h) × (h ≤ 32) × Contains (members_of query h) u × ((g : ℕ) → (h ≡ g) → bears_label slot g ≡ true) × ((f : ℕ → ℕ → Bool) (g : ℕ) → f h g ≡ true → leads_on f g slot ≡ true)
+label_of query (Link atom most from to) u has at = absurd (let below = at.1 in omega arith)
+label_of query (Site atom group first second) u has at =
+    (group, has.0, has.1, at, (λ g same. numbers_same group g same), (λ f g is. or_right (group == g) (f group g) is))
+
+-- a site that bears a group's label leads to the group
+bears_leads : (f : ℕ → ℕ → Bool) (g : ℕ) (slot : Slot) → bears_label slot g ≡ true → leads_on f g slot ≡ true
+bears_leads f g (Link atom most from to) bears = absurd cc
+bears_leads f g (Site atom group first second) bears = or_left (group == g) (f group g) bears
+
+-- a site that bears a group's label puts in each of its members
+puts_in : (query : QueryView) (t : ℕ) (slot : Slot) (h u : ℕ) → Contains (slots_of query t) slot → bears_label slot h ≡ true → Contains (members_of query h) u → PutsIn query t u
+puts_in query t (Link atom most from to) h u at bears member = absurd cc
+puts_in query t (Site atom group first second) h u at bears member =
+    record { slot = Site atom group first second; at = at; fills = (let same : group ≡ h = same_numbers group h bears in rw same member) }
+
+-- the group of a table asks for that of a site which leads on
+on_from : (query : QueryView) (k : ℕ) → 32 ≤ k → (h v g : ℕ) (slot : Slot) → Contains (members_of query h) v → HasGroup slot → Contains (slots_of query v) slot
+    → leads_on (leads query k) g slot ≡ true → leads query k h g ≡ true
+on_from query k enough h v g (Link atom most from to) member has at on = absurd cc
+on_from query k enough h v g (Site atom group first second) member has at on =
+    let asked : asks_for query h group ≡ true =
+        from_list (λ u. list_any (λ slot. bears_label slot group) (slots_of query u)) (members_of query h) v member
+        (from_list (λ slot. bears_label slot group) (slots_of query v) (Site atom group first second) at (numbers_same group group refl)) in
+    let here : leads query k h group ≡ true = more_between query k h group asked in
+    by_label (group == g) refl here
+  where
+    by_label : (b : Bool) → (group == g) ≡ b → leads query k h group ≡ true → leads query k h g ≡ true
+    by_label true e here = (let same : group ≡ g = same_numbers group g e in rw same at here)
+    by_label false e here = through query k h group g has.0 (omega (arith, has.1)) here (one_of _ _ on e)
+
+-- A table that puts in another leads to a group of the other, and to all groups to which the other leads.
+pub record LeadsOn (query : QueryView) (k t u : ℕ) : Type 0 where
+  pub group : ℕ
+  pub some : 1 ≤ group
+  pub few : group ≤ 32
+  pub member : Contains (members_of query group) u
+  pub here : comes_back (leads query k) group (slots_of query t) ≡ true
+  pub on : (g : ℕ) → comes_back (leads query k) g (slots_of query u) ≡ true → comes_back (leads query k) g (slots_of query t) ≡ true
+
+pub puts_leads : (query : QueryView) (k : ℕ) → 32 ≤ k → HasGroups query → (t u : ℕ) → PutsIn query t u → LeadsOn query k t u
+puts_leads query k enough has t u puts =
+    let label = label_of query puts.slot u (has t puts.slot puts.at) puts.fills in
+    record {
+      group = label.0;
+      some = label.1;
+      few = label.2;
+      member = label.3;
+      here = from_list (leads_on (leads query k) label.0) (slots_of query t) puts.slot puts.at (bears_leads (leads query k) label.0 puts.slot (label.4 label.0 refl));
+      on = λ g later.
+          let on = in_list (leads_on (leads query k) g) (slots_of query u) later in
+          from_list (leads_on (leads query k) g) (slots_of query t) puts.slot puts.at
+          (label.5 (leads query k) g (on_from query k enough label.0 u g on.0 label.3 (has u on.0 on.1) on.1 on.2));
+    }
+
+-- a table that puts in one which leads on does so itself
+pub chain_leads : (query : QueryView) (k : ℕ) → 32 ≤ k → HasGroups query → (t : ℕ) (via : List ℕ) (u : ℕ) → IsChain query t via u
+    → (g : ℕ) × (1 ≤ g) × (g ≤ 32) × Contains (members_of query g) u × (comes_back (leads query k) g (slots_of query t) ≡ true)
+chain_leads query k enough has t [] u chain = (let leads = puts_leads query k enough has t u chain in (leads.group, leads.some, leads.few, leads.member, leads.here))
+chain_leads query k enough has t (v ∷ via) u chain =
+    let later = chain_leads query k enough has v via u chain.1 in
+    (later.0, later.1, later.2, later.3, (puts_leads query k enough has t v chain.0).on later.0 later.4)
+
+-- the way from a site's group to another is a chain of tables, up to any member of it
+ways_down : (query : QueryView) (t : ℕ) (slot : Slot) (h : ℕ) (via : List ℕ) (g u : ℕ) → Contains (slots_of query t) slot → bears_label slot h ≡ true → Asks query h via g
+    → Contains (members_of query g) u → (tables : List ℕ) × IsChain query t tables u
+ways_down query t slot h [] g u at bears asks member =
+    let first = in_list (λ v. list_any (λ slot. bears_label slot g) (slots_of query v)) (members_of query h) asks in
+    let second = in_list (λ slot. bears_label slot g) (slots_of query first.0) first.2 in
+    (first.0 ∷ [], (puts_in query t slot h first.0 at bears first.1, puts_in query first.0 second.0 g u second.1 second.2 member))
+ways_down query t slot h (w ∷ via) g u at bears asks member =
+    let first = in_list (λ v. list_any (λ slot. bears_label slot w) (slots_of query v)) (members_of query h) asks.0 in
+    let second = in_list (λ slot. bears_label slot w) (slots_of query first.0) first.2 in
+    let later = ways_down query first.0 second.0 w via g u second.1 second.2 asks.1 member in
+    (first.0 ∷ later.0, (puts_in query t slot h first.0 at bears first.1, later.1))
+
+-- a site that leads to a group puts in, directly or through others, every member of it
+pub leads_chain : (query : QueryView) (k t g u : ℕ) → Contains (members_of query g) u → comes_back (leads query k) g (slots_of query t) ≡ true → (via : List ℕ) × IsChain query t via u
+leads_chain query k t g u member back =
+    let on = in_list (leads_on (leads query k) g) (slots_of query t) back in
+    by_slot query k t g u on.0 member on.1 on.2
+  where
+    by_slot : (query : QueryView) (k t g u : ℕ) (slot : Slot) → Contains (members_of query g) u → Contains (slots_of query t) slot → leads_on (leads query k) g slot ≡ true → (via : List ℕ) × IsChain query t via u
+    by_slot query k t g u (Link atom most from to) member at on = absurd cc
+    by_slot query k t g u (Site atom group first second) member at on = by_label (group == g) refl
+      where
+        by_label : (b : Bool) → (group == g) ≡ b → (via : List ℕ) × IsChain query t via u
+        by_label true e = ([], puts_in query t (Site atom group first second) g u at e member)
+        by_label false e =
+            let asks = way query k group g (one_of _ _ on e) in
+            ways_down query t (Site atom group first second) group asks.0 g u at (numbers_same group group refl) asks.1 member
+
+-- ---- the least member that comes back
+
+-- one member more: it is in front of those, or it is the last
+pub member_more : (xs : List ℕ) (i : ℕ) (x : ℕ) → i < length xs → Contains (take (i + 1) xs) x → Contains (take i xs) x ⊎ (x ≡ get_or xs i 0)
+member_more xs i x below at =
+    let more : Contains (take i xs ++ get_or xs i 0 ∷ []) x = rw (sym (take_more xs i 0 below)) at in
+    ⊎_elim (λ first. inl first) (λ last. inr (alone (get_or xs i 0) x last)) (Contains-append_cases (take i xs) (get_or xs i 0 ∷ []) x more)
+  where
+    alone : (y x : ℕ) → Contains (y ∷ []) x → x ≡ y
+    alone y x (zero, below, is) = sym is
+    alone y x (suc k, below, is) = absurd (omega (arith, below))
+
+module _ (templates : List TemplateView) (list : List Bool) (members : List ℕ) (g i : ℕ) where
+  -- what no member so far that comes back is above
+  abbrev pub IsLow : ℕ → ℕ → Type 0
+  IsLow n low = (u : ℕ) → ComesBack templates list (take n members) g u → low ≤ u
+
+  -- the next member comes back, and is below
+  pub low_here : i < length members → (low : ℕ) → get_or members i 0 < low → IsLow i low → IsLow (i + 1) (get_or members i 0)
+  low_here below low less before u back =
+      ⊎_elim (λ first. omega (arith, less, before u (record { member = first; back = back.back }))) (λ last. omega (arith, last)) (member_more members i u below back.member)
+
+  -- it isn't below
+  pub low_above : i < length members → (low : ℕ) → low ≤ get_or members i 0 → IsLow i low → IsLow (i + 1) low
+  low_above below low most before u back =
+      ⊎_elim (λ first. before u (record { member = first; back = back.back })) (λ last. omega (arith, most, last)) (member_more members i u below back.member)
+
+  -- it doesn't come back
+  pub low_away : i < length members → (low : ℕ) → comes_back (entry list) g (slots_of (of_templates templates) (get_or members i 0)) ≡ false → IsLow i low → IsLow (i + 1) low
+  low_away below low away before u back =
+      ⊎_elim (λ first. before u (record { member = first; back = back.back }))
+      (λ last. absurd (true≢false (sym (rw last at back.back) ∙ away))) (member_more members i u below back.member)
+
+-- ---- entries and what leads
+
+-- a table that comes back by the entries does so by what leads, and the other way round
+pub same_back : (f h : ℕ → ℕ → Bool) (g : ℕ) (slots : List Slot) → ((slot : Slot) → Contains slots slot → leads_on f g slot ≡ leads_on h g slot) → comes_back f g slots ≡ comes_back h g slots
+same_back f h g [] same = refl
+same_back f h g (slot ∷ slots) same =
+    let others = same_back f h g slots (λ s at. same s (suc at.0, (let below = at.1 in omega arith), at.2)) in
+    rw (same slot (0, omega arith, refl), others) refl
+
+-- by the entries of groups in range
+entry_is : (query : QueryView) (k : ℕ) (list : List Bool) → Holds (leads query k) list → (g h : ℕ) → 1 ≤ g → g ≤ 32 → 1 ≤ h → h ≤ 32 → entry list g h ≡ leads query k g h
+entry_is query k list holds g h some few some' few' =
+    let row : g - 1 + 1 ≡ g = omega arith in
+    let column : h - 1 + 1 ≡ h = omega arith in
+    rw (row, column) at (holds.each (g - 1) (h - 1) (omega arith) (omega (arith, holds.size)))
+
+pub entry_back : (query : QueryView) (k : ℕ) (list : List Bool) (g t : ℕ) → Holds (leads query k) list → HasGroups query → 1 ≤ g → g ≤ 32
+    → comes_back (entry list) g (slots_of query t) ≡ comes_back (leads query k) g (slots_of query t)
+entry_back query k list g t holds has some few =
+    same_back (entry list) (leads query k) g (slots_of query t) (λ slot at. one slot (has t slot at))
+  where
+    one : (slot : Slot) → HasGroup slot → leads_on (entry list) g slot ≡ leads_on (leads query k) g slot
+    one (Link atom most from to) in_range = refl
+    one (Site atom group first second) in_range = ap (λ (b : Bool). (group == g) || b) (entry_is query k list holds group g in_range.0 in_range.1 some few)
+
+-- ---- tables without recursion
+
+-- the labels of all templates' sites are those of the tables
+pub has_groups : (templates : List TemplateView) (groups : List Group) → All (λ template. All HasGroup template.slots) templates → HasGroups (record { templates = templates; groups = groups })
+has_groups templates groups labels t slot at = by_template (slice_get templates t) refl
+  where
+    by_template : (o : Option TemplateView) → slice_get templates t ≡ o → HasGroup slot
+    by_template None e = absurd (let none : Contains [] slot = rw e at at in (let below = none.1 in omega arith))
+    by_template (Some template) e =
+        let within : Contains template.slots slot = rw e at at in
+        let each = all_at (λ (template : TemplateView). All HasGroup template.slots) templates t template labels e in
+        subst HasGroup within.2 (each within.0 slot within.1)
+
+module _ (templates : List TemplateView) (groups : List Group) (k : ℕ) (list : List Bool) where
+  abbrev whole : QueryView
+  whole = record { templates = templates; groups = groups }
+
+  -- a member that comes back uses itself
+  pub back_recurs : Holds (leads whole k) list → HasGroups whole → (g t : ℕ) → 1 ≤ g → g ≤ 32 → ComesBack templates list (members_of whole g) g t → IsNoCycle whole t → ⊥
+  back_recurs holds has g t some few back none =
+      let chain = leads_chain whole k t g t back.member (sym (entry_back whole k list g t holds has some few) ∙ back.back) in
+      none chain.0 chain.1
+
+  -- and a table that uses itself is a member that comes back
+  pub recurs_back : 32 ≤ k → Holds (leads whole k) list → HasGroups whole → (t : ℕ) (via : List ℕ) → IsChain whole t via t
+      → (g : ℕ) × (1 ≤ g) × (g ≤ 32) × ComesBack templates list (members_of whole g) g t
+  recurs_back enough holds has t via chain =
+      let back = chain_leads whole k enough has t via t chain in
+      (back.0, back.1, back.2, record { member = back.3; back = entry_back whole k list back.0 t holds has back.1 back.2 ∙ back.4 })
+
+  -- no member of the groups up to g comes back and is lower
+  abbrev pub AreLow : ℕ → ℕ → Type 0
+  AreLow g low = (h u : ℕ) → 1 ≤ h → h ≤ g → ComesBack templates list (members_of whole h) h u → low ≤ u
+
+  -- one group more
+  pub low_more : (g low new : ℕ) (members : List ℕ) → members_of whole (g + 1) ≡ members → new ≤ low
+      → ((u : ℕ) → ComesBack templates list members (g + 1) u → new ≤ u) → AreLow g low → AreLow (g + 1) new
+  low_more g low new members are most here before h u some few back =
+      ⊎_elim (λ earlier. omega (arith, most, before h u some (omega (arith, earlier)) back))
+      (λ last. let same : h ≡ g + 1 = omega (arith, few, last) in here u (rw are at (rw same at back)))
+      (cases_lt h (g + 1))
+
+  -- some member of a group comes back
+  abbrev pub IsBack : ℕ → Type 0
+  IsBack t = (g : ℕ) × (1 ≤ g) × (g ≤ 32) × ComesBack templates list (members_of whole g) g t
+
+  pub found_more : (g n low new : ℕ) (members : List ℕ) → g < 32 → members_of whole (g + 1) ≡ members → new ≤ low
+      → (new < low → ComesBack templates list members (g + 1) new) → (low < n → IsBack low) → new < n → IsBack new
+  found_more g n low new members below are most here before within =
+      ⊎_elim (λ lower. (g + 1, omega arith, omega (arith, below), rw (sym are) at (here lower)))
+      (λ same. let is : low ≡ new = omega (arith, most, same) in subst IsBack is (before (omega (arith, within, is))))
+      (cases_lt new low)
+
+  -- a member is a table
+  pub member_within : All (λ (group : Group). All (λ (u : ℕ). u < length templates) group.members) groups → (g t : ℕ) → Contains (members_of whole g) t → t < length templates
+  member_within within g t at = by_group (slice_get groups (g - 1)) refl
+    where
+      by_group : (o : Option Group) → slice_get groups (g - 1) ≡ o → t < length templates
+      by_group None e = absurd (let none : Contains [] t = rw e at at in (let below = none.1 in omega arith))
+      by_group (Some group) e =
+          let member : Contains group.members t = rw e at at in
+          let each = all_at (λ (group : Group). All (λ (u : ℕ). u < length templates) group.members) groups (g - 1) group within e in
+          subst (λ (u : ℕ). u < length templates) member.2 (each member.0 t member.1)
+
+-- ---- ranks
+
+-- fewer pass where one does that doesn't pass here
+count_more : (p q : ℕ → Bool) (xs : List ℕ) → ((x : ℕ) → p x ≡ true → q x ≡ true) → count_by p xs ≤ count_by q xs
+count_more p q [] more = omega arith
+count_more p q (x ∷ xs) more =
+    let others = count_more p q xs more in
+    let here : cond (p x) 1 0 ≤ cond (q x) 1 0 = by_test (p x) refl in
+    omega (arith, others, here, sum_by-cons (λ y. cond (p y) 1 0) x xs, sum_by-cons (λ y. cond (q y) 1 0) x xs)
+  where
+    by_test : (b : Bool) → p x ≡ b → cond b 1 0 ≤ cond (q x) 1 0
+    by_test true e = rw (more x e) (omega arith)
+    by_test false e = omega arith
+
+-- what an element counts
+counted : (b c : Bool) → b ≡ c → ◌≡◌ {A = ℕ} (cond b 1 0) (cond c 1 0)
+counted b c same = ap (λ (d : Bool). cond d 1 0) same
+
+count_less : (p q : ℕ → Bool) (xs : List ℕ) → ((x : ℕ) → p x ≡ true → q x ≡ true) → (h : ℕ) → Contains xs h → p h ≡ false → q h ≡ true → count_by p xs < count_by q xs
+count_less p q [] more h (k, below, is) not here = absurd (omega (arith, below))
+count_less p q (x ∷ xs) more h (zero, below, is) not here =
+    let same : x ≡ h = is in
+    let others = count_more p q xs more in
+    let none = counted (p x) false (rw same not) in
+    let one = counted (q x) true (rw same here) in
+    omega (arith, others, none, one, sum_by-cons (λ y. cond (p y) 1 0) x xs, sum_by-cons (λ y. cond (q y) 1 0) x xs)
+count_less p q (x ∷ xs) more h (suc k, below, is) not here =
+    let others = count_less p q xs more h (k, omega (arith, below), is) not here in
+    let first : cond (p x) 1 0 ≤ cond (q x) 1 0 = by_test (p x) refl in
+    omega (arith, others, first, sum_by-cons (λ y. cond (p y) 1 0) x xs, sum_by-cons (λ y. cond (q y) 1 0) x xs)
+  where
+    by_test : (b : Bool) → p x ≡ b → cond b 1 0 ≤ cond (q x) 1 0
+    by_test true e = rw (more x e) (omega arith)
+    by_test false e = omega arith
+
+-- the number of groups to which a table leads
+abbrev pub rank_of : QueryView → ℕ → ℕ → ℕ
+rank_of query k t = count_by (λ g. comes_back (leads query k) g (slots_of query t)) (range_with_len 1 32)
+
+pub few_ranks : (query : QueryView) (k t : ℕ) → rank_of query k t ≤ 32
+few_ranks query k t = omega (arith, count_by-le-length (λ g. comes_back (leads query k) g (slots_of query t)) (range_with_len 1 32), length-range_with_len 1 32)
+
+-- a number is one of those from 1 on
+in_range : (n g : ℕ) → 1 ≤ g → g ≤ n → Contains (range_with_len 1 n) g
+in_range n g some few = (g - 1, omega (arith, some, few, length-range_with_len 1 n), get_or-range_with_len 1 n (g - 1) g (omega (arith, some, few)) ∙ omega (arith, some))
+
+pub ranked : (query : QueryView) (k : ℕ) → 32 ≤ k → HasGroups query → ((t : ℕ) → IsNoCycle query t) → IsRanked query (rank_of query k)
+ranked query k enough has none t u puts =
+    let on = puts_leads query k enough has t u puts in
+    count_less (λ g. comes_back (leads query k) g (slots_of query u)) (λ g. comes_back (leads query k) g (slots_of query t)) (range_with_len 1 32) on.on
+    on.group (in_range 32 on.group on.some on.few) (by_test (comes_back (leads query k) on.group (slots_of query u)) refl) on.here
+  where
+    by_test : (b : Bool) → comes_back (leads query k) (puts_leads query k enough has t u puts).group (slots_of query u) ≡ b
+        → comes_back (leads query k) (puts_leads query k enough has t u puts).group (slots_of query u) ≡ false
+    by_test false e = e
+    by_test true e =
+        let on = puts_leads query k enough has t u puts in
+        let chain = leads_chain query k u on.group u on.member e in
+        absurd (none u chain.0 chain.1)

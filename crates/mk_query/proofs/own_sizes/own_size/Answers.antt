@@ -1,0 +1,38 @@
+use Rattle.std.proofs.Common.{◌≡◌, ◌+◌, ◌<◌, ◌≤◌, ◌∙◌, List, sym, refl, ap, arith, length, get_or}
+use Rattle.std.proofs.lemmas.List.{length-map}
+use Rattle.mk_model.specs.declared.template.QueryBond.{QueryBond}
+use Rattle.mk_model.specs.declared.template.Slot.TheVariants.{Link}
+use Rattle.mk_model.specs.Templates.{query_edge, query_edges}
+use Rattle.mk_query.specs.OwnSizes.{Marks, takes}
+use Rattle.mk_query.proofs.OwnSizesLemmas.{links_more, own_is, taken_more}
+use Rattle.mk_query.proofs.own_sizes.own_size.Goals as goal
+
+pub of-requires-clause-few : goal.of-requires-clause-few
+of-requires-clause-few c =
+    let are = c.deref.ensures.value ∙ c.in_ok-edges.ensures ∙ ap (λ (l : List QueryBond). query_edges l) c.bonds.ensures in
+    omega (arith, ap length are, length-map c.args.template.now.bonds query_edge, c.requires.sized.few_bonds)
+
+pub loop-i-preserved : goal.loop-i-preserved
+loop-i-preserved c =
+    let template = c.args.template.now in
+    let below = rw c.slots-slots.ensures at c.loop-i-test.true in
+    let here : Marks (length template.atoms) (takes template.bonds (get_or template.slots c.loop-i.i (Link 0 0 0 0))) c.in_ok-by.by.items =
+        rw (c.bonds-in-loop-i.ensures, c.slots-slots.ensures, c.atoms.ensures) at c.in_ok-by.ensures in
+    let added = rw (c.deref-in-loop-i.ensures.value, c.slots-slots.ensures, c.atoms.ensures) at c.link_size_by.ensures.size in
+    record {
+      taken =
+          taken_more template c.loop-i.i (length template.atoms) (Link 0 0 0 0) c.loop-i.taken.items c.in_ok-by.by.items c.put.new.taken.items below c.put.ensures.size
+          (rw c.deref-in-loop-i-2.ensures.value at c.put.ensures.each) here c.loop-i.invariant.taken;
+      links =
+          c.capped-links.ensures
+          ∙ links_more template c.loop-i.i (Link 0 0 0 0) c.in_ok-by.by.items c.loop-i.links c.link_size_by.result below here added c.loop-i.invariant.links;
+      few = omega (arith, c.capped-links.ensures);
+    }
+
+pub returns-clause-own : goal.returns-clause-own
+returns-clause-own c =
+    let template = c.args.template.now in
+    let all = rw c.slots-slots.ensures at c.loop-i-test.false in
+    let number = rw (c.deref-2.ensures.value, c.atoms.ensures) at c.marked.ensures.count in
+    rw c.atoms.ensures at c.capped.ensures
+    ∙ own_is template c.loop-i.i c.loop-i.taken.items c.loop-i.links c.marked.result all c.loop-i.invariant.taken c.loop-i.invariant.links number

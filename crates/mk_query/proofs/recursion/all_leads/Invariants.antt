@@ -1,0 +1,10 @@
+use Rattle.std.proofs.Common.{◌≡◌, ◌<◌, ◌≤◌, ◌+◌}
+use Rattle.mk_query.specs.Recursion.{Holds, leads}
+use Rattle.mk_query.proofs.recursion.all_leads.Given as goal
+
+abbrev pub invariant-loop-k : goal.invariant-loop-k
+invariant-loop-k l =
+    record {
+      most : l.k ≤ 32;
+      holds : Holds (leads (record { templates = l.templates; groups = l.groups }) l.k) l.list.items;
+    }

@@ -1,0 +1,13 @@
+use Rattle.std.proofs.Common.{◌≡◌, ◌≤◌, ◌<◌, ◌+◌, ◌∙◌, sym, arith, max, ℕ, take, get_or}
+use Rattle.mk_model.specs.Sizes.{greatest}
+use Rattle.mk_query.specs.RootSizes.{size_by_lists}
+use Rattle.mk_query.proofs.RootSizesLemmas.{greatest_more, none_first, size_is, small_is}
+use Rattle.mk_query.proofs.root_sizes.greatest_of.Goals as goal
+
+pub loop-i-preserved : goal.loop-i-preserved
+loop-i-preserved c =
+    let more = greatest_more (size_by_lists c.args.templates.now c.args.own.now c.args.of_groups.now) c.args.members.now c.loop-i.i c.loop-i-test.true in
+    record {
+      is = c.max-most.ensures ∙ rw (c.loop-i.invariant.is, c.size_by_lists.ensures.size) (sym more);
+      few = omega (arith, c.max-most.ensures, c.loop-i.invariant.few, c.size_by_lists.ensures.capped);
+    }

@@ -1,0 +1,64 @@
+-- For code alone: which groups lead to which, as tables of 32 rows and columns.
+--     asks_for query g h         some member of group g has a site of group h
+--     leads query k g h          so, or by way of groups up to k
+--     cell list a b              the entry of a row and a column, which count from 0
+--     Holds f list               the entry of row g - 1 and column h - 1 is f g h
+--     leads_on f g slot          a site whose group is g, or leads to it
+--     comes_back f g slots       some of the slots is one
+--     ComesBack templates list members g u     table u is a member of group g, and one of its sites leads back
+use Rattle.std.specs.Prelude.{◌≡◌, ◌<◌, ◌≤◌, ◌+◌, ◌-◌, ◌*◌, ◌==◌, ◌&&◌, ◌||◌, ℕ, zero, suc, Bool, false, List, [], length, slice_index_or, Contains, IsTrue}
+use Rattle.std.specs.List.{list_any}
+use Rattle.mk_model.specs.declared.template.Slot.{Slot}
+use Rattle.mk_model.specs.declared.template.Slot.TheVariants.{Link, Site}
+use Rattle.mk_model.specs.Labels.{bears_label}
+use Rattle.mk_model.specs.Queries.{QueryView, members_of, slots_of}
+use Rattle.mk_model.specs.Templates.{TemplateView}
+
+-- some member of group g has a site of group h
+abbrev pub asks_for : QueryView → ℕ → ℕ → Bool
+asks_for query g h = list_any (λ u. list_any (λ slot. bears_label slot h) (slots_of query u)) (members_of query g)
+
+-- group g asks for h, or for a group that does, and so on, where all groups between are among the first k
+abbrev pub leads : QueryView → ℕ → ℕ → ℕ → Bool
+leads query zero g h = asks_for query g h
+leads query (suc k) g h = leads query k g h || (leads query k g (suc k) && leads query k (suc k) h)
+
+-- the entry of row a and column b
+abbrev pub cell : List Bool → ℕ → ℕ → Bool
+cell list a b = slice_index_or list (32 * a + b) false
+
+-- the entries so far are those of f
+abbrev pub HoldSoFar : (ℕ → ℕ → Bool) → List Bool → Type 0
+HoldSoFar f list = (a b : ℕ) → b < 32 → 32 * a + b < length list → cell list a b ≡ f (a + 1) (b + 1)
+
+-- there are 32 rows of 32, and the entries are those of f
+pub record Holds (f : ℕ → ℕ → Bool) (list : List Bool) : Type 0 where
+  pub size : length list ≡ 1024
+  pub each : HoldSoFar f list
+
+-- the label of a site is a group's number
+abbrev pub HasGroup : Slot → Type 0
+HasGroup (Link atom most from to) = Unit {0}
+HasGroup (Site atom group first second) = (1 ≤ group) × (group ≤ 32)
+
+-- a site whose group is g, or leads to it
+abbrev pub leads_on : (ℕ → ℕ → Bool) → ℕ → Slot → Bool
+leads_on f g (Link atom most from to) = false
+leads_on f g (Site atom group first second) = (group == g) || f group g
+
+-- some of these slots is such a site
+abbrev pub comes_back : (ℕ → ℕ → Bool) → ℕ → List Slot → Bool
+comes_back f g slots = list_any (leads_on f g) slots
+
+-- the entry of groups g and h, which count from 1
+abbrev pub entry : List Bool → ℕ → ℕ → Bool
+entry list g h = cell list (g - 1) (h - 1)
+
+-- the query of these templates, as far as tables are asked for their slots
+abbrev pub of_templates : List TemplateView → QueryView
+of_templates templates = record { templates = templates; groups = [] }
+
+-- table u is among these members of group g, and a site of it leads back to the group
+pub record ComesBack (templates : List TemplateView) (list : List Bool) (members : List ℕ) (g u : ℕ) : Type 0 where
+  pub member : Contains members u
+  pub back : IsTrue (comes_back (entry list) g (slots_of (of_templates templates) u))

@@ -1,0 +1,136 @@
+// What each template adds to a size by itself: its fixed atoms, and its links with their blocks.
+ghost use Rattle.std.specs.Prelude.{◌≡◌, ◌≤◌, ◌<◌, ◌+◌, ◌*◌, ◌==◌, ◌||◌, false, All, IfOk, length, slice_index_or, if◌then◌else◌, ℕ};
+ghost use Rattle.mk_model.specs.Edges.{AreBetween, rows_of};
+ghost use Rattle.mk_model.specs.Templates.{query_edges, slot_atom};
+ghost use Rattle.mk_query.specs.OwnSizes.{IsSized, Marks, is_taken, link_size_by, marked, takes};
+ghost use Rattle.mk_query.specs.RootSizes.{AreOwnSizes, capped, own_size};
+
+use crate::blocks::block_of;
+use crate::drawn_bonds::edges_of;
+use crate::link_ends::LinkEnds;
+use crate::root_sizes::capped;
+use mk_model::{Neighbours, QueryBond, Slot, Template};
+use mk_text::Memory;
+use std::alloc::Global;
+
+/// The own sizes of all templates, capped.
+pub fn own_sizes(alloc: Global, templates: &[Template]) -> Result<Vec<u32>, Memory>
+    requires sized { All (λ template. IsSized template) templates.now }
+    ensures own { IfOk result (λ own. AreOwnSizes templates.now own.items) }
+    ensures capped { IfOk result (λ own. All (λ n. n ≤ 513) own.items) }
+{
+    let mut own = Vec::with_capacity(alloc, templates.len())?;
+    for t in 0..templates.len() {
+        own.push(own_size(alloc, &templates[t])?)?;
+    }
+    Ok(own)
+}
+
+// The own size of a template, capped.
+fn own_size(alloc: Global, template: &Template) -> Result<u32, Memory>
+    requires sized { IsSized template.now }
+    ensures own { IfOk result (λ own. own ≡ capped (own_size template.now)) }
+    ensures capped { IfOk result (λ own. own ≤ 513) }
+{
+    let atoms = template.atoms().len() as u32;
+    let edges = edges_of(alloc, template.bonds())?;
+    let near = Neighbours::of(alloc, atoms, &edges)?;
+    let slots = template.slots();
+    let mut taken = vec![in alloc; false; atoms as usize + 1]?;
+    let mut links = 0;
+    for i in 0..slots.len() {
+        let by = taken_by(alloc, atoms, &near, template.bonds(), slots[i])?;
+        links = capped(links + link_size_by(atoms, slots[i], &by));
+        put(&mut taken, &by);
+    }
+    Ok(capped(atoms - marked(atoms, &taken) + links))
+}
+
+// The atoms that a slot takes.
+fn taken_by(
+    alloc: Global,
+    atoms: u32,
+    near: &Neighbours,
+    bonds: &[QueryBond],
+    slot: Slot,
+) -> Result<Vec<bool>, Memory>
+    requires few { atoms ≤ 999 }
+    requires size { length near.now ≡ atoms }
+    requires ends { AreBetween atoms (query_edges bonds.now) }
+    requires rows { near.now ≡ rows_of atoms (query_edges bonds.now) }
+    requires least { 1 ≤ slot_atom slot }
+    requires most { slot_atom slot ≤ atoms }
+    ensures { IfOk result (λ by. Marks atoms (takes bonds.now slot) by.items) }
+{
+    match slot {
+        Slot::Link { atom, from, to, .. } => {
+            let block = block_of(alloc, atoms, near, bonds, LinkEnds { atom, from, to })?;
+            Ok(block)
+        }
+        Slot::Site { atom, .. } => only(alloc, atoms, atom),
+    }
+}
+
+// One atom alone.
+fn only(alloc: Global, atoms: u32, atom: u32) -> Result<Vec<bool>, Memory>
+    requires few { atoms ≤ 999 }
+    requires least { 1 ≤ atom }
+    requires most { atom ≤ atoms }
+    ensures { IfOk result (λ by. Marks atoms (λ x. atom == x) by.items) }
+{
+    let mut by = vec![in alloc; false; atoms as usize + 1]?;
+    by[atom as usize] = true;
+    Ok(by)
+}
+
+// Marks the atoms that a further list marks.
+fn put(taken: &mut Vec<bool>, by: &[bool])
+    requires { length by.now ≡ length taken.old.items }
+    ensures size { length taken.new.items ≡ length taken.old.items }
+    ensures each { (x : ℕ) → slice_index_or taken.new.items x false ≡ (slice_index_or taken.old.items x false || slice_index_or by.now x false) }
+{
+    for x in 0..by.len() {
+        taken[x] = taken[x] || by[x];
+    }
+}
+
+// What a slot adds where it is a link, or a number above 512 where that is more.
+fn link_size_by(atoms: u32, slot: Slot, by: &[bool]) -> u32
+    requires few { atoms ≤ 999 }
+    requires size { length by.now ≡ atoms + 1 }
+    ensures size { capped result ≡ capped (link_size_by by.now atoms slot) }
+    ensures few { result ≤ 1000000 }
+{
+    match slot {
+        Slot::Link { most, .. } => link_size_of(most, marked(atoms, by)),
+        Slot::Site { .. } => 0,
+    }
+}
+
+fn link_size_of(most: u32, block: u32) -> u32
+    requires few { block ≤ 999 }
+    ensures size { capped result ≡ capped (1 + most * block) }
+    ensures few { result ≤ 1000000 }
+{
+    1 + capped(most) * block
+}
+
+// How many atoms are marked.
+fn marked(atoms: u32, marks: &[bool]) -> u32
+    requires few { atoms ≤ 999 }
+    requires size { length marks.now ≡ atoms + 1 }
+    ensures count { result ≡ marked marks.now atoms }
+    ensures few { result ≤ atoms }
+{
+    let mut number = 0;
+    for i in 0..atoms {
+        number += one_if(marks[i as usize + 1]);
+    }
+    number
+}
+
+fn one_if(so: bool) -> u32
+    ensures { result ≡ (if so then 1 else 0) }
+{
+    if so { 1 } else { 0 }
+}
