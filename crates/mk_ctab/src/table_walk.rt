@@ -37,11 +37,7 @@ fn counts_from(text: &[u8], at: LineStart) -> Result<(Counts, LineStart), TableF
     }
 }
 
-fn row_from<R: Row>(
-    alloc: Global,
-    text: &[u8],
-    at: LineStart,
-) -> Result<(R, LineStart), TableFault>
+fn row_from<R: Row>(alloc: Global, text: &[u8], at: LineStart) -> Result<(R, LineStart), TableFault>
     requires { IsLineStart text.now at }
     ensures { AnswersAt text.now result ((one_line R.row_of).read (drop at.line (lines_of text.now))) }
 {
