@@ -2,12 +2,12 @@
 --     as_drawn template             the template as it is drawn
 --     with_atom x test template     the template with an atom of this test in the place of atom x
 --     with_hydrogen x template      the template with a hydrogen in the place of atom x
---     with_atoms query slots choice tests    the tests of its atoms, with the atom of each member in the place of its site
+--     with_atoms query slots choice tests    the tests of its atoms, with each member's atom in the place of its site
 --     EachIsOneAtom query slots choice       each slot becomes one atom: a single link, or a member of one atom
 --     WithoutSlots                  a template without slots is its own expansion
 --     LinksThatStandOnce            links that stand once each leave their template as it is drawn
 --     FilledByOneAtom               a site that a member of one atom fills is that atom, in its place
---     OneAtomAtEachSlot             where each slot becomes one atom, the template is drawn with those atoms in their places
+--     OneAtomAtEachSlot             slots that become one atom each are those atoms, in their places
 --     HydrogenForSite               an open site with RestH on is a hydrogen, in its place
 use Rattle.std.specs.Prelude.{◌≡◌, ◌≤◌, ◌-◌, ◌==◌, ◌||◌, ℕ, List, [], ◌∷◌, Some, IsTrue, length, map, set, slice_get, slice_index_or, if◌then◌else◌}
 use Rattle.mk_model.specs.declared.atom_test.AtomTest.{AtomTest}
@@ -63,7 +63,7 @@ EachIsOneAtom query (Site atom group first second ∷ slots) (filled k inside ot
     IsOneAtom query (member query (Site atom group first second) k) × EachIsOneAtom query slots others
 EachIsOneAtom query slots choice = ⊥
 
--- the tests of a template's atoms, where the first atom of each member that fills a site stands in the place of the site
+-- the tests of a template's atoms, where the first atom of each member that fills a site stands in its place
 abbrev pub with_atoms : QueryView → List Slot → Choice → List AtomTest → List AtomTest
 with_atoms query (Link atom most from to ∷ slots) (repeated n others) tests = with_atoms query slots others tests
 with_atoms query (Site atom group first second ∷ slots) (filled k inside others) tests =
@@ -75,32 +75,38 @@ with_atoms query slots choice tests = tests
 
 -- a template without slots is its own expansion
 abbrev pub WithoutSlots : Type 0
-WithoutSlots = (query : QueryView) (t : ℕ) (template : TemplateView) → QueryFits query → slice_get query.templates t ≡ Some template
+WithoutSlots = (query : QueryView) (t : ℕ) (template : TemplateView)
+    → QueryFits query → slice_get query.templates t ≡ Some template
     → template.slots ≡ [] → expansion query t done ≡ as_drawn template
 
--- where each slot of a template is a link and stands once, the template stays as it is drawn, with the blocks of its links
+-- where each slot of a template is a link and stands once, the template stays as it is drawn, with their blocks
 abbrev pub LinksThatStandOnce : Type 0
-LinksThatStandOnce = (query : QueryView) (t : ℕ) (template : TemplateView) → QueryFits query → slice_get query.templates t ≡ Some template
-    → IsChoice query template.slots (once_each template.slots) → expansion query t (once_each template.slots) ≡ as_drawn template
+LinksThatStandOnce = (query : QueryView) (t : ℕ) (template : TemplateView)
+    → QueryFits query → slice_get query.templates t ≡ Some template
+    → IsChoice query template.slots (once_each template.slots)
+    → expansion query t (once_each template.slots) ≡ as_drawn template
 
--- where the one slot of a template is a site and a member of one atom fills it, the template is drawn with that atom in its place
+-- where the one slot of a template is a site and a member of one atom fills it, the template is drawn with that atom
+-- in its place
 abbrev pub FilledByOneAtom : Type 0
-FilledByOneAtom = (query : QueryView) (t : ℕ) (template : TemplateView) (atom group first second k : ℕ) (test : AtomTest) (points : List ℕ)
+FilledByOneAtom = (query : QueryView) (t : ℕ) (template : TemplateView) (atom group first second k : ℕ)
+    → (test : AtomTest) (points : List ℕ)
     → QueryFits query → slice_get query.templates t ≡ Some template → template.slots ≡ Site atom group first second ∷ []
     → 1 ≤ k → k ≤ length (members_at query (Site atom group first second))
     → slice_get query.templates (member query (Site atom group first second) k)
     ≡ Some (record { atoms = test ∷ []; bonds = []; slots = []; points = points })
     → expansion query t (filled k done done) ≡ as_drawn (with_atom atom test template)
 
--- where each slot of a template becomes one atom, the template is drawn with the atoms of the members in the places of their sites
+-- where each slot of a template becomes one atom, the template is drawn with the atoms of the members in the places of
+-- their sites
 abbrev pub OneAtomAtEachSlot : Type 0
 OneAtomAtEachSlot = (query : QueryView) (t : ℕ) (template : TemplateView) (choice : Choice)
     → QueryFits query → slice_get query.templates t ≡ Some template
     → IsChoice query template.slots choice → EachIsOneAtom query template.slots choice
     → expansion query t choice ≡ as_drawn (record template { atoms = with_atoms query template.slots choice template.atoms })
 
--- where the one slot of a template is a site with one neighbour and RestH on, and it isn't filled, the template is drawn with a
--- hydrogen in its place
+-- where the one slot of a template is a site with one neighbour and RestH on, and it isn't filled, the template is drawn
+-- with a hydrogen in its place
 abbrev pub HydrogenForSite : Type 0
 HydrogenForSite = (query : QueryView) (t : ℕ) (template : TemplateView) (atom group first n : ℕ)
     → QueryFits query → slice_get query.templates t ≡ Some template → template.slots ≡ Site atom group first 0 ∷ []
