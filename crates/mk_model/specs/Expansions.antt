@@ -63,9 +63,9 @@ spanned p q bond x y =
 unfoldable pub drawn : TemplateView → List Piece → QueryBond → List QueryBond
 drawn template pieces bond =
     if is_inside template bond then
-        copied bond (before template pieces bond.first) (before template pieces bond.second) (width (piece template pieces bond.first))
+    copied bond (before template pieces bond.first) (before template pieces bond.second) (width (piece template pieces bond.first))
     else spanned (piece template pieces bond.first) (piece template pieces bond.second) bond
-        (ending template pieces bond.first bond.second) (ending template pieces bond.second bond.first)
+    (ending template pieces bond.first bond.second) (ending template pieces bond.second bond.first)
 
 -- the first of the bonds that joins x and y
 abbrev pub bond_joining : List QueryBond → ℕ → ℕ → QueryBond

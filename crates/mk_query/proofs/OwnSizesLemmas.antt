@@ -122,7 +122,7 @@ own_is template i taken links number all marks links_are is =
     let n = length template.atoms in
     let slots = take_all i template.slots all in
     let taken_is : marked taken n ≡ count_by (λ x. list_any (takes_atom template x) template.slots) (range_with_len 1 n) =
-        count_same (λ x. get_or taken x false) (λ x. list_any (takes_atom template x) template.slots) n (λ x some few. marks.each x some few ∙ ap (list_any (takes_atom template x)) slots) in
+    count_same (λ x. get_or taken x false) (λ x. list_any (takes_atom template x) template.slots) n (λ x some few. marks.each x some few ∙ ap (list_any (takes_atom template x)) slots) in
     let both = count_not (λ x. list_any (takes_atom template x) template.slots) (range_with_len 1 n) in
     let sum : links ≡ capped (sum_by (link_size template) template.slots) = links_are ∙ ap (λ (l : List Slot). capped (sum_by (link_size template) l)) slots in
     cap_rest n number (marked taken n) (count_by (λ x. list_any (takes_atom template x) template.slots) (range_with_len 1 n)) (count_by (is_fixed template) (atom_numbers template)) links

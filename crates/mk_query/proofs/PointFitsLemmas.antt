@@ -46,6 +46,7 @@ module _ (query : QueryView) (one two : List Bool) (first : AreTold query 1 one)
     where
       place : group - 1 + 1 ≡ group
       place = omega (arith, has.0)
+
       by_second : (b : Bool)
           → cond b (slice_index_or one (group - 1) false) (slice_index_or two (group - 1) false) ≡ true
           ↔ ((u : ℕ) (template : TemplateView) → Contains (members_of query group) u → slice_get query.templates u ≡ Some template → length template.points ≡ cond b 1 2)
@@ -81,19 +82,21 @@ module _ (query : QueryView) (one two : List Bool) (first : AreTold query 1 one)
       where
         place : get_or template.slots unfit.place unfit.slot ≡ unfit.slot
         place = get_or_from_slice_get template.slots unfit.place unfit.slot unfit.slot unfit.at
+
         fails : FitsAt query t x → ⊥
         fails fits =
             let fit = fits template unfit.slot at (unfit.place, slice_get_within template.slots unfit.place unfit.slot unfit.at, place) unfit.atom in
             absurd (true≢false (sym ((fits_told unfit.slot (label unfit.place unfit.slot unfit.at)).1 fit) ∙ unfit.unfit))
+
         lower : (y : ℕ) → y < x → FitsAt query t y
         lower y below other slot found within atom =
             let same = same_template other found in
             let inside : Contains template.slots slot = rw same within in
             let slot_at : slice_get template.slots inside.0 ≡ Some slot = at_place template.slots inside.0 slot inside.1 ∙ rw inside.2 refl in
             let earlier : inside.0 < unfit.place =
-                ⊎_elim (λ is. is)
-                (λ behind. absurd (behind_it inside.0 slot inside.1 inside.2 (omega (arith, behind)) atom below))
-                (cases_lt inside.0 unfit.place) in
+            ⊎_elim (λ is. is)
+            (λ behind. absurd (behind_it inside.0 slot inside.1 inside.2 (omega (arith, behind)) atom below))
+            (cases_lt inside.0 unfit.place) in
             (fits_told slot (label inside.0 slot slot_at)).0 (unfit.before inside.0 slot earlier slot_at)
           where
             -- a slot at or behind the first that doesn't fit is at no lower atom

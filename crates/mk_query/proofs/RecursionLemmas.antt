@@ -179,8 +179,8 @@ on_from : (query : QueryView) (k : ℕ) → 32 ≤ k → (h v g : ℕ) (slot : S
 on_from query k enough h v g (Link atom most from to) member has at on = absurd cc
 on_from query k enough h v g (Site atom group first second) member has at on =
     let asked : asks_for query h group ≡ true =
-        from_list (λ u. list_any (λ slot. bears_label slot group) (slots_of query u)) (members_of query h) v member
-        (from_list (λ slot. bears_label slot group) (slots_of query v) (Site atom group first second) at (numbers_same group group refl)) in
+    from_list (λ u. list_any (λ slot. bears_label slot group) (slots_of query u)) (members_of query h) v member
+    (from_list (λ slot. bears_label slot group) (slots_of query v) (Site atom group first second) at (numbers_same group group refl)) in
     let here : leads query k h group ≡ true = more_between query k h group asked in
     by_label (group == g) refl here
   where

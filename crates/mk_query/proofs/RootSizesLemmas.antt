@@ -100,7 +100,7 @@ module _ (templates : List TemplateView) (groups : List Group) where
           let f : ℕ → ℕ = greatest_at whole n in
           let own_is : slice_index_or own u 0 ≡ capped (own_size template) = sizes.each u template e in
           let sites : capped (sites_size (of_group list) template.slots) ≡ capped (sites_size f template.slots) =
-              sites_agree (of_group list) f template.slots (λ g some few. of_group_is g some few) (λ slot at. has u slot (rw e at)) in
+          sites_agree (of_group list) f template.slots (λ g some few. of_group_is g some few) (λ slot at. has u slot (rw e at)) in
           rw e (cap_whole (slice_index_or own u 0) (count_by (is_fixed template) (atom_numbers template)) (sum_by (link_size template) template.slots)
           (sum_by (size_of_slot whole (size_within n whole) template) template.slots) (sites_size (of_group list) template.slots) (sites_size f template.slots)
           own_is sites (slots_split whole (size_within n whole) template template.slots))

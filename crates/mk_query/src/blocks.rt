@@ -81,7 +81,14 @@ pub fn block_of(
     let mut i = 0;
     while i < queue.len() {
         let y = queue[i];
-        follow(&mut reached, &mut queue, numbers_of(near, bonds, y), bonds, link, y)?;
+        follow(
+            &mut reached,
+            &mut queue,
+            numbers_of(near, bonds, y),
+            bonds,
+            link,
+            y,
+        )?;
         i += 1;
     }
     Ok(reached)

@@ -72,7 +72,11 @@ fn told_fit(slot: Slot, one: &[bool], two: &[bool]) -> bool
     match slot {
         Slot::Link { .. } => true,
         Slot::Site { group, second, .. } => {
-            if second == 0 { one[group as usize - 1] } else { two[group as usize - 1] }
+            if second == 0 {
+                one[group as usize - 1]
+            } else {
+                two[group as usize - 1]
+            }
         }
     }
 }

@@ -113,11 +113,7 @@ fn entry(leads: &[bool], g: u32, h: u32) -> bool
 }
 
 // Which group leads to which.
-fn all_leads(
-    alloc: Global,
-    templates: &[Template],
-    groups: &[Group],
-) -> Result<Vec<bool>, Memory>
+fn all_leads(alloc: Global, templates: &[Template], groups: &[Group]) -> Result<Vec<bool>, Memory>
     requires all { length groups.now ≡ 32 }
     requires members { All (λ group. All (λ u. u < length templates.now) group.members) groups.now }
     ensures { IfOk result (λ list. Holds (leads (record { templates = templates.now; groups = groups.now }) 32) list.items) }
@@ -155,11 +151,7 @@ fn leads_by(list: &[bool], k: usize, a: usize, b: usize) -> bool
 }
 
 // Which group asks for which.
-fn all_asked(
-    alloc: Global,
-    templates: &[Template],
-    groups: &[Group],
-) -> Result<Vec<bool>, Memory>
+fn all_asked(alloc: Global, templates: &[Template], groups: &[Group]) -> Result<Vec<bool>, Memory>
     requires all { length groups.now ≡ 32 }
     requires members { All (λ group. All (λ u. u < length templates.now) group.members) groups.now }
     ensures { IfOk result (λ list. Holds (asks_for (record { templates = templates.now; groups = groups.now })) list.items) }

@@ -59,12 +59,7 @@ fn next_greatest(
 {
     let mut next = Vec::with_capacity(alloc, GROUPS)?;
     for g in 0..GROUPS {
-        next.push(greatest_of(
-            templates,
-            groups[g].members.as_slice(),
-            own,
-            of_groups,
-        ))?;
+        next.push(greatest_of(templates, groups[g].members.as_slice(), own, of_groups))?;
     }
     Ok(next)
 }
@@ -141,7 +136,10 @@ fn site_size(slot: Slot, of_groups: &[u32]) -> u32
     match slot {
         Slot::Link { .. } => 0,
         Slot::Site { group, second, .. } => {
-            1 + max(of_groups[group as usize - 1], if second == 0 { 1 } else { 2 })
+            1 + max(
+                of_groups[group as usize - 1],
+                if second == 0 { 1 } else { 2 },
+            )
         }
     }
 }

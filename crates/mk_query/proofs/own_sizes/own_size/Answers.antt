@@ -17,7 +17,7 @@ loop-i-preserved c =
     let template = c.args.template.now in
     let below = rw c.slots-slots.ensures at c.loop-i-test.true in
     let here : Marks (length template.atoms) (takes template.bonds (get_or template.slots c.loop-i.i (Link 0 0 0 0))) c.in_ok-by.by.items =
-        rw (c.bonds-in-loop-i.ensures, c.slots-slots.ensures, c.atoms.ensures) at c.in_ok-by.ensures in
+    rw (c.bonds-in-loop-i.ensures, c.slots-slots.ensures, c.atoms.ensures) at c.in_ok-by.ensures in
     let added = rw (c.deref-in-loop-i.ensures.value, c.slots-slots.ensures, c.atoms.ensures) at c.link_size_by.ensures.size in
     record {
       taken =

@@ -12,6 +12,6 @@ loop-g-preserved c =
     let G = c.args.groups.now in
     let are = members_at_place T G c.loop-g.g c.index-groups-g.result (omega (arith, c.requires.all, c.loop-g-test.true)) c.index-groups-g.is in
     let told : IsTrue c.all_have_points.result ↔ AllHavePoints T c.args.n (members_of (record { templates = T; groups = G }) (c.loop-g.g + 1)) =
-        rw are (rw (c.as_slice.ensures, sym c.index-groups-g.is) at c.all_have_points.ensures) in
+    rw are (rw (c.as_slice.ensures, sym c.index-groups-g.is) at c.all_have_points.ensures) in
     let each = told_more (record { templates = T; groups = G }) c.args.n c.loop-g.g c.loop-g.list.items c.all_have_points.result c.loop-g.invariant.size told c.loop-g.invariant.each in
     search (rules, each)

@@ -30,11 +30,12 @@ returns c =
     let T = c.args.templates.now in
     let G = c.args.groups.now in
     let has = has_groups T G c.requires.labels in
-    let size : c.size_by_lists.result ≡ size_by_lists T c.in_ok-own.own.items c.loop-n.of_groups.items 0 = rw (c.deref-2.ensures.value, c.deref-3.ensures.value) at c.size_by_lists.ensures.size in
-    (λ less.
-    is_small T G 32 (omega arith) has c.requires.no_cycle c.in_ok-own.own.items c.loop-n.of_groups.items c.loop-n.n (omega (arith, c.loop-n-test.false)) c.requires.root
-    c.in_ok-own.ensures.own c.loop-n.invariant.greatest (rw size at (test_small c.size_by_lists.result less)),
-    λ small.
-    let few = small_is T G 32 (omega arith) has c.requires.no_cycle c.in_ok-own.own.items c.loop-n.of_groups.items c.loop-n.n (omega (arith, c.loop-n-test.false)) c.requires.root
-        c.requires.members c.in_ok-own.ensures.own c.loop-n.invariant.greatest small in
-    small_tested c.size_by_lists.result (rw (sym size) at few))
+    let size : c.size_by_lists.result ≡ size_by_lists T c.in_ok-own.own.items c.loop-n.of_groups.items 0 = rw (c.deref-2.ensures.value, c.deref-3.ensures.value) at c.size_by_lists.ensures.size in (
+      λ less.
+          is_small T G 32 (omega arith) has c.requires.no_cycle c.in_ok-own.own.items c.loop-n.of_groups.items c.loop-n.n (omega (arith, c.loop-n-test.false)) c.requires.root
+          c.in_ok-own.ensures.own c.loop-n.invariant.greatest (rw size at (test_small c.size_by_lists.result less)),
+      λ small.
+          let few = small_is T G 32 (omega arith) has c.requires.no_cycle c.in_ok-own.own.items c.loop-n.of_groups.items c.loop-n.n (omega (arith, c.loop-n-test.false)) c.requires.root
+          c.requires.members c.in_ok-own.ensures.own c.loop-n.invariant.greatest small in
+          small_tested c.size_by_lists.result (rw (sym size) at few),
+    )
