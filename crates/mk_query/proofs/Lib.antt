@@ -3,6 +3,7 @@ pub mod BlockSearchLemmas
 pub mod BondLemmas
 pub mod FollowLemmas
 pub mod LabelLemmas
+pub mod LinkLemmas
 pub mod LinkMarkLemmas
 pub mod ListLemmas
 pub mod LogicLemmas
@@ -13,7 +14,4 @@ pub mod OrderLemmas
 pub mod PointLemmas
 pub mod SiteLemmas
 pub mod StandingLemmas
-pub mod FollowLemmas
-pub mod BlockSearchLemmas
-pub mod LinkLemmas
 pub mod ValueLemmas

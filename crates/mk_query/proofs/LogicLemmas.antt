@@ -50,9 +50,9 @@ last_one props k g old new p at is last = by_names (names_group g p) refl is
           absurd cc)
           (cases_lt j k);
       here = λ some. (
-        let found = last.here (omega (arith, some, is)) in
-        (omega (arith, found.0, is), subst (λ (m : ℕ). NamesAt props g (m - 1)) (sym is) found.1)
-      );
+          let found = last.here (omega (arith, some, is)) in
+          (omega (arith, found.0, is), subst (λ (m : ℕ). NamesAt props g (m - 1)) (sym is) found.1)
+          );
     }
 
 -- one property more

@@ -101,8 +101,7 @@ module _ (is_root : Bool) (table : RawTable) (standing : Standing) (are : AreSta
   by_search : IsPointed is_root table x → IsPointedBy is_root standing first second x
   by_search right = record {
     free = λ some.
-        let bears_it = point_some some in
-        (
+        let bears_it = point_some some in (
           right.member bears_it,
           site_is table standing x are ∙ not_true (is_site_at table x) (right.no_site bears_it),
           none_link table standing x are least most (right.no_link bears_it),

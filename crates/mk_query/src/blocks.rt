@@ -44,7 +44,14 @@ pub fn has_plain_block(
         if !may_hold(standing, link, y) {
             return Ok(false);
         }
-        follow(&mut reached, &mut queue, numbers_of(near, bonds, y), bonds, link, y)?;
+        follow(
+            &mut reached,
+            &mut queue,
+            numbers_of(near, bonds, y),
+            bonds,
+            link,
+            y,
+        )?;
         i += 1;
     }
     Ok(true)

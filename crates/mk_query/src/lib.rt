@@ -14,6 +14,8 @@ mod checking;
 mod drawn;
 mod drawn_bonds;
 mod link_ends;
+#[cfg(test)]
+mod link_tests;
 mod linked;
 mod linked_atoms;
 mod links;
@@ -31,6 +33,7 @@ mod table_faults;
 mod tests;
 mod values;
 
+pub use checking::first_fault;
 pub use mk_text::Memory;
 pub use table_faults::Fault;
 pub use values::{ValueKind, last_values};

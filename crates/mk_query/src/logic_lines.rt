@@ -99,12 +99,7 @@ fn is_right_logic(
     ensures { IfOk result (λ right. IsTrue right ↔ IsRightBy is_root is_last logic.now) }
 {
     let range = has_range(alloc, logic)?;
-    Ok(is_root
-        && is_last
-        && has_group(logic)
-        && has_then_group(logic)
-        && has_rest(logic)
-        && range)
+    Ok(is_root && is_last && has_group(logic) && has_then_group(logic) && has_rest(logic) && range)
 }
 
 fn has_group(logic: &LogicLine) -> bool

@@ -26,10 +26,10 @@ pub loop-number-preserved : goal.loop-number-preserved
 loop-number-preserved c =
     let below : c.other_end-z.result < length c.loop-number.reached.items = omega (arith, within (goal.at.loop-number-preserved c).After-other_end-z, c.loop-number.invariant.size) in
     rw c.in_ok-push.ensures.items (
-      followed-first c.args.bonds.now c.args.link (length c.args.reached.now.items - 1) c.args.y c.args.numbers.now c.args.reached.now.items c.args.queue.now.items c.loop-number.number-index _ c.other_end-z.result
-      c.requires.ends c.requires.numbers c.loop-number-test.true c.other_end-z.ensures.first c.other_end-z.ensures.second
-      c.loop-number.reached.items c.loop-number.queue.items (sym c.is_own.ensures ∙ c.if-is_own.false) below
-      (reached_read c.loop-number.reached.items c.other_end-z.result c.index.result.now false below c.index.ensures c.if-index.false) c.requires.hangs c.loop-number.invariant
+    followed-first c.args.bonds.now c.args.link (length c.args.reached.now.items - 1) c.args.y c.args.numbers.now c.args.reached.now.items c.args.queue.now.items c.loop-number.number-index _ c.other_end-z.result
+    c.requires.ends c.requires.numbers c.loop-number-test.true c.other_end-z.ensures.first c.other_end-z.ensures.second
+    c.loop-number.reached.items c.loop-number.queue.items (sym c.is_own.ensures ∙ c.if-is_own.false) below
+    (reached_read c.loop-number.reached.items c.other_end-z.result c.index.result.now false below c.index.ensures c.if-index.false) c.requires.hangs c.loop-number.invariant
     )
 
 pub returns-clause-leads : goal.returns-clause-leads
