@@ -1,6 +1,7 @@
 pub mod AtomLemmas
 pub mod BlockSearchLemmas
 pub mod BondLemmas
+pub mod FaultLemmas
 pub mod FollowLemmas
 pub mod LabelLemmas
 pub mod LinkLemmas

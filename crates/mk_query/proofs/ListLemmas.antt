@@ -67,12 +67,12 @@ list_more list known old new tested listed is those are = record {
   listed = (λ t. not_nil those list, λ some. listed);
   known = (
     λ t.
-    let both = and_parts old.known known (sym is ∙ t) in
-    All-push HasKnownMembers those list (are.known.0 both.0) (tested.0 both.1),
+        let both = and_parts old.known known (sym is ∙ t) in
+        All-push HasKnownMembers those list (are.known.0 both.0) (tested.0 both.1),
     λ all.
-    let earlier : All HasKnownMembers those = λ k d below. rw (get_or_append_left those (list ∷ []) d k below) at (all k d (omega (arith, length_push those list))) in
-    let last : HasKnownMembers list = rw (get_or_push those list list (length those) refl) at (all (length those) list (omega (arith, length_push those list))) in
-    is ∙ and_from old.known known (are.known.1 earlier) (tested.1 last),
+        let earlier : All HasKnownMembers those = λ k d below. rw (get_or_append_left those (list ∷ []) d k below) at (all k d (omega (arith, length_push those list))) in
+        let last : HasKnownMembers list = rw (get_or_push those list list (length those) refl) at (all (length those) list (omega (arith, length_push those list))) in
+        is ∙ and_from old.known known (are.known.1 earlier) (tested.1 last),
   );
 }
 

@@ -41,11 +41,12 @@ neighbours_at-push : (bonds : List QueryBond) (bond : QueryBond) (x : ℕ) → n
 neighbours_at-push [] bond x = refl
 neighbours_at-push (b ∷ bonds) bond x =
     let more = neighbours_at-push bonds bond x in
-    elim (eqb b.first x) as (λ t. cond t (b.second ∷ neighbours_at (bonds ++ bond ∷ []) x) (cond (eqb b.second x) (b.first ∷ neighbours_at (bonds ++ bond ∷ []) x) (neighbours_at (bonds ++ bond ∷ []) x)) ≡ cond t (b.second ∷ neighbours_at bonds x) (cond (eqb b.second x) (b.first ∷ neighbours_at bonds x) (neighbours_at bonds x)) ++ neighbours_at (bond ∷ []) x)
-    [ true ↦ ap (λ (l : List ℕ). b.second ∷ l) more
-    | false ↦
-      elim (eqb b.second x) as (λ t. cond t (b.first ∷ neighbours_at (bonds ++ bond ∷ []) x) (neighbours_at (bonds ++ bond ∷ []) x) ≡ cond t (b.first ∷ neighbours_at bonds x) (neighbours_at bonds x) ++ neighbours_at (bond ∷ []) x)
-      [ true ↦ ap (λ (l : List ℕ). b.first ∷ l) more | false ↦ more ] ]
+    elim (eqb b.first x) as (λ t. cond t (b.second ∷ neighbours_at (bonds ++ bond ∷ []) x) (cond (eqb b.second x) (b.first ∷ neighbours_at (bonds ++ bond ∷ []) x) (neighbours_at (bonds ++ bond ∷ []) x)) ≡ cond t (b.second ∷ neighbours_at bonds x) (cond (eqb b.second x) (b.first ∷ neighbours_at bonds x) (neighbours_at bonds x)) ++ neighbours_at (bond ∷ []) x) [
+      | true ↦ ap (λ (l : List ℕ). b.second ∷ l) more
+      | false ↦
+          elim (eqb b.second x) as (λ t. cond t (b.first ∷ neighbours_at (bonds ++ bond ∷ []) x) (neighbours_at (bonds ++ bond ∷ []) x) ≡ cond t (b.first ∷ neighbours_at bonds x) (neighbours_at bonds x) ++ neighbours_at (bond ∷ []) x)
+          [ true ↦ ap (λ (l : List ℕ). b.first ∷ l) more | false ↦ more ]
+    ]
 
 -- the neighbours that some bonds give
 abbrev pub neighbours_by : List RawBond → ℕ → List ℕ

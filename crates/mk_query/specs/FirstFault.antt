@@ -3,6 +3,7 @@
 --     Demands groups is_root table check item     what a check demands of the item of a number
 --     PassesAll groups is_root table       every check passes at every item
 --     IsFirstFault groups is_root table fault     the first check that fails, and its least item
+--     FindsBelow groups is_root table n found     the first fault, or none where the checks of lower numbers pass
 --     FindsFirst groups is_root table found       the first fault, or none where every check passes
 use Rattle.std.specs.Prelude.{◌≡◌, ◌<◌, ℕ, Bool, List, Option, Some, None, length}
 use Rattle.mk_text.specs.Items.{IsLeastFailing, OfItem}
@@ -72,6 +73,11 @@ pub record IsFirstFault (groups : List RawGroup) (is_root : Bool) (table : RawTa
   pub numbered : number check ≡ fault.check
   pub before : PassesBelow groups is_root table fault.check
   pub least : IsLeastFailing (Demands groups is_root table check) fault.item
+
+-- the first fault, or none where the checks of lower numbers pass
+abbrev pub FindsBelow : List RawGroup → Bool → RawTable → ℕ → Option Fault → Type 0
+FindsBelow groups is_root table n None = PassesBelow groups is_root table n
+FindsBelow groups is_root table n (Some fault) = IsFirstFault groups is_root table fault
 
 -- the first fault, or none where every check passes
 abbrev pub FindsFirst : List RawGroup → Bool → RawTable → Option Fault → Type 0

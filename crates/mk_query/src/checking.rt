@@ -1,7 +1,18 @@
 // The checks in their order.
-ghost use Rattle.std.specs.Prelude.{◌≡◌, ◌≤◌, ◌<◌, ◌^◌, IfOk, length};
-ghost use Rattle.mk_query.specs.FirstFault.{FindsFirst};
+ghost use Rattle.std.specs.Prelude.{◌≤◌, ◌<◌, ◌^◌, ℕ, Bool, List, IfOk, length};
+ghost use Rattle.mk_rgfile.specs.declared.raw_query.RawGroup.{RawGroup};
+ghost use Rattle.mk_query.specs.Checks.{IsQueryBond};
+ghost use Rattle.mk_query.specs.FirstFault.{FindsBelow, FindsFirst, PassesBelow};
 
+use crate::atom_checks::first_unknown_atom;
+use crate::bond_checks::first_unknown_bond;
+use crate::links::first_unknown_link;
+use crate::lists::first_unlisted_atom;
+use crate::logic_lines::first_unknown_logic;
+use crate::orders::first_disordered_site;
+use crate::points::first_misplaced_point;
+use crate::property_checks::first_unknown_property;
+use crate::sites::{first_misplaced_site, first_unlabelled_atom};
 use crate::table_faults::Fault;
 use mk_ctab::RawTable;
 use mk_rgfile::RawGroup;
@@ -9,12 +20,89 @@ use mk_text::Memory;
 use std::alloc::Global;
 
 /// The first of the checks Q1 to Q10 that a table fails, or None where it passes them.
-pub fn first_fault(alloc: Global, groups: &[RawGroup], is_root: bool, table: &RawTable) -> Result<Option<Fault>, Memory>
+pub fn first_fault(
+    alloc: Global,
+    groups: &[RawGroup],
+    is_root: bool,
+    table: &RawTable,
+) -> Result<Option<Fault>, Memory>
     requires few_atoms { length table.now.atoms ≤ 999 }
     requires few_bonds { length table.now.bonds ≤ 999 }
     requires few_properties { length table.now.props < 2 ^ 32 }
     ensures { IfOk result (FindsFirst groups.now is_root table.now) }
 {
-    // not written yet
+    if let Some(fault) = fault_of_lines(alloc, table)? {
+        return Ok(Some(fault));
+    }
+    if let Some(fault) = fault_of_sites(alloc, groups, table)? {
+        return Ok(Some(fault));
+    }
+    fault_of_slots(alloc, is_root, table)
+}
+
+// The first of the checks of lines alone, Q1 to Q3.
+fn fault_of_lines(alloc: Global, table: &RawTable) -> Result<Option<Fault>, Memory>
+    requires few_atoms { length table.now.atoms ≤ 999 }
+    requires few_bonds { length table.now.bonds ≤ 999 }
+    requires few_properties { length table.now.props < 2 ^ 32 }
+    ensures { IfOk result (λ found. (groups : List RawGroup) (is_root : Bool) → FindsBelow groups is_root table.now 4 found) }
+{
+    let atoms = table.atoms.as_slice();
+    let count = atoms.len() as u32;
+    let props = table.props.as_slice();
+    if let Some(item) = first_unknown_atom(atoms) {
+        return Ok(Some(Fault { check: 1, item }));
+    }
+    if let Some(item) = first_unknown_bond(alloc, count, table.bonds.as_slice())? {
+        return Ok(Some(Fault { check: 2, item }));
+    }
+    if let Some(item) = first_unknown_property(count, props) {
+        return Ok(Some(Fault { check: 3, item }));
+    }
+    Ok(None)
+}
+
+// The first of the checks of lists, labels and sites, Q4 to Q7.
+fn fault_of_sites(
+    alloc: Global,
+    groups: &[RawGroup],
+    table: &RawTable,
+) -> Result<Option<Fault>, Memory>
+    requires few_atoms { length table.now.atoms ≤ 999 }
+    requires few_properties { length table.now.props < 2 ^ 32 }
+    ensures { IfOk result (λ found. (is_root : Bool) → PassesBelow groups.now is_root table.now 4 → FindsBelow groups.now is_root table.now 8 found) }
+{
+    if let Some(item) = first_unlisted_atom(alloc, table)? {
+        return Ok(Some(Fault { check: 4, item }));
+    }
+    if let Some(item) = first_unlabelled_atom(alloc, groups, table)? {
+        return Ok(Some(Fault { check: 5, item }));
+    }
+    if let Some(item) = first_misplaced_site(alloc, table)? {
+        return Ok(Some(Fault { check: 6, item }));
+    }
+    if let Some(item) = first_disordered_site(alloc, table)? {
+        return Ok(Some(Fault { check: 7, item }));
+    }
+    Ok(None)
+}
+
+// The first of the checks of points, links and logic, Q8 to Q10.
+fn fault_of_slots(alloc: Global, is_root: bool, table: &RawTable) -> Result<Option<Fault>, Memory>
+    requires few_atoms { length table.now.atoms ≤ 999 }
+    requires few_bonds { length table.now.bonds ≤ 999 }
+    requires few_properties { length table.now.props < 2 ^ 32 }
+    requires bonds { (item : ℕ) → IsQueryBond (length table.now.atoms) table.now.bonds item }
+    ensures { IfOk result (λ found. (groups : List RawGroup) → PassesBelow groups is_root table.now 8 → FindsFirst groups is_root table.now found) }
+{
+    if let Some(item) = first_misplaced_point(alloc, is_root, table)? {
+        return Ok(Some(Fault { check: 8, item }));
+    }
+    if let Some(item) = first_unknown_link(alloc, table)? {
+        return Ok(Some(Fault { check: 9, item }));
+    }
+    if let Some(item) = first_unknown_logic(alloc, is_root, table.props.as_slice())? {
+        return Ok(Some(Fault { check: 10, item }));
+    }
     Ok(None)
 }

@@ -25,6 +25,8 @@ mod marks;
 mod orders;
 mod points;
 mod property_checks;
+#[cfg(test)]
+mod site_tests;
 mod sites;
 mod standing;
 mod standing_atoms;

@@ -158,10 +158,8 @@ fn are_symbols(symbols: &[Bytes]) -> bool
 
 // Notes a list at atom n, where there is one.
 fn add_list(marks: &mut Vec<ListMark>, n: u32, known: bool)
-    ensures {
-        (list : ElementList) → (IsTrue known ↔ HasKnownMembers list)
-        → AreMore IsListMark (λ x. if n == x then list ∷ [] else []) marks.old.items marks.new.items
-    }
+    ensures { (list : ElementList) → (IsTrue known ↔ HasKnownMembers list)
+        → AreMore IsListMark (λ x. if n == x then list ∷ [] else []) marks.old.items marks.new.items }
 {
     let place = n as usize;
     if place >= 1 && place <= marks.len() {

@@ -85,7 +85,10 @@ fn orders(entries: &[Pair], near: Near) -> bool
     match near {
         Near::One(y) => entries.len() == 1 && names(entries, y) && gives(entries, 1),
         Near::Two(y, z) => {
-            entries.len() == 2 && names_both(entries, y, z) && gives(entries, 1) && gives(entries, 2)
+            entries.len() == 2
+                && names_both(entries, y, z)
+                && gives(entries, 1)
+                && gives(entries, 2)
         }
         _ => false,
     }
@@ -143,10 +146,8 @@ fn mark_property(seen: &mut Vec<bool>, property: &Property)
 
 fn mark_site(seen: &mut Vec<bool>, n: u32)
     ensures size { length seen.new.items ≡ length seen.old.items }
-    ensures marked {
-        (k : ℕ) → k < length seen.old.items
-        → slice_index_or seen.new.items k false ≡ (n == k + 1 || slice_index_or seen.old.items k false)
-    }
+    ensures marked { (k : ℕ) → k < length seen.old.items
+        → slice_index_or seen.new.items k false ≡ (n == k + 1 || slice_index_or seen.old.items k false) }
 {
     let place = n as usize;
     if place >= 1 && place <= seen.len() {

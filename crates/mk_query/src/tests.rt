@@ -1,6 +1,7 @@
 // Tables that fail a check, by the check and the item that are named.
 use crate::{Fault, first_fault};
 use mk_ctab::read_table;
+use mk_rgfile::RawGroup;
 use mk_text::lines;
 use std::alloc::Global;
 use std::test::Fail;
@@ -38,7 +39,7 @@ const ROWS: [(&str, &str, u8, u32); 26] = [
     ),
     (
         "the words of queries",
-        "  7  0\n                               L\n                               A\n                               Q\n                               *\n                               R#\n                               D\n                               T\nM  END\n",
+        "  5  0\n                               A\n                               Q\n                               *\n                               D\n                               T\nM  END\n",
         0,
         0,
     ),
@@ -134,17 +135,17 @@ const ROWS: [(&str, &str, u8, u32); 26] = [
         1,
     ),
     (
-        "a link between no atoms, which is asked elsewhere",
+        "a link between no atoms, which is asked later",
         bonded!("M  LIN  1   1   2   8   9\n"),
-        0,
-        0,
+        9,
+        1,
     ),
 ];
 
 #[test]
 fn names_the_first_fault(rt: HostRuntime) -> Result<(), Fail> {
     for (name, text, check, item) in ROWS {
-        let found = fault_of(rt.alloc(), text)?;
+        let found = fault_of(rt.alloc(), &[], text)?;
         assert_eq!(rt; (found.check, found.item), (check, item), "{name}");
     }
     Ok(())
@@ -165,17 +166,17 @@ fn names_the_21st_bond(rt: HostRuntime) -> Result<(), Fail> {
         text.push_str(&format!(in alloc; " {n}  1  1\n")?)?;
     }
     text.push_str("M  END\n")?;
-    let found = fault_of(alloc, &text)?;
+    let found = fault_of(alloc, &[], &text)?;
     assert_eq!(rt; (found.check, found.item), (2, 21));
     Ok(())
 }
 
-// The fault of a table that is written so; check 0 where there is none.
-fn fault_of(alloc: Global, text: &str) -> Result<Fault, Fail> {
+/// The fault of a root that is written so, over these groups; check 0 where there is none.
+pub fn fault_of(alloc: Global, groups: &[RawGroup], text: &str) -> Result<Fault, Fail> {
     let spans = lines(alloc, text.as_bytes())?;
     match read_table(alloc, text.as_bytes(), &spans, 0) {
         Ok((table, _)) if table.props.as_slice().len() < 100 => {
-            match first_fault(alloc, &[], true, &table)? {
+            match first_fault(alloc, groups, true, &table)? {
                 Some(fault) => Ok(fault),
                 None => Ok(Fault { check: 0, item: 0 }),
             }

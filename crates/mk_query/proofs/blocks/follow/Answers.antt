@@ -1,4 +1,4 @@
-use Rattle.std.proofs.Common.{◌≡◌, ◌<◌, ◌≤◌, ◌-◌, ◌∙◌, true, false, length, arith, sym}
+use Rattle.std.proofs.Common.{◌<◌, ◌≤◌, ◌-◌, ◌∙◌, true, false, length, arith, sym}
 use Rattle.mk_query.proofs.FollowLemmas.{followed-all, followed-first, followed-seen, reached_read, step_within}
 use Rattle.mk_query.proofs.blocks.follow.Goals as goal
 use Rattle.mk_query.proofs.blocks.follow.Goals.{After-other_end-z}

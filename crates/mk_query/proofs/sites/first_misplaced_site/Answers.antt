@@ -1,7 +1,6 @@
-use Rattle.std.proofs.Common.{◌≡◌, ◌+◌, ◌∙◌, arith, map, ap, List, length, ◌<◌}
-use Rattle.mk_query.specs.Drawn.{drawn_neighbours, is_site}
-use Rattle.mk_query.specs.Marks.{IsNear}
-use Rattle.mk_query.proofs.NumberedLemmas.{numbered-none, numbered-more, numbered-fail, numbered-all}
+use Rattle.std.proofs.Common.{◌+◌, ◌∙◌, arith, map, ap}
+use Rattle.mk_query.specs.Drawn.{is_site}
+use Rattle.mk_query.proofs.NumberedLemmas.{numbered-more, numbered-fail, numbered-all}
 use Rattle.mk_query.proofs.SiteLemmas.{HasPlace, place_right, place_wrong, near_at}
 use Rattle.mk_query.proofs.sites.first_misplaced_site.Goals as goal
 
