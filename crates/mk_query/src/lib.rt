@@ -1,8 +1,8 @@
-//! Queries: whether the tables of a query can be meant. So far the checks Q1 to Q3 of one table stand.
+//! Queries: whether the tables of a query can be meant. So far the checks Q1 to Q10 of one table stand.
 //!
 //! Callers use one promise. `first_fault` gives the first check that a table fails, with its least atom, bond or property, and None
-//! exactly where the table passes (`FindsFirst` in `specs/FirstFault.antt` over the demands of `specs/Checks.antt`; told in
-//! docs/FORMAT.md, "The checks of a query").
+//! exactly where the table passes (`FindsFirst` in `specs/FirstFault.antt` over the demands of `specs/Checks.antt`, `SiteChecks.antt`
+//! and `LinkChecks.antt`; told in docs/FORMAT.md, "The checks of a query").
 //!
 //! What any table has to keep stands in mk_ctab. What a query means isn't said here.
 #![tactic(auto)]
