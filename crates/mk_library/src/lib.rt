@@ -18,6 +18,8 @@ mod molecules;
 mod pending;
 mod refusal;
 mod restoring;
+#[cfg(test)]
+mod tests;
 
 pub use laws::records_change_alone;
 pub use library::Library;

@@ -1,4 +1,4 @@
-// A library from stored rows, and from its own texts.
+// A library from stored rows.
 ghost use Rattle.std.specs.Prelude.{◌≡◌, IfOk, OnOk};
 ghost use Rattle.mk_library.specs.StoredRows.{AllRead, IfBad, IsFirstBad};
 
