@@ -3,18 +3,18 @@
 --     done-more          one atom more is done
 --     plain_block        where all that was reached is done, the block holds nothing else
 --     numbers_are        the numbers of an atom's bonds
-use Rattle.std.proofs.Common.{◌≡◌, ◌≤◌, ◌<◌, ◌+◌, ◌-◌, ℕ, Bool, true, false, List, [], ◌∷◌, ◌++◌, refl, ap, sym, subst, ◌∙◌, length, get_or, replicate, set, arith, ⊎_elim}
-use Rattle.std.specs.Prelude.{◌↔◌, Contains, IsTrue, slice_get, Some}
+use Rattle.std.proofs.Common.{◌≡◌, ◌≤◌, ◌<◌, ◌+◌, ◌-◌, ℕ, Bool, true, false, List, [], ◌∷◌, refl, ap, sym, subst, ◌∙◌, length, get_or, replicate, set, arith, ⊎_elim}
+use Rattle.std.specs.Prelude.{IsTrue, slice_get, Some}
 use Rattle.std.proofs.lemmas.Bool.{cases_eq, cases_lt, true≢false}
 use Rattle.std.proofs.lemmas.List.{get_or-replicate, get_or-set_same, get_or-set_other, get_or_past, length-map, length-replicate, length-set}
 use Rattle.mk_model.specs.declared.template.QueryBond.{QueryBond}
-use Rattle.mk_model.specs.Edges.{numbers_at, rows_of}
+use Rattle.mk_model.specs.Edges.{rows_of}
 use Rattle.mk_model.specs.Templates.{hang_together, query_edge, query_edges}
-use Rattle.mk_model.proofs.ForCallers.{Hangs, hangs, hangs_tested, hangs_same, hangs_closed, GoesAlong}
+use Rattle.mk_model.proofs.ForCallers.{hangs, hangs_tested, hangs_same, hangs_closed, GoesAlong}
 use Rattle.mk_ctab.proofs.ForCallers.{numbers_are, numbers-within}
 use Rattle.mk_query.specs.declared.link_ends.LinkEnds.{LinkEnds}
 use Rattle.mk_query.specs.declared.standing.Standing.{Standing}
-use Rattle.mk_query.specs.BlockSearch.{AreNumbersOf, HasPlainBlock, IsLed, IsLonger, IsReached, KeepReached, LeadsOn, MayHold, is_reached, others}
+use Rattle.mk_query.specs.BlockSearch.{AreNumbersOf, HasPlainBlock, IsLonger, IsReached, KeepReached, LeadsOn, MayHold, is_reached, others}
 
 -- ---- the link alone
 

@@ -2,17 +2,17 @@
 --     NoneOf, none-more, none-all, some_at     a search among the bonds of an atom
 --     right_links                              what the code tests of an atom is the demand
 --     between                                  bonds that pass their check are between atoms
-use Rattle.std.proofs.Common.{◌≡◌, ◌≢◌, ◌≤◌, ◌<◌, ◌+◌, ◌-◌, ℕ, Bool, true, false, eqb, ◌&&◌, ◌||◌, List, [], ◌∷◌, refl, ap, sym, subst, ◌∙◌, length, get_or, map, arith, ⊎_elim, inl, inr}
+use Rattle.std.proofs.Common.{◌≡◌, ◌≤◌, ◌<◌, ◌+◌, ◌-◌, ℕ, Bool, true, false, eqb, ◌&&◌, ◌||◌, List, [], ◌∷◌, refl, ap, sym, subst, ◌∙◌, length, get_or, arith, ⊎_elim, inl, inr}
 use Rattle.std.specs.Prelude.{◌⊎◌, ◌↔◌, All, Contains, not, IsTrue}
 use Rattle.std.proofs.lemmas.Bool.{cases_eq, cases_lt, eqb-true, true≢false}
 use Rattle.std.proofs.lemmas.List.{get_or_default, length-map}
 use Rattle.std.proofs.lemmas.List.Elements.{All-map, Contains-get_or}
-use Rattle.mk_text.proofs.ForCallers.{all_of, both, or_left, or_right}
+use Rattle.mk_text.proofs.ForCallers.{all_of, both}
 use Rattle.mk_props.specs.declared.property.LinkEntry.{LinkEntry}
 use Rattle.mk_model.specs.declared.template.QueryBond.{QueryBond}
 use Rattle.mk_model.specs.Edges.{AreBetween, IsBetween}
 use Rattle.mk_model.specs.Templates.{hang_together, joins, query_edge, query_edges}
-use Rattle.mk_model.proofs.ForCallers.{hangs, hangs_closed, GoesAlong, kept_within}
+use Rattle.mk_model.proofs.ForCallers.{hangs, hangs_closed, kept_within}
 use Rattle.mk_ctab.specs.declared.raw.RawBond.{RawBond}
 use Rattle.mk_ctab.specs.declared.raw.RawTable.{RawTable}
 use Rattle.mk_ctab.specs.Bonds.{HasTwoEnds}
@@ -22,13 +22,13 @@ use Rattle.mk_query.specs.declared.link_ends.LinkEnds.{LinkEnds}
 use Rattle.mk_query.specs.declared.linked.Linked.{Linked}
 use Rattle.mk_query.specs.declared.linked.Linked.TheVariants as linked
 use Rattle.mk_query.specs.declared.standing.Standing.{Standing}
-use Rattle.mk_query.specs.BlockSearch.{AreNumbersOf, HasPlainBlock, MayHold, is_own, others}
+use Rattle.mk_query.specs.BlockSearch.{AreNumbersOf, MayHold, is_own, others}
 use Rattle.mk_query.specs.Checks.{IsQueryBond}
 use Rattle.mk_query.specs.Drawn.{bears_point, is_site_at, links_at, query_bond, query_bonds}
-use Rattle.mk_query.specs.LinkChecks.{AreRightLinks, BearsSome, IsInBlock, IsLinkAt, IsPlainBut, LeadAlike}
+use Rattle.mk_query.specs.LinkChecks.{AreRightLinks, BearsSome, IsInBlock, IsLinkAt}
 use Rattle.mk_query.specs.LinkMarks.{IsLinked}
-use Rattle.mk_query.specs.LinkSearch.{AreAlikeBonds, AreRightBy, HasLike, IsLike, IsLinkable, IsRightBy, IsRightLink, ends_of}
-use Rattle.mk_query.specs.Standings.{AreStanding, bears, is_link, is_site}
+use Rattle.mk_query.specs.LinkSearch.{AreRightBy, IsRightBy, IsRightLink, ends_of}
+use Rattle.mk_query.specs.Standings.{AreStanding}
 use Rattle.mk_query.proofs.FollowLemmas.{bond_number, edge_at, number_bond}
 use Rattle.mk_query.proofs.StandingLemmas.{bears_is, link_none, links_are, none_link, site_is}
 

@@ -2,7 +2,7 @@
 --     last-more      one property more
 --     logical_by     the demand by these numbers is the demand; right_is, of a property at its place
 --     range_found    a text that is read is a range
-use Rattle.std.proofs.Common.{◌≡◌, ◌≤◌, ◌<◌, ◌+◌, ◌-◌, ℕ, Bool, true, false, cond, eqb, List, Option, None, Some, refl, ap, sym, subst, ◌∙◌, length, get_or, drop, replicate, arith, ⊎_elim}
+use Rattle.std.proofs.Common.{◌≡◌, ◌≤◌, ◌<◌, ◌+◌, ◌-◌, ℕ, Bool, true, false, cond, List, Option, None, Some, refl, ap, sym, subst, ◌∙◌, length, get_or, drop, replicate, arith, ⊎_elim}
 use Rattle.std.specs.Prelude.{ℤ, pos, ◌==◌, ◌↔◌, All, slice_get, is_some, IfNone, IfSome, IsTrue}
 use Rattle.std.proofs.lemmas.Bool.{cases_lt, eq-eqb, eqb-true}
 use Rattle.std.proofs.lemmas.List.{get_or-drop, get_or-replicate, length-drop, length-replicate}
@@ -14,8 +14,8 @@ use Rattle.mk_model.specs.declared.group.Interval.{Interval}
 use Rattle.mk_ctab.specs.Numbers.{IsWithin, natural}
 use Rattle.mk_ctab.proofs.ForCallers.{atom_is, atom_within}
 use Rattle.mk_logic.specs.RangeTexts.{IsRangeText}
-use Rattle.mk_query.specs.LinkChecks.{IsLogical, IsRightLogic, SpeaksOfSame}
-use Rattle.mk_query.specs.LogicSearch.{AreLastLogics, IsLastLogic, IsLogicalBy, IsMarkedBy, IsRightBy, NamesAt, names_group}
+use Rattle.mk_query.specs.LinkChecks.{IsLogical, SpeaksOfSame}
+use Rattle.mk_query.specs.LogicSearch.{AreLastLogics, IsLastLogic, IsLogicalBy, IsMarkedBy, NamesAt, names_group}
 
 -- ---- the last of each group
 

@@ -1,15 +1,15 @@
 -- The atoms that bear attachment points.
 --     bearer_none, bearer_here     the lowest atom that bears a point
 --     pointed_is                   the demand on an atom by these is the demand
-use Rattle.std.proofs.Common.{◌≡◌, ◌≢◌, ◌≤◌, ◌<◌, ◌+◌, ℕ, Bool, true, false, List, refl, ap, sym, subst, ◌∙◌, length, arith, ⊎_elim, inl, inr}
+use Rattle.std.proofs.Common.{◌≡◌, ◌≤◌, ◌<◌, ◌+◌, ℕ, Bool, true, false, refl, sym, subst, ◌∙◌, length, arith, ⊎_elim, inl, inr}
 use Rattle.std.specs.Prelude.{◌⊎◌, ◌↔◌, IsTrue}
 use Rattle.std.proofs.lemmas.Bool.{cases_eq, cases_order, true≢false}
 use Rattle.mk_ctab.specs.declared.raw.RawTable.{RawTable}
 use Rattle.mk_query.specs.declared.standing.Standing.{Standing}
-use Rattle.mk_query.specs.Drawn.{bears_point, is_site_at, links_at}
+use Rattle.mk_query.specs.Drawn.{bears_point, is_site_at}
 use Rattle.mk_query.specs.LinkChecks.{BearsSome, IsPointed}
 use Rattle.mk_query.specs.PointSearch.{IsFirstBearer, IsPointedBy}
-use Rattle.mk_query.specs.Standings.{AreStanding, bears, is_link, is_site}
+use Rattle.mk_query.specs.Standings.{AreStanding, bears}
 use Rattle.mk_query.proofs.StandingLemmas.{bears_is, link_none, none_link, site_is}
 
 -- ---- the lowest

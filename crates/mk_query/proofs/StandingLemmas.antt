@@ -1,8 +1,8 @@
 -- What the code knows of the atoms of a table, as the definitions tell it.
 --     place_of      the atoms of the table have their places
 --     site_is, bears_is, link_none, link_some     what is asked of an atom
-use Rattle.std.proofs.Common.{◌≡◌, ◌≤◌, ◌<◌, ◌+◌, ◌-◌, ℕ, Bool, true, false, List, [], ◌∷◌, refl, ap, sym, subst, ◌∙◌, length, get_or, arith}
-use Rattle.std.specs.Prelude.{ℤ, pos}
+use Rattle.std.proofs.Common.{◌≡◌, ◌≤◌, ◌+◌, ◌-◌, ℕ, false, List, [], refl, ap, ◌∙◌, length, get_or, arith}
+use Rattle.std.specs.Prelude.{pos}
 use Rattle.mk_props.specs.declared.property.LinkEntry.{LinkEntry}
 use Rattle.mk_ctab.specs.declared.raw.RawTable.{RawTable}
 use Rattle.mk_ctab.specs.Charges.{last_or, values_for}

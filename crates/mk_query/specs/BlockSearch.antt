@@ -6,7 +6,7 @@
 --     AreNumbersOf bonds y numbers           the numbers of the bonds of atom y
 --     IsReached bonds link reached queue     the atoms that were reached so far, and the same in their order
 --     LeadsOn bonds link reached y           the other bonds of y lead to atoms that were reached
-use Rattle.std.specs.Prelude.{◌≡◌, ◌≢◌, ◌≤◌, ◌<◌, ◌-◌, ◌||◌, ℕ, Bool, true, false, not, List, All, Contains, count_by, length, slice_index, slice_index_or, IsTrue}
+use Rattle.std.specs.Prelude.{◌≡◌, ◌≢◌, ◌≤◌, ◌<◌, ◌||◌, ℕ, Bool, true, false, not, List, All, Contains, count_by, length, slice_index, slice_index_or, IsTrue}
 use Rattle.std.specs.List.{filter}
 use Rattle.mk_model.specs.declared.template.QueryBond.{QueryBond}
 use Rattle.mk_model.specs.Edges.{numbers_at}

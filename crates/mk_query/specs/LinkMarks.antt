@@ -4,7 +4,7 @@
 --     HasMoreLinks more old new        it was noted that more links name an atom
 --     AreMoreLinks more old new        the same of each atom
 --     is_named linked                  some link names the atom
-use Rattle.std.specs.Prelude.{◌≡◌, ◌≤◌, ◌<◌, ◌+◌, ◌-◌, ℕ, Bool, true, false, List, [], ◌∷◌, ◌++◌, length, slice_index_or}
+use Rattle.std.specs.Prelude.{◌≡◌, ◌≤◌, ◌<◌, ◌+◌, ℕ, Bool, true, false, List, [], ◌∷◌, ◌++◌, length, slice_index_or}
 use Rattle.mk_props.specs.declared.property.LinkEntry.{LinkEntry}
 use Rattle.mk_props.specs.declared.property.Property.{Property}
 use Rattle.mk_query.specs.declared.linked.Linked.{Linked}

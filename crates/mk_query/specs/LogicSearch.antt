@@ -4,7 +4,7 @@
 --     AreLastLogics props n last           for each group the number of its last `M  LOG` among the first n properties
 --     IsMarkedBy property item old new     one property more
 --     IsLogicalBy is_root last item property     the demand, by these numbers
-use Rattle.std.specs.Prelude.{◌≡◌, ◌≤◌, ◌<◌, ◌+◌, ◌-◌, ◌==◌, ℕ, pos, Bool, true, false, List, Some, drop, length, slice_get, slice_index, if◌then◌else◌, IsTrue}
+use Rattle.std.specs.Prelude.{◌≡◌, ◌≤◌, ◌<◌, ◌-◌, ◌==◌, ℕ, pos, Bool, true, false, List, Some, drop, length, slice_get, slice_index, if◌then◌else◌, IsTrue}
 use Rattle.mk_text.specs.Items.{OfItem}
 use Rattle.mk_props.specs.declared.property.LogicLine.{LogicLine}
 use Rattle.mk_props.specs.declared.property.Property.{Property}

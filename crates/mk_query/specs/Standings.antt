@@ -2,7 +2,7 @@
 --     AreStanding table standing     it is that of the table
 --     HasPlace standing x            x is one of the atoms; HasEachPlace, so many of them
 --     is_site, is_link, bears        what is asked of atom x
-use Rattle.std.specs.Prelude.{◌≡◌, ◌≤◌, ◌-◌, ℕ, pos, Bool, false, length, map, slice_index_or}
+use Rattle.std.specs.Prelude.{◌≡◌, ◌≤◌, ◌-◌, ℕ, pos, Bool, length, map, slice_index_or}
 use Rattle.mk_ctab.specs.declared.raw.RawTable.{RawTable}
 use Rattle.mk_query.specs.declared.linked.Linked.TheVariants.{Nothing}
 use Rattle.mk_query.specs.declared.standing.Standing.{Standing}

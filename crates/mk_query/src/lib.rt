@@ -14,6 +14,8 @@ mod checking;
 mod drawn;
 mod drawn_bonds;
 mod link_ends;
+#[cfg(test)]
+mod link_tests;
 mod linked;
 mod linked_atoms;
 mod links;
