@@ -52,15 +52,6 @@ more-at Is old n v here new least most is more = record {
       (cases_eq k (n - 1));
 }
 
--- there is no atom n
-pub more-past : {V X : Type 0} (Is : List V → X → Type 0) (old : List X) (n : ℕ) (v : V) → (1 ≤ n → n ≤ length old → ⊥) → AreMore Is (λ x. cond (eqb n x) (v ∷ []) []) old old
-more-past Is old n v past = record {
-  size = refl;
-  each = λ k d below.
-      let number : eqb n (k + 1) ≡ false = ne_eqb n (k + 1) (λ e. past (omega arith) (omega arith)) in
-      rw number (λ those those_are. rw (append-nil those) those_are);
-}
-
 -- ---- passes
 
 -- the words of a pass are told by its items, one after the other

@@ -3,7 +3,7 @@
 --     IsFirstInTables raw fault      the first fault of the first table that fails a check of its own
 --     IsAcross raw query fault       the first of the checks across tables that fails
 --     IsFirstCompileFault raw fault  the first fault of the raw query
-use Rattle.std.specs.Prelude.{◌≡◌, ◌≢◌, ◌≤◌, ◌<◌, ◌+◌, ◌==◌, ℕ, Bool, List, [], Some, None, Contains, slice_get, length, sum_by, if◌then◌else◌}
+use Rattle.std.specs.Prelude.{◌≡◌, ◌≢◌, ◌≤◌, ◌<◌, ◌==◌, ℕ, List, [], Some, Contains, slice_get, sum_by, if◌then◌else◌}
 use Rattle.mk_text.specs.Items.{IsLeastFailing}
 use Rattle.mk_model.specs.declared.template.Slot.{Slot}
 use Rattle.mk_model.specs.Labels.{IsChain}
