@@ -11,8 +11,8 @@ use crate::atom_checks::is_element_name;
 use crate::drawn::is_symbol;
 use crate::marks::ListMark;
 use mk_ctab::{RawAtom, RawList, RawTable, is_atom, is_within, natural};
-use mk_props::{AtomList, Property};
-use mk_text::{Bytes, Memory};
+use mk_props::{AtomList, Property, Symbols};
+use mk_text::Memory;
 use std::alloc::Global;
 
 /// 0 where an atom-list line names no atom. Else the first atom that a list with an unknown member names, that is an `L` without
@@ -132,7 +132,7 @@ fn add_property(marks: &mut Vec<ListMark>, property: &Property)
         Property::List(list) => add_list(
             marks,
             atom_of_symbols(list),
-            are_symbols(list.symbols.as_slice()),
+            are_symbols(&list.symbols),
         ),
         _ => {}
     }
@@ -145,11 +145,11 @@ fn atom_of_symbols(list: &AtomList) -> u32
 }
 
 // Whether these are symbols of elements.
-fn are_symbols(symbols: &[Bytes]) -> bool
+fn are_symbols(symbols: &Symbols) -> bool
     ensures { IsTrue result ↔ All IsElementName symbols.now }
 {
-    for symbol in symbols {
-        if !is_element_name(symbol.as_slice()) {
+    for i in 0..symbols.count() {
+        if !is_element_name(symbols.symbol(i)) {
             return false;
         }
     }
