@@ -4,3 +4,4 @@ pub mod QueryGraph
 pub mod Run
 pub mod Running
 pub mod Headline
+pub mod Commands

@@ -1,4 +1,5 @@
-// A law over the definitions alone, carried by a function that does nothing.
+// Laws over the definitions alone, each carried by a function that does nothing.
+ghost use Rattle.mk_session.specs.Commands.{CommandsAreRead, OneReading};
 ghost use Rattle.mk_session.specs.Run.{OneRun};
 
 use mk_ctab::plain_file_is_exact;
@@ -19,3 +20,9 @@ pub fn one_run()
     one_first_fault();
     one_filled_molecule();
 }
+
+/// The command that words are is computed exactly, and words are at most one command.
+pub fn commands_are_read()
+    ensures read { CommandsAreRead }
+    ensures one { OneReading }
+{}

@@ -11,6 +11,10 @@
 #![tactic(auto)]
 
 mod answers;
+mod command;
+mod command_parts;
+mod command_reading;
+mod command_rows;
 mod files;
 mod laws;
 mod listings;
@@ -22,7 +26,9 @@ mod status;
 #[cfg(test)]
 mod tests;
 
-pub use laws::one_run;
+pub use command::{Command, LineKind, WordsKind};
+pub use command_reading::{command_of_line, command_of_words};
+pub use laws::{commands_are_read, one_run};
 pub use mk_text::Memory;
 pub use running::top;
 pub use status::Status;
