@@ -4,7 +4,6 @@
 --     asked_in_range        a command that is read lies in its ranges
 use Rattle.std.proofs.Common.{◌≡◌, ℕ, ◌<◌, ◌≤◌, Bool, true, false, ◌&&◌, List, [], ◌∷◌, length, Option, Some, None, if◌then◌else◌, refl, sym, ap, subst, ◌∙◌, arith}
 use Rattle.std.specs.Prelude.{bytes_eq, codes, nat_le}
-use Rattle.std.specs.Str.{is_utf8}
 use Rattle.std.proofs.lemmas.Bool.Decides.{nat_tests}
 use Rattle.std.proofs.lemmas.Slice.Eq.{bytes_eq-Decides}
 use Rattle.mk_text.specs.Columns.{are_blank}
@@ -17,7 +16,7 @@ use Rattle.mk_session.specs.declared.command.LineKind.{LineKind}
 use Rattle.mk_session.specs.declared.command.LineKind.TheVariants as line_kind
 use Rattle.mk_session.specs.declared.command.WordsKind.{WordsKind}
 use Rattle.mk_session.specs.declared.command.WordsKind.TheVariants as words_kind
-use Rattle.mk_session.specs.Commands.{CanAsk, CanAskLine, CanAskWords, CommandsAreRead, IsCommandOf, IsHeldNumber, IsLimit, IsName, IsRow, OneReading, command_in, file_in, held_number, is_built, is_name, kind_of_line, kind_of_order, kind_of_words, kind_of_words_order, limit_in, name_in, number_in, row_of, row_of_one, row_of_three, row_of_two, where_built, with_one, with_two, within}
+use Rattle.mk_session.specs.Commands.{CanAsk, CanAskLine, CanAskWords, CommandsAreRead, IsName, IsRow, OneReading, command_in, file_in, held_number, is_built, is_name, kind_of_line, kind_of_order, kind_of_words, kind_of_words_order, limit_in, name_in, number_in, row_of, row_of_one, row_of_three, row_of_two, where_built, with_one, with_two, within}
 use Rattle.mk_session.specs.Commands.{MatchRow, LoadRow, ReplaceRow, RemoveRow, QueryRow, ForgetRow, SearchRow, ResumeRow, ShowRow, ListRow, DrillRow}
 
 -- ---- from a row to what computes it
@@ -90,29 +89,29 @@ row_one word command is =
 row_two : (word a : List ℕ) (command : Command) → row_of_two word a ≡ Some command → IsRow (word ∷ a ∷ []) command
 row_two word a command is =
     by_word word (codes "load") _ _ command is
-      (λ same is. let h = has_one variant.Load (file_in a) command is in LoadRow a h.a (as_word word _ _ same) h.is h.made)
+    (λ same is. let h = has_one variant.Load (file_in a) command is in LoadRow a h.a (as_word word _ _ same) h.is h.made)
     (λ is. by_word word (codes "remove") _ _ command is
-      (λ same is. let h = has_one variant.Remove (held_number a) command is in RemoveRow a h.a (as_word word _ _ same) h.is h.made)
+    (λ same is. let h = has_one variant.Remove (held_number a) command is in RemoveRow a h.a (as_word word _ _ same) h.is h.made)
     (λ is. by_word word (codes "forget") _ _ command is
-      (λ same is. let h = has_one variant.Forget (name_in a) command is in ForgetRow a h.a (as_word word _ _ same) h.is h.made)
+    (λ same is. let h = has_one variant.Forget (name_in a) command is in ForgetRow a h.a (as_word word _ _ same) h.is h.made)
     (λ is. by_word word (codes "show") _ _ command is
-      (λ same is. let h = has_one variant.Show (held_number a) command is in ShowRow a h.a (as_word word _ _ same) h.is h.made)
+    (λ same is. let h = has_one variant.Show (held_number a) command is in ShowRow a h.a (as_word word _ _ same) h.is h.made)
     (λ is. absurd cc))))
 
 row_three : (word a b : List ℕ) (command : Command) → row_of_three word a b ≡ Some command → IsRow (word ∷ a ∷ b ∷ []) command
 row_three word a b command is =
     by_word word (codes "match") _ _ command is
-      (λ same is. let h = has_two variant.Match (file_in a) (file_in b) command is in MatchRow a b h.a h.b (as_word word _ _ same) h.is h.is' h.made)
+    (λ same is. let h = has_two variant.Match (file_in a) (file_in b) command is in MatchRow a b h.a h.b (as_word word _ _ same) h.is h.is' h.made)
     (λ is. by_word word (codes "replace") _ _ command is
-      (λ same is. let h = has_two variant.Replace (held_number a) (file_in b) command is in ReplaceRow a b h.a h.b (as_word word _ _ same) h.is h.is' h.made)
+    (λ same is. let h = has_two variant.Replace (held_number a) (file_in b) command is in ReplaceRow a b h.a h.b (as_word word _ _ same) h.is h.is' h.made)
     (λ is. by_word word (codes "query") _ _ command is
-      (λ same is. let h = has_two variant.Query (name_in a) (file_in b) command is in QueryRow a b h.a h.b (as_word word _ _ same) h.is h.is' h.made)
+    (λ same is. let h = has_two variant.Query (name_in a) (file_in b) command is in QueryRow a b h.a h.b (as_word word _ _ same) h.is h.is' h.made)
     (λ is. by_word word (codes "search") _ _ command is
-      (λ same is. let h = has_two variant.Search (name_in a) (limit_in b) command is in SearchRow a b h.a h.b (as_word word _ _ same) h.is h.is' h.made)
+    (λ same is. let h = has_two variant.Search (name_in a) (limit_in b) command is in SearchRow a b h.a h.b (as_word word _ _ same) h.is h.is' h.made)
     (λ is. by_word word (codes "resume") _ _ command is
-      (λ same is. let h = has_two variant.Resume (held_number a) (limit_in b) command is in ResumeRow a b h.a h.b (as_word word _ _ same) h.is h.is' h.made)
+    (λ same is. let h = has_two variant.Resume (held_number a) (limit_in b) command is in ResumeRow a b h.a h.b (as_word word _ _ same) h.is h.is' h.made)
     (λ is. by_word word (codes "drill") _ _ command is
-      (λ same is. let h = has_two variant.Drill (number_in 0 999999999 a) (limit_in b) command is in DrillRow a b h.a h.b (as_word word _ _ same) h.is h.is' h.made)
+    (λ same is. let h = has_two variant.Drill (number_in 0 999999999 a) (limit_in b) command is in DrillRow a b h.a h.b (as_word word _ _ same) h.is h.is' h.made)
     (λ is. absurd cc))))))
 
 is_row : (words : List (List ℕ)) (command : Command) → row_of words ≡ Some command → IsRow words command
@@ -136,9 +135,10 @@ is_built_row (Some other) command is = by_test (is_built other) refl is
     by_test false e is = absurd cc
 
 pub commands_are_read : CommandsAreRead
-commands_are_read words command =
-    (λ is. let h = is_built_row (row_of words) command is in (is_row words command h.0, h.1),
-     λ is. built_is (row_of words) command (row_is words command is.0) is.1)
+commands_are_read words command = (
+  λ is. let h = is_built_row (row_of words) command is in (is_row words command h.0, h.1),
+  λ is. built_is (row_of words) command (row_is words command is.0) is.1,
+)
 
 pub one_reading : OneReading
 one_reading words a b p q = let x = (commands_are_read words a).1 p in let y = (commands_are_read words b).1 q in cc

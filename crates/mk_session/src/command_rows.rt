@@ -28,6 +28,9 @@ fn is_built(command: &Command) -> bool
 {
     match command {
         Command::Match { .. } => true,
+        Command::Remove { .. } => true,
+        Command::Show { .. } => true,
+        Command::List => true,
         _ => false,
     }
 }
@@ -70,12 +73,7 @@ fn row_of_two(alloc: Global, word: &[u8], a: &[u8]) -> Result<Option<Command>, M
     Ok(None)
 }
 
-fn row_of_three(
-    alloc: Global,
-    word: &[u8],
-    a: &[u8],
-    b: &[u8],
-) -> Result<Option<Command>, Memory>
+fn row_of_three(alloc: Global, word: &[u8], a: &[u8], b: &[u8]) -> Result<Option<Command>, Memory>
     ensures { IfOk result (λ command. command ≡ row_of_three word.now a.now b.now) }
 {
     if word == b"match".as_slice() {

@@ -15,5 +15,5 @@ returns c =
     let all = sym c.if-not-are_digits.ensures in
     let fits : SFits w32 c.in_ok-number.number = search rules in
     some_number c.args.word.now c.unsigned_abs.result some (omega arith) all
-      (abs_is c.unsigned_abs.result (digits_value 10 c.args.word.now) c.in_ok-number.number c.unsigned_abs.ensures.value fits
-        (digits_field c.args.word.now c.field.result c.in_ok-number.number some (omega arith) all c.field.ensures.value c.in_ok-number.was))
+    (abs_is c.unsigned_abs.result (digits_value 10 c.args.word.now) c.in_ok-number.number c.unsigned_abs.ensures.value fits
+    (digits_field c.args.word.now c.field.result c.in_ok-number.number some (omega arith) all c.field.ensures.value c.in_ok-number.was))

@@ -1,4 +1,4 @@
-use Rattle.std.proofs.Common.{◌<◌, length, arith}
+use Rattle.std.proofs.Common.{length, arith}
 use Rattle.mk_session.proofs.CommandPartsLemmas.{name_if, some_bytes}
 use Rattle.mk_session.proofs.command_parts.is_name.Goals as goal
 
