@@ -1,4 +1,5 @@
-//! The program `markush`: the words of the command line, the real files and the real output, handed to `top`.
+//! The program `markush`: the words of the command line, the real files, input and output, and empty tables in memory, handed
+//! to `top`.
 #![tactic(auto)]
 
 ghost use Rattle.std.specs.Prelude.{◌≡◌};
@@ -8,7 +9,7 @@ ghost use Rattle.mk_outside.specs.Causes.{cause_of};
 ghost use Rattle.mk_session.specs.Status.{code_of};
 ghost use Rattle.markush.specs.Exits.{code_without_words};
 
-use mk_outside::{Cause, DiskFiles, StdSink, cause_of};
+use mk_outside::{Cause, DiskFiles, StdSink, StdSource, SureKeeper, Tables, cause_of};
 use mk_session::{Status, top};
 use std::process::ExitCode;
 use std::{env, io};
@@ -29,11 +30,14 @@ fn words_of(rt: &HostRuntime) -> io::Result<Vec<String>> {
     Ok(words)
 }
 
-// Does what the words say with the real files and the real output.
+// Does what the words or the input say with the real files, input and output. The tables are kept in memory until the end.
 fn run(rt: HostRuntime, words: &[String]) -> Status {
+    let alloc = rt.alloc();
     let mut files = DiskFiles::new(rt);
+    let mut input = StdSource::new(&rt);
     let mut output = StdSink::new(&rt);
-    top(rt.alloc(), words, &mut files, &mut output)
+    let mut keeper = SureKeeper::new(Tables::new(alloc));
+    top(alloc, words, &mut files, &mut input, &mut output, &mut keeper)
 }
 
 // How the program ends after a run.

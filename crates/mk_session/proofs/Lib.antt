@@ -1,5 +1,14 @@
+pub mod CommandLemmas
 pub mod ListingsLemmas
 pub mod QueryGraphLemmas
-pub mod RunLemmas
+pub mod MatchLemmas
+pub mod SeekingLemmas
+pub mod StoredRowsLemmas
+pub mod TurnLemmas
+pub mod RunningLemmas
+pub mod ReadingLemmas
+pub mod AnsweredLemmas
 pub mod HeadlineLemmas
+pub mod JoinLemmas
 pub mod OneRunLemmas
+pub mod CommandPartsLemmas

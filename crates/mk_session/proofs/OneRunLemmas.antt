@@ -1,9 +1,10 @@
--- A run has at most one outcome.
+-- Over told files a command comes to at most one effect, and a run has at most one outcome.
 --     one_graph        a plain query is at most one graph
 --     one_judgment     one thing is made of the query's file
 --     one_held         and one of the molecules' file
---     one_run          so a run has at most one outcome
-use Rattle.std.proofs.Common.{◌≡◌, ◌≢◌, ℕ, zero, suc, ◌<◌, inl, inr, ◌⊎◌, true, List, [], ◌∷◌, Option, length, get_or, take, refl, sym, ap, subst, ◌∙◌, arith}
+--     one_effect       so a command comes to at most one effect
+--     one_run          and a run has at most one outcome
+use Rattle.std.proofs.Common.{◌≡◌, ◌≢◌, ℕ, zero, suc, ◌<◌, inl, inr, ◌⊎◌, true, List, [], ◌∷◌, Some, None, length, get_or, take, refl, sym, ap, subst, ◌∙◌, arith}
 use Rattle.std.specs.Prelude.{AllPairs, Contains}
 use Rattle.std.proofs.lemmas.List.{get_or-map, length-map}
 use Rattle.std.proofs.lemmas.List.Elements.{All-contains, Contains-get_or}
@@ -24,16 +25,26 @@ use Rattle.mk_model.specs.Molecules.{Molecule as Mol}
 use Rattle.mk_rings.specs.Bare.{bare_bond, bare_bonds}
 use Rattle.mk_mol.specs.Laws.{NoFaultWhereAllPass, OneFilledMolecule, OneFirstFault}
 use Rattle.mk_rings.specs.Laws.{OneListOfGraphBonds}
-use Rattle.mk_session.specs.declared.outcome.Held.{Held}
-use Rattle.mk_session.specs.declared.outcome.Held.TheVariants.{Molecule, Refused}
-use Rattle.mk_session.specs.declared.outcome.Judgment.{Judgment}
-use Rattle.mk_session.specs.declared.outcome.Judgment.TheVariants.{Plain, TooLong, Unbuilt}
-use Rattle.mk_session.specs.declared.outcome.Outcome.{Outcome}
-use Rattle.mk_session.specs.declared.status.Status.TheVariants as status
-use Rattle.mk_session.specs.Answers.{bad_line_text, check_text, hits_text, long_molecules_text, long_query_text, not_understood_text, records_text, unbuilt_text, v3000_text}
+use Rattle.mk_outside.specs.declared.tables.Tables.{Tables}
+use Rattle.mk_session.specs.declared.command.Command.TheVariants as variant
+use Rattle.mk_session.specs.declared.judgment.Held.{Held}
+use Rattle.mk_session.specs.declared.judgment.Held.TheVariants.{Molecule, Refused}
+use Rattle.mk_session.specs.declared.judgment.Judgment.{Judgment}
+use Rattle.mk_session.specs.declared.judgment.Judgment.TheVariants.{Plain, TooLong, Unbuilt}
+use Rattle.mk_session.specs.declared.status.Status.{Status}
+use Rattle.mk_session.specs.declared.stored_rows.RowKind.{RowKind}
+use Rattle.mk_session.specs.Answers.{bad_line_text, check_text, hits_text, long_molecules_text, long_query_text, records_text, unbuilt_text, v3000_text}
+use Rattle.mk_session.specs.Effects.{Answers, Effect, Refuses, after_effect, after_effects, ending, texts}
+use Rattle.mk_session.specs.Files.{IsLong, IsShort, Look}
+use Rattle.mk_session.specs.Laws.{OneEffect, OneRun}
+use Rattle.mk_session.specs.Match.{TooLong as LongMolecules, BadLine, V3000, NotOne, FailsCheck, Lists, MoleculesRefused, QueryTooLong, QueryUnbuilt, Searches, IsMatch, IsPlain, IsRefused, IsSearch, IsUnbuilt, molecule_bytes, query_bytes}
+use Rattle.mk_session.specs.Matching.{IsHeldBy, IsHeldOf, IsHeldTable, IsJudged}
+use Rattle.mk_session.specs.Orders.{Asked, Order, Orders}
 use Rattle.mk_session.specs.QueryGraph.{IsAskedBond, IsGraphOf}
-use Rattle.mk_session.specs.Run.{TooLong as LongMolecules, BadLine, V3000, NotOne, FailsCheck, Refuses, Lists, NotUnderstood, QueryTooLong, QueryUnbuilt, Searches, IsPlain, IsRead, IsRefused, IsRun, IsSearch, IsTooLong, IsUnbuilt, OneRun, match_words, molecule_bytes, query_bytes, refused}
-use Rattle.mk_session.specs.Running.{IsHeldBy, IsHeldOf, IsHeldTable, IsJudged}
+use Rattle.mk_session.specs.Records.{IsRemove, IsShow, NoRecordRemoved, NoRecordShown, Removes, Shows}
+use Rattle.mk_session.specs.Run.{Commands, Does, IsOneLine, NotUnderstood, OneLine, ScriptLong, BadStore, bad_store_text}
+use Rattle.mk_session.specs.StoredRows.{AllRead}
+use Rattle.mk_session.proofs.StoredRowsLemmas.{one_first_bad, reads_not_bad}
 use Rattle.mk_session.proofs.QueryGraphLemmas.{before_through}
 
 -- ---- bonds in order
@@ -176,17 +187,15 @@ one_graph laws table a b p q =
 
 -- ---- files
 
-module _ (look : List ℕ → Option (List ℕ)) (name : List ℕ) (most : ℕ) where
-  -- a file that is read has one text, and so the same lines
-  one_reading : (lines others : List (List ℕ)) → IsRead most look name lines → IsRead most look name others → lines ≡ others
-  one_reading lines others p q =
-      let same : p.bytes ≡ q.bytes = (let f = p.found in let g = q.found in cc) in
-      p.are ∙ ap lines_of same ∙ sym q.are
+module _ (look : Look) (name : List ℕ) (most : ℕ) where
+  -- a file that is read has one text
+  one_reading : (bytes others : List ℕ) → IsShort (Some look) most name bytes → IsShort (Some look) most name others → bytes ≡ others
+  one_reading bytes others p q = let f = p.told in let g = q.told in cc
 
   -- a file that is too long isn't read
-  long_not_read : (lines : List (List ℕ)) → IsTooLong most look name → IsRead most look name lines → ⊥
-  long_not_read lines p q =
-      let same : p.bytes ≡ q.bytes = (let f = p.found in let g = q.found in cc) in
+  long_not_read : (bytes : List ℕ) → IsLong (Some look) most name → IsShort (Some look) most name bytes → ⊥
+  long_not_read bytes p q =
+      let same : p.bytes ≡ bytes = (let f = p.told in let g = q.told in cc) in
       omega (arith, p.long, q.short, ap length same)
 
 -- ---- the query's file
@@ -195,23 +204,23 @@ module _ (look : List ℕ → Option (List ℕ)) (name : List ℕ) (most : ℕ) 
 one_plain_table : HasLaws → (lines : List (List ℕ)) (a b : PlainTable) → IsPlainFile true lines a → IsPlainFile true lines b → a ≡ b
 one_plain_table laws lines a b p q = let f = (laws.plain true lines a).1 p in let g = (laws.plain true lines b).1 q in cc
 
-module _ (laws : HasLaws) (look : List ℕ → Option (List ℕ)) (name : List ℕ) where
+module _ (laws : HasLaws) (look : Look) (name : List ℕ) where
   -- a file that is no plain file has no table
-  unbuilt_not_plain : (table : PlainTable) → IsUnbuilt look name → IsPlain look name table → ⊥
-  unbuilt_not_plain table p q = p.unbuilt table (subst (λ (lines : List (List ℕ)). IsPlainFile true lines table) (one_reading look name query_bytes q.lines p.lines q.read p.read) q.plain)
+  unbuilt_not_plain : (table : PlainTable) → IsUnbuilt (Some look) name → IsPlain (Some look) name table → ⊥
+  unbuilt_not_plain table p q = p.unbuilt table (subst (λ (bytes : List ℕ). IsPlainFile true (lines_of bytes) table) (one_reading look name query_bytes q.bytes p.bytes q.read p.read) q.plain)
 
   -- one thing is made of the query's file
-  pub one_judgment : (a b : Judgment) → IsJudged look name a → IsJudged look name b → a ≡ b
+  pub one_judgment : (a b : Judgment) → IsJudged (Some look) name a → IsJudged (Some look) name b → a ≡ b
   one_judgment TooLong TooLong p q = refl
-  one_judgment TooLong Unbuilt p q = absurd (long_not_read look name query_bytes q.lines p q.read)
-  one_judgment TooLong (Plain table) p q = absurd (long_not_read look name query_bytes q.lines p q.read)
-  one_judgment Unbuilt TooLong p q = absurd (long_not_read look name query_bytes p.lines q p.read)
+  one_judgment TooLong Unbuilt p q = absurd (long_not_read look name query_bytes q.bytes p q.read)
+  one_judgment TooLong (Plain table) p q = absurd (long_not_read look name query_bytes q.bytes p q.read)
+  one_judgment Unbuilt TooLong p q = absurd (long_not_read look name query_bytes p.bytes q p.read)
   one_judgment Unbuilt Unbuilt p q = refl
   one_judgment Unbuilt (Plain table) p q = absurd (unbuilt_not_plain table p q)
-  one_judgment (Plain table) TooLong p q = absurd (long_not_read look name query_bytes p.lines q p.read)
+  one_judgment (Plain table) TooLong p q = absurd (long_not_read look name query_bytes p.bytes q p.read)
   one_judgment (Plain table) Unbuilt p q = absurd (unbuilt_not_plain table q p)
   one_judgment (Plain table) (Plain other) p q =
-      ap Plain (one_plain_table laws q.lines table other (subst (λ (lines : List (List ℕ)). IsPlainFile true lines table) (one_reading look name query_bytes p.lines q.lines p.read q.read) p.plain) q.plain)
+      ap Plain (one_plain_table laws (lines_of q.bytes) table other (subst (λ (bytes : List ℕ). IsPlainFile true (lines_of bytes) table) (one_reading look name query_bytes p.bytes q.bytes p.read q.read) p.plain) q.plain)
 
 -- ---- the molecules' file
 
@@ -242,10 +251,10 @@ one_made_of_bad lines k a b (inr p) (inl q) = absurd (q.0 p.0)
 one_made_of_bad lines k a b (inr p) (inr q) = p.1 ∙ sym q.1
 
 -- The molecules' file is too long, has a bad line, or is an SDfile.
-data IsMade (look : List ℕ → Option (List ℕ)) (name : List ℕ) (held : Held) : Type 0 where
-  OfLong : IsTooLong molecule_bytes look name → held ≡ Refused long_molecules_text → IsMade look name held
-  OfBad : (lines : List (List ℕ)) → IsRead molecule_bytes look name lines → (k : ℕ) → IsBadSdfileLine lines k → IsMadeOfBad lines k held → IsMade look name held
-  OfFile : (lines : List (List ℕ)) → IsRead molecule_bytes look name lines → (records : List RawRecord) → IsSdfile lines records → IsHeldOf records held → IsMade look name held
+data IsMade (look : Look) (name : List ℕ) (held : Held) : Type 0 where
+  OfLong : IsLong (Some look) molecule_bytes name → held ≡ Refused long_molecules_text → IsMade look name held
+  OfBad : (bytes : List ℕ) → IsShort (Some look) molecule_bytes name bytes → (k : ℕ) → IsBadSdfileLine (lines_of bytes) k → IsMadeOfBad (lines_of bytes) k held → IsMade look name held
+  OfFile : (bytes : List ℕ) → IsShort (Some look) molecule_bytes name bytes → (records : List RawRecord) → IsSdfile (lines_of bytes) records → IsHeldOf records held → IsMade look name held
 
 -- records of another number than one are refused by their number
 not_one_made : (records : List RawRecord) (held : Held) → length records ≢ 1 → held ≡ Refused (records_text (length records)) → IsHeldOf records held
@@ -253,78 +262,78 @@ not_one_made [] held other is = is
 not_one_made (only ∷ []) held other is = absurd (other refl)
 not_one_made (one ∷ two ∷ others) held other is = is
 
-module _ (laws : HasLaws) (look : List ℕ → Option (List ℕ)) (name : List ℕ) where
+module _ (laws : HasLaws) (look : Look) (name : List ℕ) where
   -- an SDfile has no bad line
   file_not_bad : (lines : List (List ℕ)) (records : List RawRecord) (k : ℕ) → IsSdfile lines records → IsBadSdfileLine lines k → ⊥
   file_not_bad lines records k is bad = (laws.bad lines).0 (k, bad) records is
 
   -- each file that is refused is one of these
-  refused_made : (line : List ℕ) → IsRefused look name line → IsMade look name (Refused line)
+  refused_made : (line : List ℕ) → IsRefused (Some look) name line → IsMade look name (Refused line)
   refused_made line (LongMolecules long is) = OfLong long (ap Refused is)
-  refused_made line (BadLine lines read k bad unnamed is) = OfBad lines read k bad (inl (unnamed, ap Refused is))
-  refused_made line (V3000 lines read k bad named is) = OfBad lines read k bad (inr (named, ap Refused is))
-  refused_made line (NotOne lines read records file other is) = OfFile lines read records file (not_one_made records (Refused line) other (ap Refused is))
-  refused_made line (FailsCheck lines read only file check item fault is) = OfFile lines read (only ∷ []) file (check, item, fault, is)
+  refused_made line (BadLine bytes read k bad unnamed is) = OfBad bytes read k bad (inl (unnamed, ap Refused is))
+  refused_made line (V3000 bytes read k bad named is) = OfBad bytes read k bad (inr (named, ap Refused is))
+  refused_made line (NotOne bytes read records file other is) = OfFile bytes read records file (not_one_made records (Refused line) other (ap Refused is))
+  refused_made line (FailsCheck bytes read only file check item fault is) = OfFile bytes read (only ∷ []) file (check, item, fault, is)
 
   -- and so is each that holds a molecule
-  made : (held : Held) → IsHeldBy look name held → IsMade look name held
-  made (Molecule mol) is = OfFile is.lines is.read (is.only ∷ []) is.sdfile (is.passes, is.filled, is.molecule)
+  made : (held : Held) → IsHeldBy (Some look) name held → IsMade look name held
+  made (Molecule mol) is = OfFile is.bytes is.read (is.only ∷ []) is.sdfile (is.passes, is.filled, is.molecule)
   made (Refused line) is = refused_made line is
 
   -- a bad line of the same lines is one, however they are read
-  bad_of_same : (lines others : List (List ℕ)) (k : ℕ) → IsRead molecule_bytes look name lines → IsRead molecule_bytes look name others → IsBadSdfileLine others k → IsBadSdfileLine lines k
-  bad_of_same lines others k p q bad = subst (λ (ls : List (List ℕ)). IsBadSdfileLine ls k) (one_reading look name molecule_bytes others lines q p) bad
+  bad_of_same : (bytes others : List ℕ) (k : ℕ) → IsShort (Some look) molecule_bytes name bytes → IsShort (Some look) molecule_bytes name others → IsBadSdfileLine (lines_of others) k → IsBadSdfileLine (lines_of bytes) k
+  bad_of_same bytes others k p q bad = subst (λ (bs : List ℕ). IsBadSdfileLine (lines_of bs) k) (one_reading look name molecule_bytes others bytes q p) bad
 
   -- and an SDfile of the same lines
-  file_of_same : (lines others : List (List ℕ)) (records : List RawRecord) → IsRead molecule_bytes look name lines → IsRead molecule_bytes look name others → IsSdfile others records → IsSdfile lines records
-  file_of_same lines others records p q is = subst (λ (ls : List (List ℕ)). IsSdfile ls records) (one_reading look name molecule_bytes others lines q p) is
+  file_of_same : (bytes others : List ℕ) (records : List RawRecord) → IsShort (Some look) molecule_bytes name bytes → IsShort (Some look) molecule_bytes name others → IsSdfile (lines_of others) records → IsSdfile (lines_of bytes) records
+  file_of_same bytes others records p q is = subst (λ (bs : List ℕ). IsSdfile (lines_of bs) records) (one_reading look name molecule_bytes others bytes q p) is
 
   -- one thing is made of it
   one_is_made : (a b : Held) → IsMade look name a → IsMade look name b → a ≡ b
   one_is_made a b (OfLong long p) (OfLong long' q) = p ∙ sym q
-  one_is_made a b (OfLong long p) (OfBad lines read k bad q) = absurd (long_not_read look name molecule_bytes lines long read)
-  one_is_made a b (OfLong long p) (OfFile lines read records is q) = absurd (long_not_read look name molecule_bytes lines long read)
-  one_is_made a b (OfBad lines read k bad p) (OfLong long q) = absurd (long_not_read look name molecule_bytes lines long read)
-  one_is_made a b (OfBad lines read k bad p) (OfBad others read' j bad' q) =
-      let same : others ≡ lines = one_reading look name molecule_bytes others lines read' read in
-      let place : j ≡ k = laws.one_bad lines j k (bad_of_same lines others j read read' bad') bad in
-      one_made_of_bad lines k a b p (subst (λ (n : ℕ). IsMadeOfBad lines n b) place (subst (λ (ls : List (List ℕ)). IsMadeOfBad ls j b) same q))
-  one_is_made a b (OfBad lines read k bad p) (OfFile others read' records is q) = absurd (file_not_bad lines records k (file_of_same lines others records read read' is) bad)
-  one_is_made a b (OfFile lines read records is p) (OfLong long q) = absurd (long_not_read look name molecule_bytes lines long read)
-  one_is_made a b (OfFile lines read records is p) (OfBad others read' k bad q) = absurd (file_not_bad lines records k is (bad_of_same lines others k read read' bad))
-  one_is_made a b (OfFile lines read records is p) (OfFile others read' records' is' q) =
-      let same : records' ≡ records = laws.sdfile lines records' records (file_of_same lines others records' read read' is') is in
+  one_is_made a b (OfLong long p) (OfBad bytes read k bad q) = absurd (long_not_read look name molecule_bytes bytes long read)
+  one_is_made a b (OfLong long p) (OfFile bytes read records is q) = absurd (long_not_read look name molecule_bytes bytes long read)
+  one_is_made a b (OfBad bytes read k bad p) (OfLong long q) = absurd (long_not_read look name molecule_bytes bytes long read)
+  one_is_made a b (OfBad bytes read k bad p) (OfBad others read' j bad' q) =
+      let same : others ≡ bytes = one_reading look name molecule_bytes others bytes read' read in
+      let place : j ≡ k = laws.one_bad (lines_of bytes) j k (bad_of_same bytes others j read read' bad') bad in
+      one_made_of_bad (lines_of bytes) k a b p (subst (λ (n : ℕ). IsMadeOfBad (lines_of bytes) n b) place (subst (λ (bs : List ℕ). IsMadeOfBad (lines_of bs) j b) same q))
+  one_is_made a b (OfBad bytes read k bad p) (OfFile others read' records is q) = absurd (file_not_bad (lines_of bytes) records k (file_of_same bytes others records read read' is) bad)
+  one_is_made a b (OfFile bytes read records is p) (OfLong long q) = absurd (long_not_read look name molecule_bytes bytes long read)
+  one_is_made a b (OfFile bytes read records is p) (OfBad others read' k bad q) = absurd (file_not_bad (lines_of bytes) records k is (bad_of_same bytes others k read read' bad))
+  one_is_made a b (OfFile bytes read records is p) (OfFile others read' records' is' q) =
+      let same : records' ≡ records = laws.sdfile (lines_of bytes) records' records (file_of_same bytes others records' read read' is') is in
       one_made laws records a b p (subst (λ (rs : List RawRecord). IsHeldOf rs b) same q)
 
   -- so the file holds one molecule, or is refused with one line
-  pub one_held : (a b : Held) → IsHeldBy look name a → IsHeldBy look name b → a ≡ b
+  pub one_held : (a b : Held) → IsHeldBy (Some look) name a → IsHeldBy (Some look) name b → a ≡ b
   one_held a b p q = one_is_made a b (made a p) (made b q)
 
 -- ---- the search
 
--- the outcome of a search with these hits
-abbrev done : List (List ℕ) → Outcome
-done hits = record { bytes = hits_text (take 10000 hits) 10000; status = status.Done }
+-- the effect of a search with these hits
+abbrev done : List (List ℕ) → Effect
+done hits = Answers [] (hits_text (take 10000 hits) 10000)
 
 -- the hits of the query in the molecule are listed
-record IsListing (wanted : PlainTable) (mol : Mol) (outcome : Outcome) : Type 0 where
+record IsListing (wanted : PlainTable) (mol : Mol) (effect : Effect) : Type 0 where
   graph : GraphView
   of_query : IsGraphOf wanted graph
   hits : List (List ℕ)
   are_hits : AreHits graph mol hits
-  ends : outcome ≡ done hits
+  ends : effect ≡ done hits
 
 -- how a search ends, by what is made of the molecules' file
-abbrev IsEndOfSearch : PlainTable → Held → Outcome → Type 0
-IsEndOfSearch wanted (Molecule mol) outcome = IsListing wanted mol outcome
-IsEndOfSearch wanted (Refused line) outcome = outcome ≡ refused line
+abbrev IsEndOfSearch : PlainTable → Held → Effect → Type 0
+IsEndOfSearch wanted (Molecule mol) effect = IsListing wanted mol effect
+IsEndOfSearch wanted (Refused line) effect = effect ≡ Refuses line
 
 -- all lists that have P are one rising list
 one_of_all : HasLaws → (P : List ℕ → Type 0) (lists others : List (List ℕ)) → IsRisingListOfAll P lists → IsRisingListOfAll P others → lists ≡ others
 one_of_all laws P lists others p q = laws.rising lists others p.rises q.rises (λ xs is. q.all xs (p.each xs is)) (λ xs is. p.all xs (q.each xs is))
 
 -- it is one end, since the graph and all its hits are one
-one_end_of_search : HasLaws → (wanted : PlainTable) (held : Held) (a b : Outcome) → IsEndOfSearch wanted held a → IsEndOfSearch wanted held b → a ≡ b
+one_end_of_search : HasLaws → (wanted : PlainTable) (held : Held) (a b : Effect) → IsEndOfSearch wanted held a → IsEndOfSearch wanted held b → a ≡ b
 one_end_of_search laws wanted (Molecule mol) a b p q =
     let same : q.graph ≡ p.graph = one_graph laws wanted q.graph p.graph q.of_query p.of_query in
     let hits : p.hits ≡ q.hits = one_of_all laws (IsHit p.graph mol) p.hits q.hits p.are_hits (subst (λ (graph : GraphView). AreHits graph mol q.hits) same q.are_hits) in
@@ -332,79 +341,127 @@ one_end_of_search laws wanted (Molecule mol) a b p q =
 one_end_of_search laws wanted (Refused line) a b p q = p ∙ sym q
 
 -- a search goes by what is made of the molecules' file
-record HasSearched (wanted : PlainTable) (look : List ℕ → Option (List ℕ)) (name : List ℕ) (outcome : Outcome) : Type 0 where
+record HasSearched (wanted : PlainTable) (look : Look) (name : List ℕ) (effect : Effect) : Type 0 where
   held : Held
-  of_file : IsHeldBy look name held
-  ends : IsEndOfSearch wanted held outcome
+  of_file : IsHeldBy (Some look) name held
+  ends : IsEndOfSearch wanted held effect
 
-searched : (wanted : PlainTable) (look : List ℕ → Option (List ℕ)) (name : List ℕ) (outcome : Outcome) → IsSearch wanted look name outcome → HasSearched wanted look name outcome
-searched wanted look name outcome (Refuses line of_file ends) = record { held = Refused line; of_file = of_file; ends = ends }
-searched wanted look name outcome (Lists graph of_query mol of_file hits are_hits ends) =
+searched : (wanted : PlainTable) (look : Look) (name : List ℕ) (effect : Effect) → IsSearch wanted (Some look) name effect → HasSearched wanted look name effect
+searched wanted look name effect (MoleculesRefused line of_file ends) = record { held = Refused line; of_file = of_file; ends = ends }
+searched wanted look name effect (Lists graph of_query mol of_file hits are_hits ends) =
     record { held = Molecule mol; of_file = of_file; ends = record { graph = graph; of_query = of_query; hits = hits; are_hits = are_hits; ends = ends } }
 
--- so it has one outcome
-one_search : HasLaws → (wanted : PlainTable) (look : List ℕ → Option (List ℕ)) (name : List ℕ) (a b : Outcome) → IsSearch wanted look name a → IsSearch wanted look name b → a ≡ b
+-- so it has one effect
+one_search : HasLaws → (wanted : PlainTable) (look : Look) (name : List ℕ) (a b : Effect) → IsSearch wanted (Some look) name a → IsSearch wanted (Some look) name b → a ≡ b
 one_search laws wanted look name a b p q =
     let s = searched wanted look name a p in
     let t = searched wanted look name b q in
     let same : t.held ≡ s.held = one_held laws look name t.held s.held t.of_file s.of_file in
     one_end_of_search laws wanted s.held a b s.ends (subst (λ (held : Held). IsEndOfSearch wanted held b) same t.ends)
 
--- ---- the run
+-- ---- match
 
--- how a run ends whose words are understood, by what is made of the query's file
-abbrev IsEndOfRun : (List ℕ → Option (List ℕ)) → List ℕ → Judgment → Outcome → Type 0
-IsEndOfRun look molecules TooLong outcome = outcome ≡ refused long_query_text
-IsEndOfRun look molecules Unbuilt outcome = outcome ≡ refused unbuilt_text
-IsEndOfRun look molecules (Plain wanted) outcome = IsSearch wanted look molecules outcome
+-- how it ends, by what is made of the query's file
+abbrev IsEndOfMatch : Look → List ℕ → Judgment → Effect → Type 0
+IsEndOfMatch look molecules TooLong effect = effect ≡ Refuses long_query_text
+IsEndOfMatch look molecules Unbuilt effect = effect ≡ Refuses unbuilt_text
+IsEndOfMatch look molecules (Plain wanted) effect = IsSearch wanted (Some look) molecules effect
 
 -- it is one end
-one_end_of_run : HasLaws → (look : List ℕ → Option (List ℕ)) (molecules : List ℕ) (judgment : Judgment) (a b : Outcome) → IsEndOfRun look molecules judgment a → IsEndOfRun look molecules judgment b → a ≡ b
-one_end_of_run laws look molecules TooLong a b p q = p ∙ sym q
-one_end_of_run laws look molecules Unbuilt a b p q = p ∙ sym q
-one_end_of_run laws look molecules (Plain wanted) a b p q = one_search laws wanted look molecules a b p q
+one_end_of_match : HasLaws → (look : Look) (molecules : List ℕ) (judgment : Judgment) (a b : Effect) → IsEndOfMatch look molecules judgment a → IsEndOfMatch look molecules judgment b → a ≡ b
+one_end_of_match laws look molecules TooLong a b p q = p ∙ sym q
+one_end_of_match laws look molecules Unbuilt a b p q = p ∙ sym q
+one_end_of_match laws look molecules (Plain wanted) a b p q = one_search laws wanted look molecules a b p q
 
--- a run whose words are understood goes by what is made of the query's file
-record HasRun (words : List (List ℕ)) (look : List ℕ → Option (List ℕ)) (outcome : Outcome) : Type 0 where
-  query : List ℕ
-  molecules : List ℕ
-  are : words ≡ match_words query molecules
+-- it goes by what is made of the query's file
+record HasMatched (look : Look) (query molecules : List ℕ) (effect : Effect) : Type 0 where
   judgment : Judgment
-  of_file : IsJudged look query judgment
-  ends : IsEndOfRun look molecules judgment outcome
+  of_file : IsJudged (Some look) query judgment
+  ends : IsEndOfMatch look molecules judgment effect
 
--- so it has one outcome
-one_of_run : HasLaws → (words : List (List ℕ)) (look : List ℕ → Option (List ℕ)) (a b : Outcome) → HasRun words look a → HasRun words look b → a ≡ b
-one_of_run laws words look a b p q =
-    let same : match_words q.query q.molecules ≡ match_words p.query p.molecules = sym q.are ∙ p.are in
-    let query : q.query ≡ p.query = cc in
-    let molecules : q.molecules ≡ p.molecules = cc in
-    let judgment : q.judgment ≡ p.judgment = one_judgment laws look p.query q.judgment p.judgment (subst (λ (name : List ℕ). IsJudged look name q.judgment) query q.of_file) p.of_file in
-    one_end_of_run laws look p.molecules p.judgment a b p.ends
-    (subst (λ (j : Judgment). IsEndOfRun look p.molecules j b) judgment (subst (λ (name : List ℕ). IsEndOfRun look name q.judgment b) molecules q.ends))
+matched : (look : Look) (query molecules : List ℕ) (effect : Effect) → IsMatch (Some look) query molecules effect → HasMatched look query molecules effect
+matched look query molecules effect (QueryTooLong long ends) = record { judgment = TooLong; of_file = long; ends = ends }
+matched look query molecules effect (QueryUnbuilt unbuilt ends) = record { judgment = Unbuilt; of_file = unbuilt; ends = ends }
+matched look query molecules effect (Searches wanted plain search) = record { judgment = Plain wanted; of_file = plain; ends = search }
 
--- a run whose words aren't understood
-record HasNoRun (words : List (List ℕ)) (outcome : Outcome) : Type 0 where
-  none : (query molecules : List ℕ) → words ≡ match_words query molecules → ⊥
-  ends : outcome ≡ record { bytes = not_understood_text; status = status.Words }
+one_match : HasLaws → (look : Look) (query molecules : List ℕ) (a b : Effect) → IsMatch (Some look) query molecules a → IsMatch (Some look) query molecules b → a ≡ b
+one_match laws look query molecules a b p q =
+    let m = matched look query molecules a p in
+    let n = matched look query molecules b q in
+    let same : n.judgment ≡ m.judgment = one_judgment laws look query n.judgment m.judgment n.of_file m.of_file in
+    one_end_of_match laws look molecules m.judgment a b m.ends (subst (λ (j : Judgment). IsEndOfMatch look molecules j b) same n.ends)
 
--- the words are understood or not
-run_by : (words : List (List ℕ)) (look : List ℕ → Option (List ℕ)) (outcome : Outcome) → IsRun words look outcome → HasNoRun words outcome ⊎ HasRun words look outcome
-run_by words look outcome (NotUnderstood none ends) = inl (record { none = none; ends = ends })
-run_by words look outcome (QueryTooLong query molecules are long ends) = inr (record { query = query; molecules = molecules; are = are; judgment = TooLong; of_file = long; ends = ends })
-run_by words look outcome (QueryUnbuilt query molecules are unbuilt ends) = inr (record { query = query; molecules = molecules; are = are; judgment = Unbuilt; of_file = unbuilt; ends = ends })
-run_by words look outcome (Searches query molecules are wanted plain search) = inr (record { query = query; molecules = molecules; are = are; judgment = Plain wanted; of_file = plain; ends = search })
+-- ---- commands on the tables
 
--- a run has at most one outcome
+one_show : (t : Tables) (n : ℕ) (a b : Effect) → IsShow t n a → IsShow t n b → a ≡ b
+one_show t n a b (NoRecordShown none is) (NoRecordShown none' is') = is ∙ sym is'
+one_show t n a b (NoRecordShown none is) (Shows text held is') = let h = sym none ∙ held in absurd cc
+one_show t n a b (Shows text held is) (NoRecordShown none is') = let h = sym none ∙ held in absurd cc
+one_show t n a b (Shows text held is) (Shows other held' is') = let h = sym held ∙ held' in let same : text ≡ other = cc in cc
+
+one_remove : (t : Tables) (n : ℕ) (a b : Effect) → IsRemove t n a → IsRemove t n b → a ≡ b
+one_remove t n a b (NoRecordRemoved none is) (NoRecordRemoved none' is') = is ∙ sym is'
+one_remove t n a b (NoRecordRemoved none is) (Removes text held is') = let h = sym none ∙ held in absurd cc
+one_remove t n a b (Removes text held is) (NoRecordRemoved none is') = let h = sym none ∙ held in absurd cc
+one_remove t n a b (Removes text held is) (Removes other held' is') = is ∙ sym is'
+
+-- ---- all commands
+
+pub one_effect : HasLaws → OneEffect
+one_effect laws look t None a b p q = p ∙ sym q
+one_effect laws look t (Some (variant.Match query molecules)) a b p q = one_match laws look query molecules a b p q
+one_effect laws look t (Some (variant.Load file)) a b p q = p ∙ sym q
+one_effect laws look t (Some (variant.Replace number file)) a b p q = p ∙ sym q
+one_effect laws look t (Some (variant.Remove number)) a b p q = one_remove t number a b p q
+one_effect laws look t (Some (variant.Query name file)) a b p q = p ∙ sym q
+one_effect laws look t (Some (variant.Forget name)) a b p q = p ∙ sym q
+one_effect laws look t (Some (variant.Search name limit)) a b p q = p ∙ sym q
+one_effect laws look t (Some (variant.Resume cursor limit)) a b p q = p ∙ sym q
+one_effect laws look t (Some (variant.Show number)) a b p q = one_show t number a b p q
+one_effect laws look t (Some variant.List) a b p q = p ∙ sym q
+one_effect laws look t (Some (variant.Drill start count)) a b p q = p ∙ sym q
+
+-- ---- runs
+
+one_does : HasLaws → (look : Look) (t : Tables) (orders : List Order) (es fs : List Effect) → Does (Some look) t orders es → Does (Some look) t orders fs → es ≡ fs
+one_does laws look t [] [] [] d e = refl
+one_does laws look t [] [] (f ∷ fs) d e = absurd e
+one_does laws look t [] (x ∷ es) fs d e = absurd d
+one_does laws look t (o ∷ orders) [] fs d e = absurd d
+one_does laws look t (o ∷ orders) (x ∷ es) [] d e = absurd e
+one_does laws look t (o ∷ orders) (x ∷ es) (f ∷ fs) d e =
+    let same : x ≡ f = one_effect laws look t o x f d.0 e.0 in
+    let rest : es ≡ fs = one_does laws look (after_effect x t) orders es fs d.1 (subst (λ (g : Effect). Does (Some look) (after_effect g t) orders fs) (sym same) e.1) in
+    cc
+
+-- a run that does no command has one line
+one_line : (t : Tables) (asked : Asked) (a b : List ℕ) (ends ends' : Status) → IsOneLine t asked a ends → IsOneLine t asked b ends' → (a ≡ b) × (ends ≡ ends')
+one_line t asked a b ends ends' (NotUnderstood e is s) (NotUnderstood e' is' s') = (is ∙ sym is', s ∙ sym s')
+one_line t asked a b ends ends' (NotUnderstood e is s) (ScriptLong e' is' s') = let h = sym e ∙ e' in absurd cc
+one_line t asked a b ends ends' (NotUnderstood e is s) (BadStore orders e' kind n bad is' s') = let h = sym e ∙ e' in absurd cc
+one_line t asked a b ends ends' (ScriptLong e is s) (NotUnderstood e' is' s') = let h = sym e ∙ e' in absurd cc
+one_line t asked a b ends ends' (ScriptLong e is s) (ScriptLong e' is' s') = (is ∙ sym is', s ∙ sym s')
+one_line t asked a b ends ends' (ScriptLong e is s) (BadStore orders e' kind n bad is' s') = let h = sym e ∙ e' in absurd cc
+one_line t asked a b ends ends' (BadStore orders e kind n bad is s) (NotUnderstood e' is' s') = let h = sym e ∙ e' in absurd cc
+one_line t asked a b ends ends' (BadStore orders e kind n bad is s) (ScriptLong e' is' s') = let h = sym e ∙ e' in absurd cc
+one_line t asked a b ends ends' (BadStore orders e kind n bad is s) (BadStore others e' kind' m bad' is' s') =
+    let same = one_first_bad t kind kind' n m bad bad' in
+    (is ∙ ap (λ (k : RowKind). bad_store_text k n) same.0 ∙ ap (λ (i : ℕ). bad_store_text kind' i) same.1 ∙ sym is', s ∙ sym s')
+
+-- and does none
+line_or_orders : (t : Tables) (asked : Asked) (orders : List Order) (line : List ℕ) (ends : Status) → asked ≡ Orders orders → AllRead t → IsOneLine t asked line ends → ⊥
+line_or_orders t asked orders line ends is reads (NotUnderstood e a b) = let h = sym e ∙ is in cc
+line_or_orders t asked orders line ends is reads (ScriptLong e a b) = let h = sym e ∙ is in cc
+line_or_orders t asked orders line ends is reads (BadStore others e kind number bad a b) = reads_not_bad t kind number reads bad
+
 pub one_run : HasLaws → OneRun
-one_run laws words look a b p q =
-    elim (run_by words look a p) [
-      | inl none ↦ elim (run_by words look b q) [
-        | inl none' ↦ none.ends ∙ sym none'.ends
-        | inr run ↦ absurd (none.none run.query run.molecules run.are)
-      ]
-      | inr run ↦ elim (run_by words look b q) [
-        | inl none ↦ absurd (none.none run.query run.molecules run.are)
-        | inr run' ↦ one_of_run laws words look a b run run'
-      ]
-    ]
+one_run laws look t asked a b left other ends ends' (OneLine line is) (OneLine line' is') =
+    let same = one_line t asked a b ends ends' line line' in
+    (same.0, is ∙ sym is', same.1)
+one_run laws look t asked a b left other ends ends' (OneLine line is) (Commands orders e reads effects does adds leaves status) = absurd (line_or_orders t asked orders a ends e reads line)
+one_run laws look t asked a b left other ends ends' (Commands orders e reads effects does adds leaves status) (OneLine line is) = absurd (line_or_orders t asked orders b ends' e reads line)
+one_run laws look t asked a b left other ends ends' (Commands orders e reads effects does adds leaves status) (Commands others e' reads' effects' does' adds' leaves' status') =
+    let h = sym e ∙ e' in
+    let same : orders ≡ others = cc in
+    let one : effects ≡ effects' = one_does laws look t others effects effects' (subst (λ (os : List Order). Does (Some look) t os effects) same does) does' in
+    (adds ∙ ap texts one ∙ sym adds', leaves ∙ ap (λ (es : List Effect). after_effects es t) one ∙ sym leaves', status ∙ ap ending one ∙ sym status')

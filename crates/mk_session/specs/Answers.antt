@@ -4,14 +4,11 @@
 --     v3000_text k                the same where that line says V3000
 --     records_text k              the refusal of a molecules' file of k records, where k isn't 1
 --     check_text check item       the refusal of a record at the first check that fails
---     long_query_text .. not_understood_text      the answers that are one line
+--     long_query_text .. long_molecules_text      the answers that are one line
 use Rattle.std.specs.Prelude.{ℕ, List, ◌∷◌, ◌++◌, length, nat_lt, codes, decimal, if◌then◌else◌}
 use Rattle.std.specs.List.{flat_map}
 
 -- ---- lines
-
-abbrev pub not_understood_text : List ℕ
-not_understood_text = codes "words not understood\n"
 
 abbrev pub long_query_text : List ℕ
 long_query_text = codes "refused 4 query\n"

@@ -1,85 +1,294 @@
--- What the parts of a run answer; it serves the code alone.
---     asked_bond bond                   a bond of the query, with its ends as they are written
---     IsReadAs most look name bytes     a file was read, or found over its limit
---     IsJudged look name judgment       what is made of the query's file
---     IsHeldBy look name held           what is made of the molecules' file
---     MatchingCounts ..                  the count of the files before and after an outcome was sought
-use Rattle.std.specs.Prelude.{◌≡◌, ◌≤◌, ℕ, Bool, true, false, List, [], ◌∷◌, length, Option, Some, None, Result, Ok, Err, ⊤}
-use Rattle.mk_text.specs.Lines.{lines_of}
+-- What the parts of a run promise to each other.
+--     Seeks ..         what a command comes to, found before anything is changed
+--     IsStepped ..     one command on a session
+--     Turns ..         some orders, with their answers written
+--     Begins ..        a session from a keeper
+--     Leaves ..        a run once the input is read
+--     Gives ..         what the words and the input ask for
+use Rattle.std.specs.Prelude.{◌≡◌, ◌≢◌, ℕ, ◌<◌, ◌≤◌, Bool, true, false, List, [], ◌∷◌, ◌++◌, length, Option, Some, None, Result, Ok, Err, IfSome, ⊤}
+use Rattle.std.specs.List.{list_any}
 use Rattle.mk_outside.specs.Counts.{Rose}
-use Rattle.mk_ctab.specs.declared.plain_table.PlainBond.{PlainBond}
-use Rattle.mk_ctab.specs.declared.raw.RawTable.{RawTable}
-use Rattle.mk_ctab.specs.PlainFacts.{IsPlainTable}
-use Rattle.mk_model.specs.declared.graph.GraphBond.{GraphBond}
-use Rattle.mk_model.specs.Molecules.{IsMolecule}
-use Rattle.mk_sdfile.specs.declared.raw_record.RawRecord.{RawRecord}
-use Rattle.mk_mol.specs.Filled.{IsFilled}
-use Rattle.mk_mol.specs.FirstFault.{IsFirstFault, PassesAll}
+use Rattle.mk_outside.specs.declared.tables.Tables.{Tables}
+use Rattle.mk_outside.specs.declared.tables.Change.{Change}
+use Rattle.mk_outside.specs.declared.tables.Change.TheVariants.{DropRecord}
+use Rattle.mk_outside.specs.declared.answers.KeepFail.{KeepFail}
+use Rattle.mk_outside.specs.declared.answers.KeepFail.TheVariants as keep
+use Rattle.mk_text.specs.Spans.{parts, AreWithin}
+use Rattle.mk_session.specs.declared.command.Command.{Command}
+use Rattle.mk_session.specs.declared.command.WordsKind.TheVariants as words_kind
+use Rattle.mk_session.specs.declared.effect.Ended.{Ended}
+use Rattle.mk_session.specs.declared.effect.Ended.TheVariants as ended
+use Rattle.mk_session.specs.declared.effect.Found.{Found}
+use Rattle.mk_session.specs.declared.effect.Found.TheVariants as found
+use Rattle.mk_session.specs.declared.effect.StepFail.{StepFail}
+use Rattle.mk_session.specs.declared.effect.StepFail.TheVariants as fail
+use Rattle.mk_session.specs.declared.effect.Edit.{Edit}
+use Rattle.mk_session.specs.declared.effect.Edit.TheVariants as edit
+use Rattle.mk_session.specs.declared.stored_rows.BadRow.{BadRow}
+use Rattle.mk_session.specs.declared.stored_rows.BeginFail.{BeginFail}
+use Rattle.mk_session.specs.declared.stored_rows.BeginFail.TheVariants as begin
+use Rattle.mk_session.specs.declared.stored_rows.RowKind.{RowKind}
 use Rattle.mk_session.specs.declared.status.Status.{Status}
 use Rattle.mk_session.specs.declared.status.Status.TheVariants as status
-use Rattle.mk_session.specs.declared.outcome.Held.{Held}
-use Rattle.mk_session.specs.declared.outcome.Held.TheVariants.{Molecule, Refused}
-use Rattle.mk_session.specs.declared.outcome.Judgment.{Judgment}
-use Rattle.mk_session.specs.declared.outcome.Judgment.TheVariants.{Plain, TooLong, Unbuilt}
-use Rattle.mk_session.specs.declared.outcome.Outcome.{Outcome}
-use Rattle.mk_session.specs.Answers.{check_text, records_text}
-use Rattle.mk_session.specs.Run.{IsHeld, IsPlain, IsRead, IsRefused, IsRun, IsOfAnswer, IsTooLong, IsUnbuilt, match_words, query_bytes}
+use Rattle.mk_session.specs.declared.work.Given.{Given}
+use Rattle.mk_session.specs.declared.work.Given.TheVariants as given
+use Rattle.mk_session.specs.declared.work.Work.{Work}
+use Rattle.mk_session.specs.declared.work.Work.TheVariants as work
+use Rattle.mk_session.specs.Commands.{CanAsk, kind_of_words}
+use Rattle.mk_session.specs.Effects.{Answers, Effect, Refuses, after_effect, after_effects, is_refusal, text_of, texts}
+use Rattle.mk_session.specs.Ends.{Ends, Halts}
+use Rattle.mk_session.specs.Faults.{Faults}
+use Rattle.mk_session.specs.Files.{IsThere, Look}
+use Rattle.mk_session.specs.Headline.{Agrees}
+use Rattle.mk_session.specs.Orders.{Asked, Nothing, Order, Orders, TooMuch, asked, orders_asked, orders_of, script_bytes}
+use Rattle.mk_session.specs.Run.{Does, Misses}
+use Rattle.mk_session.specs.Step.{Comes, Reaches}
+use Rattle.mk_session.specs.StoredRows.{AllRead, IsFirstBad}
 
--- ---- the query's graph
+-- ---- one command
 
--- a bond that asks for a type alone, with its ends as they are written
-abbrev pub asked_bond : PlainBond → GraphBond
-asked_bond bond = record { first = bond.first; second = bond.second; kind = bond.kind; topology = 0; ring = false; aromatic = false }
+-- the changes that an edit stands for
+abbrev pub changes_of : Edit → List Change
+changes_of edit.Nothing = []
+changes_of (edit.DropRecord number) = DropRecord number ∷ []
 
--- ---- files
+-- what was found, as the effect that it is
+abbrev pub effect_of : Found → Effect
+effect_of (found.Refused line) = Refuses line
+effect_of (found.Answered change text) = Answers (changes_of change) text
 
--- the file has these bytes, or is over its limit
-abbrev pub IsReadAs : ℕ → (List ℕ → Option (List ℕ)) → List ℕ → Option (List ℕ) → Type 0
-IsReadAs most look name None = IsTooLong most look name
-IsReadAs most look name (Some bytes) = IsRead most look name (lines_of bytes)
+-- it is some file's turn
+pub record IsReached (Turn : List ℕ → Type 0) : Type 0 where
+  pub name : List ℕ
+  pub reaches : Turn name
 
--- what is read is within the limit
-abbrev pub IsWithin : ℕ → Option (List ℕ) → Type 0
-IsWithin most None = ⊤
-IsWithin most (Some bytes) = length bytes ≤ most
+-- what a command comes to, found before anything is changed, with the count of the files
+abbrev pub SeeksSo : (Effect → Type 0) → (List ℕ → Type 0) → ℕ → ℕ → Result Found StepFail → Type 0
+SeeksSo Comes Turn old new (Ok result) = Comes (effect_of result) × (new ≡ old)
+SeeksSo Comes Turn old new (Err fail.Read) = IsReached Turn × Rose old new
+SeeksSo Comes Turn old new (Err fail.Store) = ⊥
+SeeksSo Comes Turn old new (Err fail.Memory) = new ≡ old
 
--- what is made of the query's file
-abbrev pub IsJudged : (List ℕ → Option (List ℕ)) → List ℕ → Judgment → Type 0
-IsJudged look name TooLong = IsTooLong query_bytes look name
-IsJudged look name Unbuilt = IsUnbuilt look name
-IsJudged look name (Plain table) = IsPlain look name table
+abbrev pub Seeks : Option Look → Tables → Order → ℕ → ℕ → Result Found StepFail → Type 0
+Seeks files t order old new result = SeeksSo (Comes files t order) (Reaches files t order) old new result
 
--- a table that is judged plain keeps what every plain table keeps
-abbrev pub IsKeptJudgment : Judgment → Type 0
-IsKeptJudgment (Plain table) = IsPlainTable true table
-IsKeptJudgment TooLong = ⊤
-IsKeptJudgment Unbuilt = ⊤
+-- the count of absences stays where each file is there whose turn comes
+pub record MissesAt (files : Option Look) (Turn : List ℕ → Type 0) (old new : ℕ) : Type 0 where
+  pub never_falls : old ≤ new
+  pub absent : ((name : List ℕ) → Turn name → IsThere files name) → new ≡ old
 
--- what is made of the molecules' file
-abbrev pub IsHeldBy : (List ℕ → Option (List ℕ)) → List ℕ → Held → Type 0
-IsHeldBy look name (Molecule mol) = IsHeld look name mol
-IsHeldBy look name (Refused line) = IsRefused look name line
+-- how a command ended that came to this effect
+abbrev pub ended_of : Effect → Ended
+ended_of (Refuses line) = ended.Refused
+ended_of (Answers batch text) = ended.Done
 
--- the molecule of a record's table, or the line of the check that it fails
-abbrev pub IsHeldTable : RawTable → Held → Type 0
-IsHeldTable table (Molecule mol) = PassesAll table × IsFilled table mol × IsMolecule mol
-IsHeldTable table (Refused line) = (check : ℕ) × (item : ℕ) × IsFirstFault table check item × (line ≡ check_text check item)
+abbrev pub is_refused_end : Ended → Bool
+is_refused_end ended.Done = false
+is_refused_end ended.Refused = true
 
--- where the records are one, the molecule of its table or the line of the check that it fails; else the line that says how many
--- there are
-abbrev pub IsHeldOf : List RawRecord → Held → Type 0
-IsHeldOf (only ∷ []) held = IsHeldTable only.table held
-IsHeldOf records held = held ≡ Refused (records_text (length records))
+-- the command is done: the tables, and what is added to the answer
+pub record IsDone (files : Option Look) (t t' : Tables) (order : Order) (old new : List ℕ) (e : Ended) : Type 0 where
+  pub effect : Effect
+  pub comes : Comes files t order effect
+  pub tables : t' ≡ after_effect effect t
+  pub answer : new ≡ old ++ text_of effect
+  pub ends : e ≡ ended_of effect
 
--- the run of `match` over these two files
-abbrev pub IsMatchRun : (List ℕ → Option (List ℕ)) → List ℕ → List ℕ → Outcome → Type 0
-IsMatchRun look query molecules outcome = IsRun (match_words query molecules) look outcome
+-- the batch of the command isn't empty
+pub record IsPending (files : Option Look) (t : Tables) (order : Order) : Type 0 where
+  pub batch : List Change
+  pub text : List ℕ
+  pub comes : Comes files t order (Answers batch text)
+  pub some : batch ≢ []
 
--- ---- counts
+-- the count of the keeper over a change: a batch without changes isn't committed
+abbrev pub ChangeCounts : {A : Type 0} → List Change → ℕ → ℕ → Result A KeepFail → Type 0
+ChangeCounts batch old new (Ok done) = new ≡ old
+ChangeCounts batch old new (Err keep.Failed) = (batch ≢ []) × Rose old new
+ChangeCounts batch old new (Err keep.Memory) = new ≡ old
 
--- the count of the files before and after an outcome was sought
-abbrev pub MatchingCounts : Bool → ℕ → ℕ → Result Outcome Status → Type 0
-MatchingCounts understood old new (Ok outcome) = (new ≡ old) × IsOfAnswer understood outcome.status
-MatchingCounts understood old new (Err status.Read) = Rose old new × (understood ≡ true)
-MatchingCounts understood old new (Err status.Memory) = new ≡ old
-MatchingCounts understood old new (Err _) = ⊥
+-- one command on a session: after a failure the session and the answer are as before
+abbrev pub IsStepped : Option Look → Tables → Tables → Order → List ℕ → List ℕ → Result Ended StepFail → Type 0
+IsStepped files t t' order old new (Ok e) = IsDone files t t' order old new e
+IsStepped files t t' order old new (Err fail) = (t' ≡ t) × (new ≡ old)
+
+-- the counts of the files and of the keeper over a command
+abbrev pub StepCounts : Option Look → Tables → Order → ℕ → ℕ → ℕ → ℕ → Result Ended StepFail → Type 0
+StepCounts files t order f f' k k' (Ok e) = (f' ≡ f) × (k' ≡ k)
+StepCounts files t order f f' k k' (Err fail.Read) = IsReached (Reaches files t order) × Rose f f' × (k' ≡ k)
+StepCounts files t order f f' k k' (Err fail.Store) = IsPending files t order × Rose k k' × (f' ≡ f)
+StepCounts files t order f f' k k' (Err fail.Memory) = (f' ≡ f) × (k' ≡ k)
+
+-- ---- orders with their answers written
+
+-- all are done
+pub record IsDoneAll (files : Option Look) (t t' : Tables) (orders : List Order) (so_far so_far' : Option (List ℕ)) (old new : Faults) (refused : Bool) : Type 0 where
+  pub effects : List Effect
+  pub does : Does files t orders effects
+  pub tables : t' ≡ after_effects effects t
+  pub written : IfSome so_far (λ s. so_far' ≡ Some (s ++ texts effects))
+  pub counts : new ≡ old
+  pub refuses : refused ≡ list_any is_refusal effects
+
+-- not all are
+pub record IsHalted (files : Option Look) (t t' : Tables) (orders : List Order) (so_far so_far' : Option (List ℕ)) (old new : Faults) (ends : Status) : Type 0 where
+  pub added : List ℕ
+  pub halts : Halts files t orders old new added t' ends
+  pub written : IfSome so_far (λ s. so_far' ≡ Some (s ++ added))
+
+-- some orders from the tables t to the tables t', and whether one was refused, or how the run ends
+abbrev pub Turns : Option Look → Tables → Tables → List Order → Option (List ℕ) → Option (List ℕ) → Faults → Faults → Result Bool Status → Type 0
+Turns files t t' orders so_far so_far' old new (Ok refused) = IsDoneAll files t t' orders so_far so_far' old new refused
+Turns files t t' orders so_far so_far' old new (Err ends) = IsHalted files t t' orders so_far so_far' old new ends
+
+-- ---- the rows of tables
+
+-- the first row that doesn't read, where there is one
+abbrev pub IsJudgedRows : Tables → Option BadRow → Type 0
+IsJudgedRows t None = AllRead t
+IsJudgedRows t (Some row) = IsFirstBad t row.kind row.number
+
+-- ---- a session from a keeper
+
+-- what was loaded, which is what is told where the keeper is sound
+pub record IsLoaded (sound : Type 0) (told told' : Option Tables) (t : Tables) : Type 0 where
+  pub is_told : sound → Agrees told t
+  pub stays : sound → IfSome told (λ _. told' ≡ Some t)
+
+-- some tables are those that the keeper holds, whether they were loaded or not
+pub record IsHeld (sound : Type 0) (told told' : Option Tables) : Type 0 where
+  pub t : Tables
+  pub loaded : IsLoaded sound told told' t
+
+-- the keeper's tables have this first row that doesn't read
+pub record IsBad (sound : Type 0) (told told' : Option Tables) (kind : RowKind) (number : ℕ) : Type 0 where
+  pub t : Tables
+  pub loaded : IsLoaded sound told told' t
+  pub bad : IsFirstBad t kind number
+
+abbrev pub Begins : Type 0 → Option Tables → Option Tables → Result Tables BeginFail → Type 0
+Begins sound told told' (Ok t) = IsLoaded sound told told' t × AllRead t
+Begins sound told told' (Err begin.Store) = IsHeld sound told told'
+Begins sound told told' (Err (begin.BadStore kind number)) = IsBad sound told told' kind number
+Begins sound told told' (Err begin.Memory) = IsHeld sound told told'
+
+abbrev pub is_store : {A : Type 0} → Result A BeginFail → Bool
+is_store (Ok t) = false
+is_store (Err begin.Store) = true
+is_store (Err (begin.BadStore kind number)) = false
+is_store (Err begin.Memory) = false
+
+-- ---- a run once the input is read
+
+pub record Leaves (sound : Type 0) (files : Option Look) (asked : Asked) (told told' : Option Tables) (so_far so_far' : Option (List ℕ)) (old new : Faults) (missed missed' : ℕ) (ends : Status) : Type 0 where
+  pub t : Tables
+  pub added : List ℕ
+  pub left : Tables
+  pub tables_told : sound → Agrees told t
+  pub kept : sound → IfSome told (λ _. told' ≡ Some left)
+  pub written : IfSome so_far (λ s. so_far' ≡ Some (s ++ added))
+  pub ends_so : Ends files t asked old new added left ends
+  pub misses : Misses files t (orders_asked asked) missed missed'
+
+-- the store is opened, or the run has ended
+abbrev pub Opens : Type 0 → Option Look → List Order → Option Tables → Option Tables → Option (List ℕ) → Option (List ℕ) → Faults → Faults → ℕ → Result Tables Status → Type 0
+Opens sound files orders told told' so_far so_far' old new missed (Ok t) = IsLoaded sound told told' t × AllRead t × (so_far' ≡ so_far) × (new ≡ old)
+Opens sound files orders told told' so_far so_far' old new missed (Err ends) = Leaves sound files (Orders orders) told told' so_far so_far' old new missed missed ends
+
+-- ---- what the words and the input ask for
+
+abbrev pub orders_of_work : Work → List Order
+orders_of_work (work.One order) = order ∷ []
+orders_of_work (work.Script text lines) = orders_of (parts text lines)
+
+abbrev pub asked_of_given : Given → Asked
+asked_of_given given.Nothing = Nothing
+asked_of_given given.TooMuch = TooMuch
+asked_of_given (given.Orders work) = Orders (orders_of_work work)
+
+-- the whole of the input was read, or more of it than a script may have
+abbrev pub IsInput : Option (List ℕ) → Option (List ℕ) → Option (List ℕ) → Type 0
+IsInput old new (Some text) = Agrees old text × IfSome old (λ _. new ≡ Some []) × (length text ≤ script_bytes)
+IsInput old new None = (text : List ℕ) × Agrees old text × (script_bytes < length text)
+
+abbrev pub ReadsInput : Option (List ℕ) → Option (List ℕ) → ℕ → ℕ → Result (Option (List ℕ)) Status → Type 0
+ReadsInput old new f f' (Ok found) = IsInput old new found × (f' ≡ f)
+ReadsInput old new f f' (Err status.Read) = Rose f f'
+ReadsInput old new f f' (Err status.Memory) = f' ≡ f
+ReadsInput old new f f' (Err _) = ⊥
+
+-- what is given by the words and this input, which is read to its end where it is the script
+pub record IsGiven (words : List (List ℕ)) (old new : Option (List ℕ)) (f f' : ℕ) (g : Given) : Type 0 where
+  pub input : List ℕ
+  pub is_told : Agrees old input
+  pub asks : asked words input ≡ asked_of_given g
+  pub count : f' ≡ f
+  pub at_end : kind_of_words words ≡ words_kind.Script → g ≢ given.TooMuch → IfSome old (λ _. new ≡ Some [])
+  pub same : kind_of_words words ≢ words_kind.Script → new ≡ old
+  pub one : (command : Command) → kind_of_words words ≡ words_kind.Is command → g ≡ given.Orders (work.One (Some command))
+
+abbrev pub Gives : List (List ℕ) → Option (List ℕ) → Option (List ℕ) → ℕ → ℕ → Result Given Status → Type 0
+Gives words old new f f' (Ok g) = IsGiven words old new f f' g
+Gives words old new f f' (Err status.Read) = (kind_of_words words ≡ words_kind.Script) × Rose f f'
+Gives words old new f f' (Err status.Memory) = (f' ≡ f) × (kind_of_words words ≢ words_kind.Script → new ≡ old)
+Gives words old new f f' (Err _) = ⊥
+
+abbrev pub CanAskOrder : Order → Type 0
+CanAskOrder None = ⊤
+CanAskOrder (Some command) = CanAsk command
+
+-- a work that a session may do
+abbrev pub CanAskWork : Work → Type 0
+CanAskWork (work.One order) = CanAskOrder order
+CanAskWork (work.Script text lines) = AreWithin text lines
+
+abbrev pub CanAskGiven : Given → Type 0
+CanAskGiven given.Nothing = ⊤
+CanAskGiven given.TooMuch = ⊤
+CanAskGiven (given.Orders work) = CanAskWork work
+
+-- the whole line was written, or a part of it: a prefix where the output failed, and nothing for want of memory
+pub data IsSaid (old new : ℕ) (line part : List ℕ) (would ends : Status) : Type 0 where
+  SaidWhole : part ≡ line → new ≡ old → ends ≡ would → IsSaid old new line part would ends
+  SaidFailed : (rest : List ℕ) → line ≡ part ++ rest → Rose old new → ends ≡ status.Write → IsSaid old new line part would ends
+  SaidNoMemory : part ≡ [] → new ≡ old → ends ≡ status.Memory → IsSaid old new line part would ends
+
+-- a line was to be written, with this status behind it
+pub record Says (so_far so_far' : Option (List ℕ)) (old new : ℕ) (line : List ℕ) (would ends : Status) : Type 0 where
+  pub part : List ℕ
+  pub written : IfSome so_far (λ s. so_far' ≡ Some (s ++ part))
+  pub said : IsSaid old new line part would ends
+
+-- ---- rows
+
+-- this is the number of the first row
+pub record IsFirstOf {R : Type 0} (number : R → ℕ) (rows : List R) (n : ℕ) : Type 0 where
+  pub row : R
+  pub others : List R
+  pub whole : rows ≡ row ∷ others
+  pub is : n ≡ number row
+
+-- there is no row, or this is the number of the first
+abbrev pub IsFirstNumber : {R : Type 0} → (R → ℕ) → List R → Option ℕ → Type 0
+IsFirstNumber number rows None = rows ≡ []
+IsFirstNumber number rows (Some n) = IsFirstOf number rows n
+
+-- ---- outputs
+
+-- where a file wasn't read nothing was written, told or not
+abbrev pub IsUnreadStatus : Option (List ℕ) → Option (List ℕ) → Status → Type 0
+IsUnreadStatus so_far so_far' status.Read = so_far' ≡ so_far
+IsUnreadStatus so_far so_far' _ = ⊤
+
+abbrev pub IsUnread : {A : Type 0} → Option (List ℕ) → Option (List ℕ) → Result A Status → Type 0
+IsUnread so_far so_far' (Ok done) = ⊤
+IsUnread so_far so_far' (Err ends) = IsUnreadStatus so_far so_far' ends
+
+-- the same of one order; in a script others may be answered before
+abbrev pub IsUnreadWork : {A : Type 0} → Work → Option (List ℕ) → Option (List ℕ) → Result A Status → Type 0
+IsUnreadWork (work.One order) so_far so_far' ends = IsUnread so_far so_far' ends
+IsUnreadWork (work.Script text lines) so_far so_far' ends = ⊤
+
+abbrev pub IsUnreadGiven : Work → Option (List ℕ) → Option (List ℕ) → Status → Type 0
+IsUnreadGiven (work.One order) so_far so_far' ends = IsUnreadStatus so_far so_far' ends
+IsUnreadGiven (work.Script text lines) so_far so_far' ends = ⊤

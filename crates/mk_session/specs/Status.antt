@@ -1,7 +1,5 @@
 -- The statuses of a run.
-use Rattle.std.specs.Prelude.{◌≡◌, ℕ}
-use Rattle.mk_outside.specs.declared.answers.FileFail.{FileFail}
-use Rattle.mk_outside.specs.declared.answers.FileFail.TheVariants as fail
+use Rattle.std.specs.Prelude.{ℕ}
 use Rattle.mk_session.specs.declared.status.Status.{Status}
 use Rattle.mk_session.specs.declared.status.Status.TheVariants.{Done, Refused, Words, Read, Write, Store, Memory, BadStore, ScriptLong}
 
@@ -16,8 +14,3 @@ code_of Store = 5
 code_of Memory = 6
 code_of BadStore = 7
 code_of ScriptLong = 8
-
--- how a run ends whose read failed
-abbrev pub IsStatusOfFail : FileFail → Status → Type 0
-IsStatusOfFail fail.Failed status = status ≡ Read
-IsStatusOfFail fail.Memory status = status ≡ Memory

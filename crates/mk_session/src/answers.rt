@@ -1,16 +1,9 @@
 // The bytes of an answer.
 ghost use Rattle.std.specs.Prelude.{◌≡◌, ◌++◌, IfOk, OnOk};
-ghost use Rattle.mk_session.specs.Answers.{bad_line_text, check_text, hits_text, hit_line, long_molecules_text, long_query_text, not_understood_text, numbers_text, records_text, unbuilt_text, v3000_text};
+ghost use Rattle.mk_session.specs.Answers.{bad_line_text, check_text, hits_text, hit_line, long_molecules_text, long_query_text, numbers_text, records_text, unbuilt_text, v3000_text};
 
 use mk_text::{Memory, Numbers, put_number};
 use std::alloc::Global;
-
-/// The answer to words that aren't understood.
-pub fn not_understood(alloc: Global) -> Result<Vec<u8>, Memory>
-    ensures { IfOk result (λ text. text.items ≡ not_understood_text) }
-{
-    Vec::from_slice(alloc, b"words not understood\n")
-}
 
 /// The refusal of a query's file over its limit.
 pub fn long_query(alloc: Global) -> Result<Vec<u8>, Memory>

@@ -1,13 +1,12 @@
 // What is made of the two files, once they are read.
 ghost use Rattle.std.specs.Prelude.{◌≤◌, ◌<◌, ◌^◌, ℕ, List, Option, All, IfOk, length};
-ghost use Rattle.mk_text.specs.Lines.{lines_of};
 ghost use Rattle.mk_ctab.specs.TableFacts.{IsRawTable};
-ghost use Rattle.mk_mol.specs.Filled.{IsFilled};
-ghost use Rattle.mk_session.specs.Run.{IsRead, molecule_bytes, query_bytes};
-ghost use Rattle.mk_session.specs.Running.{IsHeldBy, IsHeldOf, IsHeldTable, IsJudged, IsKeptJudgment, IsReadAs, IsWithin};
+ghost use Rattle.mk_session.specs.Files.{IsFoundAs, IsShort, Look};
+ghost use Rattle.mk_session.specs.Match.{molecule_bytes, query_bytes};
+ghost use Rattle.mk_session.specs.Matching.{IsHeldBy, IsHeldOf, IsHeldTable, IsJudged, IsKeptJudgment, IsWithin};
 
 use crate::answers::{bad_line, failed_check, long_molecules, not_one, v3000_line};
-use crate::outcome::{Held, Judgment};
+use crate::judgment::{Held, Judgment};
 use mk_ctab::{PlainFault, RawTable, TableFault, read_plain};
 use mk_mol::{PrepareFault, prepare};
 use mk_outside::{Bytes, Memory};
@@ -16,7 +15,7 @@ use std::alloc::Global;
 
 /// Judges the query's file. None is a file over its limit.
 pub fn judge_query(alloc: Global, bytes: Option<Bytes>) -> Result<Judgment, Memory>
-    ensures judged { (look : List ℕ → Option (List ℕ)) (name : List ℕ) → IsReadAs query_bytes look name bytes → IfOk result (IsJudged look name) }
+    ensures judged { (files : Option Look) (name : List ℕ) → IsFoundAs files query_bytes name bytes → IfOk result (IsJudged files name) }
     ensures kept { IfOk result IsKeptJudgment }
 {
     let Some(text) = bytes else {
@@ -32,7 +31,7 @@ pub fn judge_query(alloc: Global, bytes: Option<Bytes>) -> Result<Judgment, Memo
 /// Judges the molecules' file. None is a file over its limit.
 pub fn judge_molecules(alloc: Global, bytes: Option<Bytes>) -> Result<Held, Memory>
     requires { IsWithin molecule_bytes bytes }
-    ensures { (look : List ℕ → Option (List ℕ)) (name : List ℕ) → IsReadAs molecule_bytes look name bytes → IfOk result (IsHeldBy look name) }
+    ensures { (files : Option Look) (name : List ℕ) → IsFoundAs files molecule_bytes name bytes → IfOk result (IsHeldBy files name) }
 {
     let Some(text) = bytes else {
         return Ok(Held::Refused(Bytes::of(long_molecules(alloc)?)));
@@ -43,7 +42,7 @@ pub fn judge_molecules(alloc: Global, bytes: Option<Bytes>) -> Result<Held, Memo
 // What a file within its limit holds.
 fn judge_text(alloc: Global, text: &[u8]) -> Result<Held, Memory>
     requires { length text.now ≤ 67108864 }
-    ensures { (look : List ℕ → Option (List ℕ)) (name : List ℕ) → IsRead molecule_bytes look name (lines_of text.now) → IfOk result (IsHeldBy look name) }
+    ensures { (files : Option Look) (name : List ℕ) → IsShort files molecule_bytes name text.now → IfOk result (IsHeldBy files name) }
 {
     match read_sdfile(alloc, text) {
         Ok(records) => judge_records(alloc, records.as_slice()),

@@ -1,5 +1,6 @@
-// A law over the definitions alone, carried by a function that does nothing.
-ghost use Rattle.mk_session.specs.Run.{OneRun};
+// Laws over the definitions alone, each carried by a function that does nothing.
+ghost use Rattle.mk_session.specs.Commands.{CommandsAreRead, OneReading};
+ghost use Rattle.mk_session.specs.Laws.{OneEffect, OneRun, TwoScripts};
 
 use mk_ctab::plain_file_is_exact;
 use mk_mol::{one_filled_molecule, one_first_fault};
@@ -7,9 +8,22 @@ use mk_rings::marks_determine_bonds;
 use mk_sdfile::sdfile_is_exact;
 use mk_text::one_rising_list;
 
-/// A run has at most one outcome: the words and the files determine the bytes and the status.
+/// The command that words are is computed exactly, and words are at most one command.
+pub fn commands_are_read()
+    ensures read { CommandsAreRead }
+    ensures one { OneReading }
+{}
+
+/// Two scripts one after the other are one script.
+pub fn two_scripts()
+    ensures { TwoScripts }
+{}
+
+/// Over told files a command comes to at most one effect, and a run has at most one outcome: the bytes that it adds, the
+/// tables that it leaves, and its status.
 pub fn one_run()
-    ensures { OneRun }
+    ensures effect { OneEffect }
+    ensures run { OneRun }
 {
     // The laws on which this one rests.
     one_rising_list();

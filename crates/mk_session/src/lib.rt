@@ -1,28 +1,48 @@
-//! Commands, their answers, and the top call. So far the one command `match QFILE MFILE`: a plain query in the molecule of an
-//! SDfile.
+//! Commands, their answers, and the top call: a session on the tables of a keeper, and scripts.
 //!
-//! The program uses one promise, that of `top`: where no object that it is handed fails and memory suffices, the bytes
-//! written and the status are those of the run (`IsRun` in `specs/Run.antt`); every other status comes with its cause and
-//! leaves what `specs/Headline.antt` says. The graph that a plain query is stands in `specs/QueryGraph.antt`, and the bytes of
-//! an answer in `specs/Answers.antt`. What a hit is stands in mk_model, the records of an SDfile in mk_sdfile, and the molecule
-//! of a table in mk_mol.
+//! The program uses one promise, that of `top`, which is one record: `Headline` in `specs/Headline.antt`. Where no object that
+//! it is handed fails and memory suffices, the bytes written, the tables kept and the status are those of the run (`IsRun` in
+//! `specs/Run.antt`); every other status comes with its cause and leaves what `specs/Ends.antt` says. Which words are a command
+//! stands in `specs/Commands.antt`, what a command comes to in `specs/Step.antt` and the files that it cites, and which stored
+//! rows read in `specs/StoredRows.antt`. What a hit is stands in mk_model, the records of an SDfile in mk_sdfile, and the
+//! molecule of a table in mk_mol.
 //!
-//! Only this crate knows what a command is. It reads no columns: see `mk_ctab`.
+//! So far `match`, `show`, `remove` and `list` are built, and no command keeps a record. Only this crate knows what a command
+//! is. It reads no columns: see `mk_ctab`.
 #![tactic(auto)]
 
 mod answers;
+mod command;
+mod command_parts;
+mod command_reading;
+mod command_rows;
+mod effect;
 mod files;
+mod finding;
+mod judgment;
 mod laws;
 mod listings;
 mod matching;
-mod outcome;
+mod ordering;
 mod query_graph;
+mod reading;
+mod records;
 mod running;
+mod session;
 mod status;
+mod stepping;
+mod stored_rows;
 #[cfg(test)]
 mod tests;
+mod work;
 
-pub use laws::one_run;
+pub use command::{Command, LineKind, WordsKind};
+pub use command_reading::{command_of_line, command_of_words};
+pub use effect::{Ended, StepFail};
+pub(crate) use effect::{Edit, Found};
+pub use laws::{commands_are_read, one_run, two_scripts};
 pub use mk_text::Memory;
 pub use running::top;
+pub use session::Session;
 pub use status::Status;
+pub use stored_rows::{BeginFail, RowKind};

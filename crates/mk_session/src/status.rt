@@ -1,4 +1,5 @@
 // How a run ends.
+use crate::StepFail;
 
 /// How a run ends.
 #[derive(Clone, Copy, Debug, PartialEq, Eq)]
@@ -41,6 +42,20 @@ impl Status {
             Status::Memory => 6,
             Status::BadStore => 7,
             Status::ScriptLong => 8,
+        }
+    }
+}
+
+impl From<StepFail> for Status {
+    ghost use Rattle.mk_session.specs.Fails.{IsStatusOf};
+
+    ghost from_gives = { IsStatusOf };
+
+    fn from(fail: StepFail) -> Self {
+        match fail {
+            StepFail::Read => Status::Read,
+            StepFail::Store => Status::Store,
+            StepFail::Memory => Status::Memory,
         }
     }
 }

@@ -1,11 +1,11 @@
-// The command `match` on objects in memory. The shorthand is that of docs/TESTING.md, "Tables of tests".
+// Commands on objects in memory. The shorthand is that of docs/TESTING.md, "Tables of tests".
 use crate::{Status, top};
 use mk_fixtures::molfile_of_sketch;
 use mk_outside::{
-    Bytes, CallNumbers, FileRow, FileRows, MemFiles, MemSink, Memory, SureFiles, SureSink, Text,
+    Bytes, CallNumbers, FileRow, FileRows, MemFiles, MemKeeper, MemSink, MemSource, Memory,
+    RecordRow, SureFiles, SureKeeper, SureSink, SureSource, Tables, Text,
 };
 use std::alloc::Global;
-use std::process::Abort;
 use std::test::Fail;
 
 // What a file holds: the molfile of a sketch, or a text as it stands.
@@ -76,6 +76,33 @@ fn words(alloc: Global, words: &[&str]) -> Result<Vec<String>, Memory> {
     Ok(all)
 }
 
+// Whether the words and the input end so over these files and empty tables, and write this.
+fn is_run(
+    alloc: Global,
+    words: &[String],
+    rows: FileRows,
+    script: &str,
+    wanted: &str,
+    status: Status,
+) -> Result<bool, Memory> {
+    let mut files = SureFiles::new(rows);
+    let mut input = SureSource::new(Bytes::of(script.as_bytes().to_vec(alloc)?));
+    let mut output = SureSink::new(Bytes::new(alloc));
+    let mut keeper = SureKeeper::new(Tables::new(alloc));
+    let ended = top(
+        alloc,
+        words,
+        &mut files,
+        &mut input,
+        &mut output,
+        &mut keeper,
+    );
+    if ended == Status::Memory {
+        return Err(Memory);
+    }
+    Ok(ended == status && output.bytes() == wanted.as_bytes())
+}
+
 // Whether `match q m` ends so over these files, and writes this.
 fn is_answered(
     alloc: Global,
@@ -83,14 +110,8 @@ fn is_answered(
     wanted: &str,
     status: Status,
 ) -> Result<bool, Memory> {
-    let mut files = SureFiles::new(rows);
-    let mut output = SureSink::new(Bytes::new(alloc));
     let words = words(alloc, ["match", "q", "m"].as_slice())?;
-    let ended = top(alloc, &words, &mut files, &mut output);
-    if ended == Status::Memory {
-        return Err(Memory);
-    }
-    Ok(ended == status && output.bytes() == wanted.as_bytes())
+    is_run(alloc, &words, rows, "", wanted, status)
 }
 
 static HITS: [(&str, Held, Held, &str); 22] = [
@@ -388,7 +409,7 @@ fn long_file(alloc: Global, name: &str, byte: u8, bytes: usize) -> Result<FileRo
     })
 }
 
-const LONG_QUERIES: [(&str, u8, usize, &str); 3] = [
+static LONG_QUERIES: [(&str, u8, usize, &str); 3] = [
     (
         "a query over its limit",
         b' ',
@@ -409,7 +430,7 @@ const LONG_QUERIES: [(&str, u8, usize, &str); 3] = [
     ),
 ];
 
-const LONG_MOLECULES: [(&str, u8, usize, &str); 3] = [
+static LONG_MOLECULES: [(&str, u8, usize, &str); 3] = [
     (
         "molecules over their limit",
         b' ',
@@ -454,26 +475,106 @@ fn files_over_their_limit_are_refused(rt: HostRuntime) -> Result<(), Fail> {
     Ok(())
 }
 
-const OTHER_WORDS: [&[&str]; 5] = [
-    &[],
+// No words are a script, which is empty here.
+static OTHER_WORDS: [&[&str]; 8] = [
     &["match"],
     &["match", "q"],
     &["Match", "q", "m"],
     &["match", "q", "m", "m"],
+    &["--store", "s"],
+    &["load", "m"],
+    &["show", "0"],
+    &["show", "1234567890"],
 ];
 
 #[test]
 fn other_words_are_not_understood(rt: HostRuntime) -> Result<(), Fail> {
     let alloc = rt.alloc();
     for line in OTHER_WORDS.iter() {
-        let mut files = SureFiles::new(FileRows::new(alloc));
-        let mut output = SureSink::new(Bytes::new(alloc));
         let words = words(alloc, line)?;
-        let ended = top(alloc, &words, &mut files, &mut output);
-        assert!(rt; ended != Status::Memory, "want of memory");
-        assert!(rt; ended == Status::Words);
-        assert!(rt; output.bytes() == b"words not understood\n".as_slice());
+        let rows = FileRows::new(alloc);
+        assert!(rt;
+            is_run(
+                alloc,
+                &words,
+                rows,
+                "list",
+                "words not understood\n",
+                Status::Words
+            )?
+        );
     }
+    Ok(())
+}
+
+// Each line of a script, and its answer.
+static LINES: [(&str, &str, Status); 19] = [
+    ("", "", Status::Done),
+    ("   \n\n  \r\n", "", Status::Done),
+    (
+        "list",
+        "records 0\nqueries 0\ncursors 0\nnext 1 1\n",
+        Status::Done,
+    ),
+    (
+        " list  \r\n",
+        "records 0\nqueries 0\ncursors 0\nnext 1 1\n",
+        Status::Done,
+    ),
+    (
+        "match q m\nmatch q m\n",
+        "hit 1 choice map 1\nend\nhit 1 choice map 1\nend\n",
+        Status::Done,
+    ),
+    ("list x", "refused 1 command\n", Status::Refused),
+    ("List", "refused 1 command\n", Status::Refused),
+    ("show 007", "refused 6 record 7\n", Status::Refused),
+    (
+        "show 999999999",
+        "refused 6 record 999999999\n",
+        Status::Refused,
+    ),
+    ("show 0", "refused 1 command\n", Status::Refused),
+    ("show 0000000001", "refused 1 command\n", Status::Refused),
+    ("show +1", "refused 1 command\n", Status::Refused),
+    ("show\t1", "refused 1 command\n", Status::Refused),
+    (
+        "remove 2\n\nlist\n",
+        "refused 6 record 2\nrecords 0\nqueries 0\ncursors 0\nnext 1 1\n",
+        Status::Refused,
+    ),
+    ("load m", "refused 1 command\n", Status::Refused),
+    ("query q q", "refused 1 command\n", Status::Refused),
+    ("search q 1", "refused 1 command\n", Status::Refused),
+    ("drill 1 1", "refused 1 command\n", Status::Refused),
+    ("--store s", "refused 1 command\n", Status::Refused),
+];
+
+#[test]
+fn lines_are_answered_in_order(rt: HostRuntime) -> Result<(), Fail> {
+    let alloc = rt.alloc();
+    for (script, wanted, status) in LINES.iter() {
+        let rows = files(alloc, C, C)?;
+        assert!(rt;
+            is_run(alloc, &[], rows, script, wanted, *status)?,
+            "{script}"
+        );
+    }
+    Ok(())
+}
+
+// A line that isn't UTF-8 is no command.
+#[test]
+fn other_bytes_are_no_command(rt: HostRuntime) -> Result<(), Fail> {
+    let alloc = rt.alloc();
+    let script = Bytes::of(Vec::from_slice(alloc, b"match q \xff\n".as_slice())?);
+    let mut files = SureFiles::new(FileRows::new(alloc));
+    let mut input = SureSource::new(script);
+    let mut output = SureSink::new(Bytes::new(alloc));
+    let mut keeper = SureKeeper::new(Tables::new(alloc));
+    let ended = top(alloc, &[], &mut files, &mut input, &mut output, &mut keeper);
+    assert!(rt; ended == Status::Refused);
+    assert!(rt; output.bytes() == b"refused 1 command\n".as_slice());
     Ok(())
 }
 
@@ -483,32 +584,94 @@ fn failing(alloc: Global, number: u64) -> Result<CallNumbers, Memory> {
     Ok(numbers)
 }
 
-// Runs `match` where the files fail at one call and the output at another.
-fn run_failing(
-    rt: &impl Abort,
-    alloc: Global,
-    read: u64,
-    put: u64,
-    query: &str,
+// At which call the input, the files, the output and the loads fail, how the script ends, and what is written.
+struct Row {
+    script: &'static str,
+    fails: [u64; 4],
     status: Status,
-) -> Result<(), Fail> {
-    let mut files = MemFiles::new(files(alloc, CO, COC)?, failing(alloc, read)?);
-    let mut output = MemSink::new(Bytes::new(alloc), failing(alloc, put)?);
-    let words = words(alloc, ["match", query, "m"].as_slice())?;
-    let ended = top(alloc, &words, &mut files, &mut output);
-    assert!(rt; ended != Status::Memory, "want of memory");
-    assert!(rt; ended == status);
-    assert!(rt; output.bytes().is_empty());
-    Ok(())
+    wanted: &'static str,
+}
+
+const ANSWER: &str = "hit 1 choice map 1 2\nhit 1 choice map 3 2\nend\n";
+
+static FAILURES: [Row; 9] = [
+    Row {
+        script: "match q m",
+        fails: [9, 9, 9, 9],
+        status: Status::Done,
+        wanted: ANSWER,
+    },
+    Row {
+        script: "match q m",
+        fails: [1, 9, 9, 9],
+        status: Status::Read,
+        wanted: "",
+    },
+    Row {
+        script: "match q m",
+        fails: [9, 1, 9, 9],
+        status: Status::Read,
+        wanted: "",
+    },
+    Row {
+        script: "match q m",
+        fails: [9, 2, 9, 9],
+        status: Status::Read,
+        wanted: "",
+    },
+    Row {
+        script: "match q none",
+        fails: [9, 9, 9, 9],
+        status: Status::Read,
+        wanted: "",
+    },
+    Row {
+        script: "match q m",
+        fails: [9, 9, 1, 9],
+        status: Status::Write,
+        wanted: "",
+    },
+    Row {
+        script: "match q m",
+        fails: [9, 9, 9, 1],
+        status: Status::Store,
+        wanted: "",
+    },
+    Row {
+        script: "match q m\nmatch q m",
+        fails: [9, 3, 9, 9],
+        status: Status::Read,
+        wanted: ANSWER,
+    },
+    Row {
+        script: "match q m\nmatch q m",
+        fails: [9, 9, 2, 9],
+        status: Status::Write,
+        wanted: ANSWER,
+    },
+];
+
+// Whether the script ends so where calls fail, and writes this.
+fn is_stopped(alloc: Global, row: &Row) -> Result<bool, Fail> {
+    let mut files = MemFiles::new(files(alloc, CO, COC)?, failing(alloc, row.fails[1])?);
+    let script = Bytes::of(row.script.as_bytes().to_vec(alloc)?);
+    let mut input = MemSource::new(script, failing(alloc, row.fails[0])?);
+    let mut output = MemSink::new(Bytes::new(alloc), failing(alloc, row.fails[2])?);
+    let loads = failing(alloc, row.fails[3])?;
+    let mut keeper = MemKeeper::new(Tables::new(alloc), loads, CallNumbers::new(alloc));
+    let ended = top(alloc, &[], &mut files, &mut input, &mut output, &mut keeper);
+    if ended == Status::Memory {
+        return Err(Fail::from(Memory));
+    }
+    Ok(ended == row.status && output.bytes() == row.wanted.as_bytes())
 }
 
 #[test]
-fn a_failed_read_or_write_ends_the_run(rt: HostRuntime) -> Result<(), Fail> {
+fn a_failed_call_ends_the_run(rt: HostRuntime) -> Result<(), Fail> {
     let alloc = rt.alloc();
-    run_failing(&rt, alloc, 1, 9, "q", Status::Read)?;
-    run_failing(&rt, alloc, 2, 9, "q", Status::Read)?;
-    run_failing(&rt, alloc, 9, 1, "q", Status::Write)?;
-    run_failing(&rt, alloc, 9, 9, "none", Status::Read)?;
+    for row in FAILURES.iter() {
+        assert!(rt; is_stopped(alloc, row)?, "{}", row.script);
+    }
     Ok(())
 }
 
@@ -517,11 +680,71 @@ fn a_failed_read_or_write_ends_the_run(rt: HostRuntime) -> Result<(), Fail> {
 fn a_refused_query_is_the_only_file_read(rt: HostRuntime) -> Result<(), Fail> {
     let alloc = rt.alloc();
     let mut files = MemFiles::new(files(alloc, DOUBLE, COC)?, failing(alloc, 2)?);
+    let mut input = SureSource::new(Bytes::new(alloc));
     let mut output = SureSink::new(Bytes::new(alloc));
+    let mut keeper = SureKeeper::new(Tables::new(alloc));
     let words = words(alloc, ["match", "q", "none"].as_slice())?;
-    let ended = top(alloc, &words, &mut files, &mut output);
+    let ended = top(
+        alloc,
+        &words,
+        &mut files,
+        &mut input,
+        &mut output,
+        &mut keeper,
+    );
     assert!(rt; ended != Status::Memory, "want of memory");
     assert!(rt; ended == Status::Refused);
     assert!(rt; output.bytes() == b"refused 12 unbuilt\n".as_slice());
+    Ok(())
+}
+
+// A stored row doesn't read so far.
+#[test]
+fn a_bad_row_ends_the_run(rt: HostRuntime) -> Result<(), Fail> {
+    let alloc = rt.alloc();
+    let mut tables = Tables::new(alloc);
+    tables.records.push(RecordRow {
+        number: 3,
+        text: Bytes::of(b"x".to_vec(alloc)?),
+    })?;
+    let mut files = SureFiles::new(FileRows::new(alloc));
+    let mut input = SureSource::new(Bytes::new(alloc));
+    let mut output = SureSink::new(Bytes::new(alloc));
+    let mut keeper = SureKeeper::new(tables);
+    let ended = top(alloc, &[], &mut files, &mut input, &mut output, &mut keeper);
+    assert!(rt; ended == Status::BadStore);
+    assert!(rt; output.bytes() == b"bad store record 3\n".as_slice());
+    Ok(())
+}
+
+// A script of this many bytes that are all this one, over empty tables.
+fn is_long(
+    alloc: Global,
+    byte: u8,
+    bytes: usize,
+    wanted: &str,
+    status: Status,
+) -> Result<bool, Memory> {
+    let mut files = SureFiles::new(FileRows::new(alloc));
+    let mut input = SureSource::new(Bytes::of(vec![in alloc; byte; bytes]?));
+    let mut output = SureSink::new(Bytes::new(alloc));
+    let mut keeper = SureKeeper::new(Tables::new(alloc));
+    let ended = top(alloc, &[], &mut files, &mut input, &mut output, &mut keeper);
+    Ok(ended == status && output.bytes() == wanted.as_bytes())
+}
+
+#[test]
+fn a_script_over_its_limit_is_too_long(rt: HostRuntime) -> Result<(), Fail> {
+    let alloc = rt.alloc();
+    assert!(rt; is_long(alloc, b' ', 16_777_216, "", Status::Done)?);
+    assert!(rt;
+        is_long(
+            alloc,
+            b'\n',
+            16_777_217,
+            "script too long\n",
+            Status::ScriptLong
+        )?
+    );
     Ok(())
 }

@@ -1,5 +1,5 @@
 use Rattle.std.proofs.Common.{◌≡◌, map, take}
-use Rattle.mk_session.specs.Running.{asked_bond}
+use Rattle.mk_session.specs.Matching.{asked_bond}
 use Rattle.mk_session.proofs.query_graph.asked_bonds.Given as goal
 
 abbrev pub invariant-loop-bond : goal.invariant-loop-bond

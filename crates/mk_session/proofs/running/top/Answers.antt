@@ -1,18 +1,34 @@
-use Rattle.std.proofs.Common.{map}
-use Rattle.std.specs.String.{string_bytes}
-use Rattle.mk_session.specs.Run.{is_match}
-use Rattle.mk_session.proofs.HeadlineLemmas.{whole, cut, leaves_whole}
+use Rattle.std.proofs.Common.{refl}
+use Rattle.mk_session.specs.declared.status.Status.TheVariants as status
+use Rattle.mk_session.specs.declared.work.Given.TheVariants as given
+use Rattle.mk_session.specs.Run.{NotUnderstood, ScriptLong}
+use Rattle.mk_session.proofs.HeadlineLemmas.{headline_ended, headline_stopped, understood, untouched_keeper}
+use Rattle.mk_session.proofs.RunningLemmas.{said, untouched}
 use Rattle.mk_session.proofs.running.top.Goals as goal
 
-pub returns-in-Ok-put-clause-headline : goal.returns-in-Ok-put-clause-headline
-returns-in-Ok-put-clause-headline g c =
-    λ look so_far told told_so_far _ _ _ _ _. whole (map string_bytes c.args.words.now) look so_far c.as_slice.result.now _ _ c.in-Ok.outcome c.in-Ok-put.field-0 (c.in-Ok.ensures.told look told) c.in-Ok-put.ensures.told told_so_far c.as_slice.ensures
+pub returns-in-Err-clause-headline : goal.returns-in-Err-clause-headline
+returns-in-Err-clause-headline g c = headline_stopped _ _ _ _ refl refl refl refl c.in-Err.status c.in-Err.ensures.given
 
-pub returns-in-Ok-put-clause-leaves : goal.returns-in-Ok-put-clause-leaves
-returns-in-Ok-put-clause-leaves g c =
-    λ look so_far told told_so_far. leaves_whole (is_match (map string_bytes c.args.words.now)) (map string_bytes c.args.words.now) look so_far _ c.in-Ok.outcome.status c.in-Ok.ensures.counted.1
-    (whole (map string_bytes c.args.words.now) look so_far c.as_slice.result.now _ _ c.in-Ok.outcome c.in-Ok-put.field-0 (c.in-Ok.ensures.told look told) c.in-Ok-put.ensures.told told_so_far c.as_slice.ensures)
+pub returns-in-Ok-Nothing-clause-headline : goal.returns-in-Ok-Nothing-clause-headline
+returns-in-Ok-Nothing-clause-headline g c =
+    let held = untouched_keeper (g.K.Keeper.sound c.args.keeper.now) (g.K.Keeper.tables c.args.keeper.now) in
+    headline_ended _ _ _ _ _ given.Nothing (rw c.in-Ok-Nothing.field-0-is at c.in-Ok-Nothing.ensures.given)
+    (said _ held.t _ _ status.Words (NotUnderstood refl refl refl) _ _ _ _ _ _ _ _ _ _ _ _ held.loaded c.say.ensures refl)
+    (λ _. record { tables = refl; files_count = refl; keeper_count = refl; absences = refl })
 
-pub returns-in-Err-Failed-clause-leaves : goal.returns-in-Err-Failed-clause-leaves
-returns-in-Err-Failed-clause-leaves g c =
-    λ look so_far told told_so_far. cut (map string_bytes c.args.words.now) look so_far c.as_slice.result.now _ _ c.in-Ok.outcome c.in-Err-Failed.field-0 c.put.result (c.in-Ok.ensures.told look told) c.in-Err-Failed.is c.in-Err-Failed.field-0-is c.put.ensures.told told_so_far c.as_slice.ensures
+pub returns-in-Ok-TooMuch-clause-headline : goal.returns-in-Ok-TooMuch-clause-headline
+returns-in-Ok-TooMuch-clause-headline g c =
+    let held = untouched_keeper (g.K.Keeper.sound c.args.keeper.now) (g.K.Keeper.tables c.args.keeper.now) in
+    let is = rw c.in-Ok-TooMuch.field-0-is at c.in-Ok-TooMuch.ensures.given in
+    headline_ended _ _ _ _ _ given.TooMuch is
+    (said _ held.t _ _ status.ScriptLong (ScriptLong refl refl refl) _ _ _ _ _ _ _ _ _ _ _ _ held.loaded c.say-in-Ok-TooMuch.ensures refl)
+    (λ e. absurd (understood _ _ _ _ _ _ is (λ f. cc) e))
+
+pub returns-in-Ok-Orders-clause-headline : goal.returns-in-Ok-Orders-clause-headline
+returns-in-Ok-Orders-clause-headline g c =
+    let is = rw c.in-Ok-Orders.field-0-is at c.in-Ok-Orders.ensures.given in
+    headline_ended _ _ _ _ _ (given.Orders c.in-Ok-Orders.work) is c.do_work.ensures.leaves (λ e. absurd (understood _ _ _ _ _ _ is (λ f. cc) e))
+
+pub returns-in-Ok-Orders-clause-unread : goal.returns-in-Ok-Orders-clause-unread
+returns-in-Ok-Orders-clause-unread g c =
+    untouched _ _ _ _ _ c.in-Ok-Orders.work _ _ c.do_work.result (rw c.in-Ok-Orders.field-0-is at c.in-Ok-Orders.ensures.given) c.do_work.ensures.unread

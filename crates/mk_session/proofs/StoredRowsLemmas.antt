@@ -1,0 +1,105 @@
+-- Stored rows that read, and the first that doesn't.
+--     reads_not_bad       where each row reads there is no first that doesn't
+--     one_first_bad       there is at most one
+--     judged_rows         what the first rows of each kind say
+use Rattle.std.proofs.Common.{◌≡◌, ℕ, List, [], ◌∷◌, ◌++◌, append_assoc, refl, sym, ap, ◌∙◌, subst, arith}
+use Rattle.std.specs.Prelude.{Contains}
+use Rattle.std.proofs.lemmas.List.{append-nil}
+use Rattle.mk_outside.specs.declared.tables.QueryRow.{QueryRow}
+use Rattle.mk_outside.specs.declared.tables.Tables.{Tables}
+use Rattle.mk_outside.specs.Tables.{cursor_number, query_number, record_number}
+use Rattle.mk_session.specs.declared.stored_rows.RowKind.{RowKind}
+use Rattle.mk_session.specs.declared.stored_rows.RowKind.TheVariants.{Records, Queries, Cursors}
+use Rattle.mk_session.specs.Running.{IsFirstOf}
+use Rattle.mk_session.specs.StoredRows.{AllRead, EachReads, IsFirstBad, IsFirstBadRow, IsNamed, ReadsCursor, ReadsQuery, ReadsRecord, BadRecord, BadQuery, BadCursor}
+
+-- ---- rows of any kind
+
+module _ {R : Type 0} (Reads : List R → R → Type 0) where
+  each_not_bad : (rows : List R) (row : R) → EachReads Reads rows → IsFirstBadRow Reads rows row → ⊥
+  each_not_bad rows row each bad = bad.bad (each bad.front row bad.others bad.whole)
+
+  -- no rows read
+  none_read : (rows : List R) → rows ≡ [] → EachReads Reads rows
+  none_read rows is [] row others whole = let h = sym is ∙ whole in absurd cc
+  none_read rows is (x ∷ front) row others whole = let h = sym is ∙ whole in absurd cc
+
+  -- the first row doesn't read
+  pub first_bad_row : (number : R → ℕ) (rows : List R) (n : ℕ) → ((row : R) → Reads [] row → ⊥) → (first : IsFirstOf number rows n) → IsFirstBadRow Reads rows first.row
+  first_bad_row number rows n bad first =
+      record { front = []; others = first.others; whole = first.whole; before = none_read [] refl; bad = bad first.row }
+
+  pub no_rows : (rows : List R) → rows ≡ [] → EachReads Reads rows
+  no_rows rows is = none_read rows is
+
+-- ---- at most one
+
+module _ {R : Type 0} (Reads : List R → R → Type 0) where
+  -- one row is bad behind these rows, and another behind those: neither stands among the rows before the other
+  one_bad_row : (front other : List R) (row bad : R) (rows others : List R) → front ++ row ∷ rows ≡ other ++ bad ∷ others
+      → EachReads Reads front → EachReads Reads other → (Reads front row → ⊥) → (Reads other bad → ⊥) → row ≡ bad
+  one_bad_row front other row bad rows others same each each' not not' = by_fronts front other [] refl refl same
+    where
+      by_fronts : (xs ys passed : List R) → front ≡ passed ++ xs → other ≡ passed ++ ys → xs ++ row ∷ rows ≡ ys ++ bad ∷ others → row ≡ bad
+      by_fronts [] [] passed p q is = cc
+      by_fronts [] (y ∷ ys) passed p q is =
+          let here : row ≡ y = cc in
+          absurd (not (subst (λ (r : R). Reads front r) (sym here) (subst (λ (f : List R). Reads f y) (sym (append-nil passed) ∙ sym p) (each' passed y ys q))))
+      by_fronts (x ∷ xs) [] passed p q is =
+          let here : x ≡ bad = cc in
+          absurd (not' (subst (λ (r : R). Reads other r) here (subst (λ (f : List R). Reads f x) (sym (append-nil passed) ∙ sym q) (each passed x xs p))))
+      by_fronts (x ∷ xs) (y ∷ ys) passed p q is =
+          let here : x ≡ y = cc in
+          let rest : xs ++ row ∷ rows ≡ ys ++ bad ∷ others = cc in
+          by_fronts xs ys (passed ++ x ∷ []) (p ∙ sym (append_assoc passed (x ∷ []) xs))
+          (q ∙ ap (λ (z : R). passed ++ z ∷ ys) (sym here) ∙ sym (append_assoc passed (x ∷ []) ys)) rest
+
+  one_first : (rows : List R) (row bad : R) → IsFirstBadRow Reads rows row → IsFirstBadRow Reads rows bad → row ≡ bad
+  one_first rows row bad p q = one_bad_row p.front q.front row bad p.others q.others (sym p.whole ∙ q.whole) p.before q.before p.bad q.bad
+
+-- the first row of one kind that doesn't read is one
+numbered : {R : Type 0} (Reads : List R → R → Type 0) (number : R → ℕ) (rows : List R) (row bad : R) (kind other same : RowKind) (n m : ℕ)
+    → IsFirstBadRow Reads rows row → IsFirstBadRow Reads rows bad → kind ≡ same → other ≡ same → n ≡ number row → m ≡ number bad → (kind ≡ other) × (n ≡ m)
+numbered Reads number rows row bad kind other same n m p q k o is is' = (k ∙ sym o, is ∙ ap number (one_first Reads rows row bad p q) ∙ sym is')
+
+pub one_first_bad : (t : Tables) (kind other : RowKind) (n m : ℕ) → IsFirstBad t kind n → IsFirstBad t other m → (kind ≡ other) × (n ≡ m)
+one_first_bad t kind other n m (BadRecord row p k is) (BadRecord bad q o is') = numbered ReadsRecord record_number t.records row bad kind other Records n m p q k o is is'
+one_first_bad t kind other n m (BadRecord row p k is) (BadQuery records bad q o is') = absurd (each_not_bad ReadsRecord t.records row records p)
+one_first_bad t kind other n m (BadRecord row p k is) (BadCursor records queries bad q o is') = absurd (each_not_bad ReadsRecord t.records row records p)
+one_first_bad t kind other n m (BadQuery records row p k is) (BadRecord bad q o is') = absurd (each_not_bad ReadsRecord t.records bad records q)
+one_first_bad t kind other n m (BadQuery records row p k is) (BadQuery records' bad q o is') = numbered ReadsQuery query_number t.queries row bad kind other Queries n m p q k o is is'
+one_first_bad t kind other n m (BadQuery records row p k is) (BadCursor records' queries bad q o is') = absurd (each_not_bad ReadsQuery t.queries row queries p)
+one_first_bad t kind other n m (BadCursor records queries row p k is) (BadRecord bad q o is') = absurd (each_not_bad ReadsRecord t.records bad records q)
+one_first_bad t kind other n m (BadCursor records queries row p k is) (BadQuery records' bad q o is') = absurd (each_not_bad ReadsQuery t.queries bad queries q)
+one_first_bad t kind other n m (BadCursor records queries row p k is) (BadCursor records' queries' bad q o is') =
+    numbered (ReadsCursor t) cursor_number t.cursors row bad kind other Cursors n m p q k o is is'
+
+-- ---- tables
+
+pub reads_not_bad : (t : Tables) (kind : RowKind) (number : ℕ) → AllRead t → IsFirstBad t kind number → ⊥
+reads_not_bad t kind number all (BadRecord row bad is same) = each_not_bad ReadsRecord t.records row all.records bad
+reads_not_bad t kind number all (BadQuery records row bad is same) = each_not_bad ReadsQuery t.queries row all.queries bad
+reads_not_bad t kind number all (BadCursor records queries row bad is same) = each_not_bad (ReadsCursor t) t.cursors row all.cursors bad
+
+-- ---- what the first rows say
+
+module _ (t : Tables) where
+  -- the first record is bad, since no record reads
+  pub of_record : (n : ℕ) → IsFirstOf record_number t.records n → IsFirstBad t Records n
+  of_record n first = BadRecord first.row (first_bad_row ReadsRecord record_number t.records n (λ _ never. never) first) refl first.is
+
+  pub of_query : (n : ℕ) → t.records ≡ [] → IsFirstOf query_number t.queries n → IsFirstBad t Queries n
+  of_query n records first = BadQuery (no_rows ReadsRecord t.records records) first.row (first_bad_row ReadsQuery query_number t.queries n (λ _ never. never) first) refl first.is
+
+  -- no name is held
+  unnamed : (name : List ℕ) → t.queries ≡ [] → IsNamed t name → ⊥
+  unnamed name none is = let h = subst (λ (rows : List QueryRow). Contains rows is.row) none is.held in omega (arith, h.1)
+
+  pub of_cursor : (n : ℕ) → t.records ≡ [] → t.queries ≡ [] → IsFirstOf cursor_number t.cursors n → IsFirstBad t Cursors n
+  of_cursor n records queries first =
+      BadCursor (no_rows ReadsRecord t.records records) (no_rows ReadsQuery t.queries queries) first.row
+      (first_bad_row (ReadsCursor t) cursor_number t.cursors n (λ row reads. unnamed row.name queries reads.name) first) refl first.is
+
+  pub of_none : t.records ≡ [] → t.queries ≡ [] → t.cursors ≡ [] → AllRead t
+  of_none records queries cursors =
+      record { records = no_rows ReadsRecord t.records records; queries = no_rows ReadsQuery t.queries queries; cursors = no_rows (ReadsCursor t) t.cursors cursors }

@@ -1,0 +1,8 @@
+use Rattle.std.proofs.Common.{refl}
+use Rattle.std.specs.Prelude.{codes}
+use Rattle.mk_session.specs.Effects.{Refuses}
+use Rattle.mk_session.proofs.ordering.step_order.Goals as goal
+
+pub returns-in_ok-extend_from_slice-in-None-clause-stepped : goal.returns-in_ok-extend_from_slice-in-None-clause-stepped
+returns-in_ok-extend_from_slice-in-None-clause-stepped g c =
+    record { effect = Refuses (codes "refused 1 command\n"); comes = rw c.in-None.is refl; tables = refl; answer = c.in_ok-extend_from_slice-in-None.ensures.items; ends = refl }

@@ -1,0 +1,25 @@
+-- How a failure is handed on.
+use Rattle.std.specs.Prelude.{◌≡◌}
+use Rattle.mk_outside.specs.declared.answers.FileFail.{FileFail}
+use Rattle.mk_outside.specs.declared.answers.FileFail.TheVariants as file
+use Rattle.mk_outside.specs.declared.answers.KeepFail.{KeepFail}
+use Rattle.mk_outside.specs.declared.answers.KeepFail.TheVariants as keep
+use Rattle.mk_session.specs.declared.effect.StepFail.{StepFail}
+use Rattle.mk_session.specs.declared.effect.StepFail.TheVariants as step
+use Rattle.mk_session.specs.declared.status.Status.{Status}
+use Rattle.mk_session.specs.declared.status.Status.TheVariants as status
+
+-- a run ends as the command that came to no end
+abbrev pub IsStatusOf : StepFail → Status → Type 0
+IsStatusOf step.Read s = s ≡ status.Read
+IsStatusOf step.Store s = s ≡ status.Store
+IsStatusOf step.Memory s = s ≡ status.Memory
+
+-- a read that failed is a command that couldn't read
+abbrev pub IsStepFailOf : FileFail → StepFail → Type 0
+IsStepFailOf file.Failed f = f ≡ step.Read
+IsStepFailOf file.Memory f = f ≡ step.Memory
+
+abbrev pub IsStepFailOfKeep : KeepFail → StepFail → Type 0
+IsStepFailOfKeep keep.Failed f = f ≡ step.Store
+IsStepFailOfKeep keep.Memory f = f ≡ step.Memory

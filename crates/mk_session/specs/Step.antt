@@ -1,0 +1,34 @@
+-- One command on the tables. A further command is a further case here, and nothing above this file changes by it.
+--     Comes files t order effect       from the tables t the order comes to this effect
+--     Reaches files t order name       the turn of the file comes: the order names it, and no refusal before its turn holds
+use Rattle.std.specs.Prelude.{◌≡◌, ℕ, List, [], Option, Some, None, codes}
+use Rattle.mk_outside.specs.declared.tables.Tables.{Tables}
+use Rattle.mk_session.specs.declared.command.Command.TheVariants as variant
+use Rattle.mk_session.specs.Effects.{Answers, Effect, Refuses}
+use Rattle.mk_session.specs.Files.{Look}
+use Rattle.mk_session.specs.Match.{IsMatch, IsTurnOfMatch}
+use Rattle.mk_session.specs.Orders.{Order}
+use Rattle.mk_session.specs.Records.{IsRemove, IsShow, list_text}
+
+abbrev pub no_command_text : List ℕ
+no_command_text = codes "refused 1 command\n"
+
+-- From the tables t the order comes to this effect. What is no command is refused, and so is a command that isn't built.
+abbrev pub Comes : Option Look → Tables → Order → Effect → Type 0
+Comes files t None effect = effect ≡ Refuses no_command_text
+Comes files t (Some (variant.Match query molecules)) effect = IsMatch files query molecules effect
+Comes files t (Some (variant.Load file)) effect = effect ≡ Refuses no_command_text
+Comes files t (Some (variant.Replace number file)) effect = effect ≡ Refuses no_command_text
+Comes files t (Some (variant.Remove number)) effect = IsRemove t number effect
+Comes files t (Some (variant.Query name file)) effect = effect ≡ Refuses no_command_text
+Comes files t (Some (variant.Forget name)) effect = effect ≡ Refuses no_command_text
+Comes files t (Some (variant.Search name limit)) effect = effect ≡ Refuses no_command_text
+Comes files t (Some (variant.Resume cursor limit)) effect = effect ≡ Refuses no_command_text
+Comes files t (Some (variant.Show number)) effect = IsShow t number effect
+Comes files t (Some variant.List) effect = effect ≡ Answers [] (list_text t)
+Comes files t (Some (variant.Drill start count)) effect = effect ≡ Refuses no_command_text
+
+-- the order names the file, and no refusal before the file's turn holds
+abbrev pub Reaches : Option Look → Tables → Order → List ℕ → Type 0
+Reaches files t (Some (variant.Match query molecules)) name = IsTurnOfMatch files query molecules name
+Reaches files t _ name = ⊥

@@ -1,0 +1,82 @@
+-- Stored rows that read, and the first that doesn't.
+--     EachReads Reads rows          each row reads behind those before it
+--     IsFirstBadRow Reads rows row  this row is the first that doesn't
+--     AllRead t                     each row of the tables reads
+--     IsFirstBad t kind number      the first row that doesn't: among the records, then the queries, then the saved searches
+--     record_of t n                 the text of the record n, where it is held
+use Rattle.std.specs.Prelude.{◌≡◌, ℕ, ◌<◌, ◌≤◌, nat_eq, List, [], ◌∷◌, ◌++◌, length, All, Contains, Option, Some, None, if◌then◌else◌}
+use Rattle.mk_outside.specs.declared.tables.RecordRow.{RecordRow}
+use Rattle.mk_outside.specs.declared.tables.QueryRow.{QueryRow}
+use Rattle.mk_outside.specs.declared.tables.CursorRow.{CursorRow}
+use Rattle.mk_outside.specs.declared.tables.Tables.{Tables}
+use Rattle.mk_session.specs.declared.stored_rows.RowKind.{RowKind}
+use Rattle.mk_session.specs.declared.stored_rows.RowKind.TheVariants.{Records, Queries, Cursors}
+use Rattle.mk_session.specs.Commands.{IsHeldNumber}
+
+-- ---- rows of any kind
+
+module _ {R : Type 0} (Reads : List R → R → Type 0) where
+  -- each row reads behind those before it
+  abbrev pub EachReads : List R → Type 0
+  EachReads rows = (front : List R) (row : R) (others : List R) → rows ≡ front ++ row ∷ others → Reads front row
+
+  -- the rows before this one read, and it doesn't
+  pub record IsFirstBadRow (rows : List R) (row : R) : Type 0 where
+    pub front : List R
+    pub others : List R
+    pub whole : rows ≡ front ++ row ∷ others
+    pub before : EachReads front
+    pub bad : Reads front row → ⊥
+
+-- ---- the three kinds
+
+-- So far no record row reads, since no command keeps one.
+abbrev pub ReadsRecord : List RecordRow → RecordRow → Type 0
+ReadsRecord front row = ⊥
+
+-- Nor does a query row.
+abbrev pub ReadsQuery : List QueryRow → QueryRow → Type 0
+ReadsQuery front row = ⊥
+
+-- a query of the name is held
+pub record IsNamed (t : Tables) (name : List ℕ) : Type 0 where
+  pub row : QueryRow
+  pub held : Contains t.queries row
+  pub is : row.name ≡ name
+
+-- A saved search has a number above those before it and below the next, and the name of a query that is held. It is among the
+-- first 1,000, and its place is no longer than a place can be.
+pub record ReadsCursor (t : Tables) (front : List CursorRow) (row : CursorRow) : Type 0 where
+  pub number : IsHeldNumber row.number
+  pub above : All (λ (before : CursorRow). before.number < row.number) front
+  pub below : row.number < t.next_cursor
+  pub name : IsNamed t row.name
+  pub few : length front < 1000
+  pub short : length row.place ≤ 514
+
+-- ---- tables
+
+-- each row of the tables reads
+pub record AllRead (t : Tables) : Type 0 where
+  pub records : EachReads ReadsRecord t.records
+  pub queries : EachReads ReadsQuery t.queries
+  pub cursors : EachReads (ReadsCursor t) t.cursors
+
+-- the first row that doesn't read: records come first, then queries, then saved searches
+pub data IsFirstBad (t : Tables) (kind : RowKind) (number : ℕ) : Type 0 where
+  BadRecord : (row : RecordRow) → IsFirstBadRow ReadsRecord t.records row → kind ≡ Records → number ≡ row.number → IsFirstBad t kind number
+  BadQuery : EachReads ReadsRecord t.records → (row : QueryRow) → IsFirstBadRow ReadsQuery t.queries row
+      → kind ≡ Queries → number ≡ row.number → IsFirstBad t kind number
+  BadCursor : EachReads ReadsRecord t.records → EachReads ReadsQuery t.queries → (row : CursorRow) → IsFirstBadRow (ReadsCursor t) t.cursors row
+      → kind ≡ Cursors → number ≡ row.number → IsFirstBad t kind number
+
+-- ---- what is held
+
+-- the text of the first record of the number
+abbrev pub record_in : ℕ → List RecordRow → Option (List ℕ)
+record_in n [] = None
+record_in n (row ∷ rows) = if nat_eq row.number n then Some row.text else record_in n rows
+
+-- the text of the record n, where it is held
+abbrev pub record_of : Tables → ℕ → Option (List ℕ)
+record_of t n = record_in n t.records

@@ -1,0 +1,89 @@
+// Single words of a command: names of files and of queries, and numbers.
+ghost use Rattle.std.specs.Prelude.{◌≡◌, IfOk, IfSome};
+ghost use Rattle.std.specs.List.{list_all};
+ghost use Rattle.std.specs.Char.{is_ascii_digit};
+ghost use Rattle.mk_text.specs.Fields.{digits_number};
+ghost use Rattle.mk_session.specs.Commands.{file_in, is_name, is_name_byte, name_in, number_in};
+
+use mk_outside::{Memory, Text};
+use mk_text::field;
+use std::alloc::Global;
+
+/// The word as the name of a file.
+pub fn file_in(alloc: Global, word: &[u8]) -> Result<Option<Text>, Memory>
+    ensures { IfOk result (λ text. text ≡ file_in word.now) }
+{
+    let bytes = Vec::from_slice(alloc, word)?;
+    match String::from_utf8(bytes) {
+        Ok(text) => Ok(Some(Text::of(text))),
+        Err(_) => Ok(None),
+    }
+}
+
+/// The word as the name of a query.
+pub fn name_in(alloc: Global, word: &[u8]) -> Result<Option<Text>, Memory>
+    ensures { IfOk result (λ text. text ≡ name_in word.now) }
+{
+    if !is_name(word) {
+        return Ok(None);
+    }
+    file_in(alloc, word)
+}
+
+fn is_name(word: &[u8]) -> bool
+    ensures { result ≡ is_name word.now }
+{
+    if word.is_empty() || word.len() > 64 {
+        return false;
+    }
+    are_name_bytes(word)
+}
+
+fn are_name_bytes(word: &[u8]) -> bool
+    ensures { result ≡ list_all is_name_byte word.now }
+{
+    for byte in word {
+        if !is_name_byte(*byte) {
+            return false;
+        }
+    }
+    true
+}
+
+fn is_name_byte(byte: u8) -> bool
+    ensures { result ≡ is_name_byte byte }
+{
+    byte.is_ascii_alphanumeric() || byte == b'_' || byte == b'-' || byte == b'.'
+}
+
+/// The word as a number of one to nine digits that lies in this range.
+pub fn number_in(word: &[u8], least: u32, most: u32) -> Option<u32>
+    ensures { result ≡ number_in least most word.now }
+{
+    let number = digits_number(word)?;
+    if least <= number && number <= most {
+        return Some(number);
+    }
+    None
+}
+
+// The number of one to nine digits.
+#[tactic(auto, unfolding(mk_text::specs::Fields::digits_number))]
+fn digits_number(word: &[u8]) -> Option<u32>
+    ensures { result ≡ digits_number word.now }
+{
+    if word.is_empty() || word.len() > 9 {
+        return None;
+    }
+    if !are_digits(word) {
+        return None;
+    }
+    let number = field(word, 1, word.len())?;
+    Some(number.unsigned_abs())
+}
+
+fn are_digits(word: &[u8]) -> bool
+    ensures { result ≡ list_all is_ascii_digit word.now }
+{
+    word.iter().all(|byte| byte.is_ascii_digit())
+}

@@ -1,0 +1,76 @@
+// What a line of a script is, and what the words of the command line are.
+ghost use Rattle.std.specs.Prelude.{◌≡◌, IfOk, map};
+ghost use Rattle.std.specs.String.{string_bytes};
+ghost use Rattle.mk_text.specs.Lines.{words_of};
+ghost use Rattle.mk_text.specs.Spans.{AreWithin, parts};
+ghost use Rattle.mk_session.specs.Commands.{CanAskLine, CanAskWords, kind_of_line, kind_of_words};
+
+use crate::command_rows::command_of;
+use crate::{Command, LineKind, WordsKind};
+use mk_outside::{Bytes, Memory};
+use mk_text::{Span, is_blank, words};
+use std::alloc::Global;
+
+// No command has more words.
+const MOST_WORDS: usize = 3;
+
+/// What a line of a script is.
+pub fn command_of_line(alloc: Global, line: &[u8]) -> Result<LineKind, Memory>
+    ensures kind { IfOk result (λ kind. kind ≡ kind_of_line line.now) }
+    ensures asks { IfOk result CanAskLine }
+{
+    if is_blank(line) {
+        return Ok(LineKind::Blank);
+    }
+    let spans = words(alloc, line)?;
+    let spans = spans.as_slice();
+    if spans.len() > MOST_WORDS {
+        return Ok(LineKind::NoCommand);
+    }
+    let words = words_at(alloc, line, spans)?;
+    match command_of(alloc, &words)? {
+        Some(command) => Ok(LineKind::Is(command)),
+        None => Ok(LineKind::NoCommand),
+    }
+}
+
+// The words that stand there.
+fn words_at(alloc: Global, line: &[u8], spans: &[Span]) -> Result<Vec<Bytes>, Memory>
+    requires { AreWithin line.now spans.now }
+    ensures { IfOk result (λ list. list.items ≡ parts line.now spans.now) }
+{
+    let mut list = Vec::new(alloc);
+    for span in spans {
+        list.push(Bytes::of(Vec::from_slice(alloc, &line[span.from..span.to])?))?;
+    }
+    Ok(list)
+}
+
+/// What the words of the command line are.
+pub fn command_of_words(alloc: Global, words: &[String]) -> Result<WordsKind, Memory>
+    ensures kind { IfOk result (λ kind. kind ≡ kind_of_words (map string_bytes words.now)) }
+    ensures asks { IfOk result CanAskWords }
+{
+    if words.is_empty() {
+        return Ok(WordsKind::Script);
+    }
+    if words.len() > MOST_WORDS {
+        return Ok(WordsKind::NotUnderstood);
+    }
+    let words = bytes_of(alloc, words)?;
+    match command_of(alloc, &words)? {
+        Some(command) => Ok(WordsKind::Is(command)),
+        None => Ok(WordsKind::NotUnderstood),
+    }
+}
+
+// The words as bytes.
+fn bytes_of(alloc: Global, words: &[String]) -> Result<Vec<Bytes>, Memory>
+    ensures { IfOk result (λ list. list.items ≡ map string_bytes words.now) }
+{
+    let mut list = Vec::new(alloc);
+    for word in words {
+        list.push(Bytes::of(Vec::from_slice(alloc, word.as_str().as_bytes())?))?;
+    }
+    Ok(list)
+}

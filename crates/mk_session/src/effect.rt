@@ -1,0 +1,72 @@
+// What a command comes to, and how it ends.
+ghost use Rattle.std.specs.Prelude.{◌≡◌};
+ghost use Rattle.mk_session.specs.declared.effect.StepFail.TheVariants as step_fail;
+ghost use Rattle.mk_session.specs.Fails.{IsStepFailOf, IsStepFailOfKeep};
+
+use mk_outside::{Bytes, FileFail, KeepFail, Memory};
+
+/// What a command changes.
+#[derive(Clone, Copy, Debug, PartialEq, Eq)]
+pub enum Edit {
+    Nothing,
+    DropRecord(u32),
+}
+
+/// What a command comes to, found before anything is changed.
+#[derive(Drop)]
+pub enum Found {
+    /// It is refused with this line.
+    Refused(Bytes),
+    /// It makes this edit, and answers with this text.
+    Answered(Edit, Bytes),
+}
+
+/// How a command ended.
+#[derive(Clone, Copy, Debug, PartialEq, Eq)]
+pub enum Ended {
+    /// It was done.
+    Done,
+    /// It was refused, and changed nothing.
+    Refused,
+}
+
+/// Why a command came to no end.
+#[derive(Clone, Copy, Debug, PartialEq, Eq)]
+pub enum StepFail {
+    /// A file couldn't be read.
+    Read,
+    /// The batch couldn't be committed.
+    Store,
+    /// Memory was wanting.
+    Memory,
+}
+
+impl From<Memory> for StepFail {
+    ghost from_gives = { λ _ fail. fail ≡ step_fail.Memory };
+
+    fn from(_: Memory) -> Self {
+        StepFail::Memory
+    }
+}
+
+impl From<FileFail> for StepFail {
+    ghost from_gives = { IsStepFailOf };
+
+    fn from(fail: FileFail) -> Self {
+        match fail {
+            FileFail::Failed => StepFail::Read,
+            FileFail::Memory => StepFail::Memory,
+        }
+    }
+}
+
+impl From<KeepFail> for StepFail {
+    ghost from_gives = { IsStepFailOfKeep };
+
+    fn from(fail: KeepFail) -> Self {
+        match fail {
+            KeepFail::Failed => StepFail::Store,
+            KeepFail::Memory => StepFail::Memory,
+        }
+    }
+}

@@ -1,0 +1,51 @@
+// What a command comes to. A further command is a further function and a further arm here.
+ghost use Rattle.std.specs.Prelude.{◌≡◌, IfOk, Some};
+ghost use Rattle.mk_session.specs.Commands.{CanAsk};
+ghost use Rattle.mk_session.specs.Effects.{Refuses};
+ghost use Rattle.mk_session.specs.Step.{Reaches, no_command_text};
+ghost use Rattle.mk_session.specs.Running.{MissesAt, Seeks, effect_of};
+
+use crate::matching::match_found;
+use crate::records::{list_found, remove_found, show_found};
+use crate::{Command, Found, StepFail};
+use mk_model::Steps;
+use mk_outside::{Bytes, Files, Memory, Tables};
+use std::alloc::Global;
+use std::sync::ledger::Ledger;
+
+/// What the command comes to, found before anything is changed.
+pub fn found_of<F: Files, L: Ledger>(
+    alloc: Global,
+    tables: &Tables,
+    files: &mut F,
+    command: &Command,
+    steps: &mut Steps<L>,
+) -> Result<Found, StepFail>
+    requires { CanAsk command.now }
+    ensures sought { Seeks (F.look_up files.old) tables.now (Some command.now) (F.faults files.old) (F.faults files.new) result }
+    ensures same_files { F.look_up files.new ≡ F.look_up files.old }
+    ensures missed { MissesAt (F.look_up files.old) (Reaches (F.look_up files.old) tables.now (Some command.now)) (F.absences files.old) (F.absences files.new) }
+{
+    match command {
+        Command::Match { query, molecules } => {
+            match_found(alloc, files, query.as_str(), molecules.as_str(), steps)
+        }
+        Command::Remove { number } => Ok(remove_found(alloc, tables, *number)?),
+        Command::Show { number } => Ok(show_found(alloc, tables, *number)?),
+        Command::List => Ok(list_found(alloc, tables)?),
+        Command::Load { .. } => Ok(no_command(alloc)?),
+        Command::Replace { .. } => Ok(no_command(alloc)?),
+        Command::Query { .. } => Ok(no_command(alloc)?),
+        Command::Forget { .. } => Ok(no_command(alloc)?),
+        Command::Search { .. } => Ok(no_command(alloc)?),
+        Command::Resume { .. } => Ok(no_command(alloc)?),
+        Command::Drill { .. } => Ok(no_command(alloc)?),
+    }
+}
+
+// A command that isn't built is refused as what is no command.
+fn no_command(alloc: Global) -> Result<Found, Memory>
+    ensures { IfOk result (λ found. effect_of found ≡ Refuses no_command_text) }
+{
+    Ok(Found::Refused(Bytes::of(Vec::from_slice(alloc, b"refused 1 command\n")?)))
+}

@@ -1,0 +1,144 @@
+// The commands `show`, `remove` and `list`.
+ghost use Rattle.std.specs.Prelude.{◌≡◌, ◌++◌, [], IfOk, OnOk, codes, decimal, length};
+ghost use Rattle.std.specs.List.{flat_map};
+ghost use Rattle.mk_session.specs.Effects.{Answers, Refuses};
+ghost use Rattle.mk_session.specs.Records.{IsRemove, IsShow, cursor_line, list_text, next_line, no_record_text, numbered_line, query_line, record_line, record_text};
+ghost use Rattle.mk_session.specs.Running.{effect_of};
+
+use crate::stored_rows::record_text;
+use crate::{Edit, Found};
+use mk_outside::{Bytes, CursorRow, Memory, QueryRow, RecordRow, Tables};
+use mk_text::{lines, put_number};
+use std::alloc::Global;
+
+/// What `show` comes to.
+pub fn show_found(alloc: Global, tables: &Tables, number: u32) -> Result<Found, Memory>
+    ensures { IfOk result (λ found. IsShow tables.now number (effect_of found)) }
+{
+    match record_text(tables.records.as_slice(), number) {
+        None => no_record(alloc, number),
+        Some(text) => Ok(Found::Answered(Edit::Nothing, shown(alloc, number, text)?)),
+    }
+}
+
+// The number of the record, how many lines its text has, and the text.
+fn shown(alloc: Global, number: u32, text: &[u8]) -> Result<Bytes, Memory>
+    ensures { IfOk result (λ bytes. bytes ≡ record_text number text.now) }
+{
+    let count = lines(alloc, text)?.len();
+    let mut answer = Vec::from_slice(alloc, b"record ")?;
+    put_number(alloc, &mut answer, u64::from(number))?;
+    answer.extend_from_slice(b" ")?;
+    put_number(alloc, &mut answer, count as u64)?;
+    answer.extend_from_slice(b"\n")?;
+    answer.extend_from_slice(text)?;
+    Ok(Bytes::of(answer))
+}
+
+/// What `remove` comes to.
+pub fn remove_found(alloc: Global, tables: &Tables, number: u32) -> Result<Found, Memory>
+    ensures { IfOk result (λ found. IsRemove tables.now number (effect_of found)) }
+{
+    match record_text(tables.records.as_slice(), number) {
+        None => no_record(alloc, number),
+        Some(_) => {
+            let mut text = Vec::new(alloc);
+            put_numbered(alloc, &mut text, b"removed ", u64::from(number))?;
+            Ok(Found::Answered(Edit::DropRecord(number), Bytes::of(text)))
+        }
+    }
+}
+
+// The refusal of a record that isn't held.
+fn no_record(alloc: Global, number: u32) -> Result<Found, Memory>
+    ensures { IfOk result (λ found. effect_of found ≡ Refuses (no_record_text number)) }
+{
+    let mut text = Vec::new(alloc);
+    put_numbered(alloc, &mut text, b"refused 6 record ", u64::from(number))?;
+    Ok(Found::Refused(Bytes::of(text)))
+}
+
+/// What `list` comes to.
+pub fn list_found(alloc: Global, tables: &Tables) -> Result<Found, Memory>
+    ensures { IfOk result (λ found. effect_of found ≡ Answers [] (list_text tables.now)) }
+{
+    let mut text = Vec::new(alloc);
+    put_records(alloc, &mut text, tables.records.as_slice())?;
+    put_queries(alloc, &mut text, tables.queries.as_slice())?;
+    put_cursors(alloc, &mut text, tables.cursors.as_slice())?;
+    put_next(alloc, &mut text, tables.next_record, tables.next_cursor)?;
+    Ok(Found::Answered(Edit::Nothing, Bytes::of(text)))
+}
+
+fn put_records(alloc: Global, text: &mut Vec<u8>, rows: &[RecordRow]) -> Result<(), Memory>
+    ensures { OnOk result (text.new.items ≡ text.old.items ++ (numbered_line (codes "records ") (length rows.now) ++ flat_map record_line rows.now)) }
+{
+    put_numbered(alloc, text, b"records ", rows.len() as u64)?;
+    for row in rows {
+        put_numbered(alloc, text, b"record ", u64::from(row.number))?;
+    }
+    Ok(())
+}
+
+fn put_queries(alloc: Global, text: &mut Vec<u8>, rows: &[QueryRow]) -> Result<(), Memory>
+    ensures { OnOk result (text.new.items ≡ text.old.items ++ (numbered_line (codes "queries ") (length rows.now) ++ flat_map query_line rows.now)) }
+{
+    put_numbered(alloc, text, b"queries ", rows.len() as u64)?;
+    for row in rows {
+        put_query(text, row)?;
+    }
+    Ok(())
+}
+
+fn put_query(text: &mut Vec<u8>, row: &QueryRow) -> Result<(), Memory>
+    ensures { OnOk result (text.new.items ≡ text.old.items ++ query_line row.now) }
+{
+    text.extend_from_slice(b"query ")?;
+    text.extend_from_slice(row.name.as_slice())?;
+    text.extend_from_slice(b"\n")
+}
+
+fn put_cursors(alloc: Global, text: &mut Vec<u8>, rows: &[CursorRow]) -> Result<(), Memory>
+    ensures { OnOk result (text.new.items ≡ text.old.items ++ (numbered_line (codes "cursors ") (length rows.now) ++ flat_map cursor_line rows.now)) }
+{
+    put_numbered(alloc, text, b"cursors ", rows.len() as u64)?;
+    for row in rows {
+        put_cursor(alloc, text, row)?;
+    }
+    Ok(())
+}
+
+fn put_cursor(alloc: Global, text: &mut Vec<u8>, row: &CursorRow) -> Result<(), Memory>
+    ensures { OnOk result (text.new.items ≡ text.old.items ++ cursor_line row.now) }
+{
+    text.extend_from_slice(b"cursor ")?;
+    put_number(alloc, text, u64::from(row.number))?;
+    text.extend_from_slice(b" ")?;
+    text.extend_from_slice(row.name.as_slice())?;
+    text.extend_from_slice(b"\n")
+}
+
+// The numbers that come next.
+fn put_next(
+    alloc: Global,
+    text: &mut Vec<u8>,
+    record_number: u32,
+    cursor_number: u32,
+) -> Result<(), Memory>
+    ensures { OnOk result (text.new.items ≡ text.old.items ++ next_line record_number cursor_number) }
+{
+    text.extend_from_slice(b"next ")?;
+    put_number(alloc, text, u64::from(record_number))?;
+    text.extend_from_slice(b" ")?;
+    put_number(alloc, text, u64::from(cursor_number))?;
+    text.extend_from_slice(b"\n")
+}
+
+// A word, a number, and the end of the line.
+fn put_numbered(alloc: Global, text: &mut Vec<u8>, word: &[u8], number: u64) -> Result<(), Memory>
+    ensures { OnOk result (text.new.items ≡ text.old.items ++ numbered_line word.now number) }
+{
+    text.extend_from_slice(word)?;
+    put_number(alloc, text, number)?;
+    text.extend_from_slice(b"\n")
+}
