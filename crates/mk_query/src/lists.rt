@@ -129,11 +129,7 @@ fn add_property(marks: &mut Vec<ListMark>, property: &Property)
     ensures { AreMore IsListMark (lists_for (symbol_lists (property.now ∷ []))) marks.old.items marks.new.items }
 {
     match property {
-        Property::List(list) => add_list(
-            marks,
-            atom_of_symbols(list),
-            are_symbols(&list.symbols),
-        ),
+        Property::List(list) => add_list(marks, atom_of_symbols(list), are_symbols(&list.symbols)),
         _ => {}
     }
 }
