@@ -6,6 +6,10 @@ use Rattle.mk_query.specs.Marks.{AreMarks, AreMore, HasMore}
 
 -- ---- notes
 
+-- nothing was noted yet
+pub marks-none : {X : Type 0} (Is : ℕ → X → Type 0) (n : ℕ) (none : X) → ((x : ℕ) → Is x none) → AreMarks Is (replicate n none)
+marks-none Is n none is k d below = (let same : get_or (replicate n none) k d ≡ none = get_or-replicate n k none d (omega (arith, length-replicate n none)) in rw same (is (k + 1)))
+
 -- what is noted of an atom
 pub marks-at : {X : Type 0} (Is : ℕ → X → Type 0) (marks : List X) (n : ℕ) (d : X) → 1 ≤ n → n ≤ length marks → AreMarks Is marks → Is n (get_or marks (n - 1) d)
 marks-at Is marks n d least most are = (let place : n - 1 + 1 ≡ n = omega arith in subst (λ (x : ℕ). Is x (get_or marks (n - 1) d)) place (are (n - 1) d (omega arith)))

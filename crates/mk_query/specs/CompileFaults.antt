@@ -1,9 +1,9 @@
 -- The first fault of a raw query: the first check that fails, and the table and the item at which it does.
---     FaultAt                        a check with the table and the item that it names
 --     IsFirstInTables raw fault      the first fault of the first table that fails a check of its own
 --     IsAcross raw query fault       the first of the checks across tables that fails
 --     IsFirstCompileFault raw fault  the first fault of the raw query
-use Rattle.std.specs.Prelude.{◌≡◌, ◌≢◌, ◌≤◌, ◌<◌, ◌==◌, ℕ, List, [], Some, Contains, slice_get, sum_by, if◌then◌else◌}
+--     IfFault result P               where a check is named, P holds of it
+use Rattle.std.specs.Prelude.{◌≡◌, ◌≢◌, ◌≤◌, ◌<◌, ◌==◌, ℕ, List, [], Some, Contains, slice_get, sum_by, if◌then◌else◌, Result, Ok, Err}
 use Rattle.mk_text.specs.Items.{IsLeastFailing}
 use Rattle.mk_model.specs.declared.template.Slot.{Slot}
 use Rattle.mk_model.specs.Labels.{IsChain}
@@ -15,14 +15,11 @@ use Rattle.mk_ctab.specs.declared.raw.RawTable.{RawTable}
 use Rattle.mk_rgfile.specs.declared.raw_query.RawGroup.{RawGroup}
 use Rattle.mk_rgfile.specs.declared.raw_query.RawQuery.{RawQuery}
 use Rattle.mk_rgfile.specs.QueryFacts.{member_count}
+use Rattle.mk_query.specs.declared.compile_fault.CompileFault.{CompileFault}
+use Rattle.mk_query.specs.declared.compile_fault.CompileFault.TheVariants as compile_fault
+use Rattle.mk_query.specs.declared.compile_fault.FaultAt.{FaultAt}
 use Rattle.mk_query.specs.Compiled.{IsQueryOf, tables_of}
 use Rattle.mk_query.specs.FirstFault.{PassesAll, IsFirstFault}
-
--- a check by its number, and the table and the item that it names
-pub record FaultAt : Type 0 where
-  pub check : ℕ
-  pub table : ℕ
-  pub item : ℕ
 
 -- ---- in one table
 
@@ -90,3 +87,9 @@ pub data IsAcross (raw : RawQuery) (query : QueryView) (fault : FaultAt) : Type 
 pub data IsFirstCompileFault (raw : RawQuery) (fault : FaultAt) : Type 0 where
   in_a_table : IsFirstInTables raw fault → IsFirstCompileFault raw fault
   across_tables : PassEach raw → (query : QueryView) → IsQueryOf raw query → IsAcross raw query fault → IsFirstCompileFault raw fault
+
+-- where a check is named, P holds of it, of its table and of its item
+abbrev pub IfFault : {T : Type 0} → Result T CompileFault → (FaultAt → Type 0) → Type 0
+IfFault (Ok value) P = Unit {0}
+IfFault (Err (compile_fault.Check check table item)) P = P (record { check = check; table = table; item = item })
+IfFault (Err compile_fault.Memory) P = Unit {0}

@@ -78,15 +78,15 @@ is_not_list (by_symbols list) = list.not
 abbrev pub kind_by : ElementList → List ℕ → Kind
 kind_by list elements = if is_not_list list then NoneOf elements else OneOf elements
 
--- The kind of an atom: an element by its symbol; for `L` the list in force; for `A` any element but hydrogen, for `Q` any but
--- hydrogen and carbon, for `*` any.
-pub data IsKindOf (table : RawTable) (x : ℕ) (line : RawAtom) (kind : Kind) : Type 0 where
-  of_element : (z : ℕ) → Names line.symbol z → kind ≡ Element z → IsKindOf table x line kind
-  of_list : line.symbol ≡ codes "L" → (list : ElementList) → list_in_force table x ≡ Some list
-      → (elements : List ℕ) → HasElements list elements → kind ≡ kind_by list elements → IsKindOf table x line kind
-  of_any_heavy : line.symbol ≡ codes "A" → kind ≡ NotHydrogen → IsKindOf table x line kind
-  of_hetero : line.symbol ≡ codes "Q" → kind ≡ Hetero → IsKindOf table x line kind
-  of_any : line.symbol ≡ codes "*" → kind ≡ Anything → IsKindOf table x line kind
+-- The kind of an atom of this symbol, where this list is in force for it: an element by its symbol; for `L` the list; for `A` any
+-- element but hydrogen, for `Q` any but hydrogen and carbon, for `*` any.
+pub data IsKindOf (in_force : Option ElementList) (symbol : List ℕ) (kind : Kind) : Type 0 where
+  of_element : (z : ℕ) → Names symbol z → kind ≡ Element z → IsKindOf in_force symbol kind
+  of_list : symbol ≡ codes "L" → (list : ElementList) → in_force ≡ Some list
+      → (elements : List ℕ) → HasElements list elements → kind ≡ kind_by list elements → IsKindOf in_force symbol kind
+  of_any_heavy : symbol ≡ codes "A" → kind ≡ NotHydrogen → IsKindOf in_force symbol kind
+  of_hetero : symbol ≡ codes "Q" → kind ≡ Hetero → IsKindOf in_force symbol kind
+  of_any : symbol ≡ codes "*" → kind ≡ Anything → IsKindOf in_force symbol kind
 
 -- what any atom meets: the test of a site
 abbrev pub no_test : AtomTest
@@ -95,7 +95,7 @@ no_test =
 
 -- The kind, the charge and the radical that hold, the hydrogen column, and what the last property line gives the atom.
 pub record IsTestDrawn (table : RawTable) (x : ℕ) (line : RawAtom) (test : AtomTest) : Type 0 where
-  pub kind : IsKindOf table x line test.kind
+  pub kind : IsKindOf (list_in_force table x) line.symbol test.kind
   pub charge : test.charge ≡ charge_at table x line
   pub radical : pos test.radical ≡ radical_at table x line
   pub hydrogens : pos test.hydrogens ≡ line.hydrogens
@@ -103,13 +103,14 @@ pub record IsTestDrawn (table : RawTable) (x : ℕ) (line : RawAtom) (test : Ato
   pub substitution : test.substitution ≡ value_at substitutions_of table x
   pub unsaturated : test.unsaturated ≡ int_eq (value_at unsaturations_of table x) (pos 1)
 
--- the test of atom x: none at a site, whatever its columns say, and else the one that is drawn
+-- no test at a site, whatever its columns say, and else the one that is drawn
+abbrev pub IsTestBy : Bool → RawTable → ℕ → RawAtom → AtomTest → Type 0
+IsTestBy true table x line test = test ≡ no_test
+IsTestBy false table x line test = IsTestDrawn table x line test
+
+-- the test of atom x
 abbrev pub IsTestOf : RawTable → ℕ → RawAtom → AtomTest → Type 0
-IsTestOf table x line test = by_site (is_site line)
-  where
-    by_site : Bool → Type 0
-    by_site true = test ≡ no_test
-    by_site false = IsTestDrawn table x line test
+IsTestOf table x line test = IsTestBy (is_site line) table x line test
 
 -- the tests are those of the atom lines, one for each and in order
 pub record AreTestsOf (table : RawTable) (tests : List AtomTest) : Type 0 where
@@ -118,14 +119,15 @@ pub record AreTestsOf (table : RawTable) (tests : List AtomTest) : Type 0 where
 
 -- ---- slots
 
--- the orders that an `M  AAL` gives the neighbours of atom x, of the first that names it
+-- the order that a property gives the neighbours of atom x, or the later one
+abbrev pub order_of : ℕ → Property → Option (List Pair) → Option (List Pair)
+order_of x (kinds.Order order) later = if natural order.atom == x then Some order.entries else later
+order_of x other later = later
+
+-- the order that an `M  AAL` gives the neighbours of atom x: that of the first that names it
 abbrev pub order_for : ℕ → List Property → Option (List Pair)
 order_for x [] = None
-order_for x (property ∷ props) = first property (order_for x props)
-  where
-    first : Property → Option (List Pair) → Option (List Pair)
-    first (kinds.Order order) later = if natural order.atom == x then Some order.entries else later
-    first other later = later
+order_for x (property ∷ props) = order_of x property (order_for x props)
 
 -- the atom to which some entries give place k, and 0 where they give it to none
 abbrev pub atom_placed : ℕ → List Pair → ℕ
@@ -138,31 +140,34 @@ rising_neighbours [] = (0, 0)
 rising_neighbours (y ∷ []) = (y, 0)
 rising_neighbours (y ∷ z ∷ others) = if nat_lt y z then (y, z) else (z, y)
 
+-- some neighbours by the places that an order gives them, and else by rising atom
+abbrev pub neighbours_by : Option (List Pair) → List ℕ → ℕ × ℕ
+neighbours_by (Some entries) neighbours = (atom_placed 1 entries, atom_placed 2 entries)
+neighbours_by None neighbours = rising_neighbours neighbours
+
 -- the neighbours of the site at atom x in their order: the order of an `M  AAL`, and else by rising atom
 abbrev pub ordered_neighbours : RawTable → ℕ → ℕ × ℕ
-ordered_neighbours table x = by_order (order_for x table.props)
-  where
-    by_order : Option (List Pair) → ℕ × ℕ
-    by_order (Some entries) = (atom_placed 1 entries, atom_placed 2 entries)
-    by_order None = rising_neighbours (drawn_neighbours table x)
+ordered_neighbours table x = neighbours_by (order_for x table.props) (drawn_neighbours table x)
+
+-- the slot of atom x by the links and the labels that stand there, and its neighbours in their order
+abbrev pub slot_with : ℕ → List LinkEntry → List ℤ → ℕ × ℕ → Option Slot
+slot_with x (link ∷ links) labels both = Some (Link x (natural link.most) (natural link.from) (natural link.to))
+slot_with x [] (label ∷ labels) both = Some (Site x (byte label) both.0 both.1)
+slot_with x [] [] both = None
 
 -- the slot of atom x, where it has one: the link that stands there, or the site of its label
 abbrev pub slot_at : RawTable → ℕ → Option Slot
-slot_at table x = by_link (links_at table x) (labels_at table x)
-  where
-    by_link : List LinkEntry → List ℤ → Option Slot
-    by_link (link ∷ links) labels = Some (Link x (natural link.most) (natural link.from) (natural link.to))
-    by_link [] (label ∷ labels) = let both = ordered_neighbours table x in Some (Site x (byte label) both.0 both.1)
-    by_link [] [] = None
+slot_at table x = slot_with x (links_at table x) (labels_at table x) (ordered_neighbours table x)
+
+-- the slot, where there is one
+abbrev pub slots_in : Option Slot → List Slot
+slots_in None = []
+slots_in (Some slot) = slot ∷ []
 
 -- the slots of some atoms, in order
 abbrev pub slots_at : RawTable → List ℕ → List Slot
 slots_at table [] = []
-slots_at table (x ∷ atoms) = put (slot_at table x) (slots_at table atoms)
-  where
-    put : Option Slot → List Slot → List Slot
-    put (Some slot) later = slot ∷ later
-    put None later = later
+slots_at table (x ∷ atoms) = slots_in (slot_at table x) ++ slots_at table atoms
 
 -- the numbers of a table's atoms
 abbrev pub atoms_of : RawTable → List ℕ
@@ -187,14 +192,15 @@ pub record IsTemplateOf (table : RawTable) (template : TemplateView) : Type 0 wh
 
 -- ---- groups
 
+-- the `M  LOG` of group g that a property is, or the later one
+abbrev pub logic_of : ℕ → Property → Option LogicLine → Option LogicLine
+logic_of g (kinds.Logic logic) later = if natural logic.group == g then Some logic else later
+logic_of g other later = later
+
 -- the first `M  LOG` of group g
 abbrev pub logic_for : ℕ → List Property → Option LogicLine
 logic_for g [] = None
-logic_for g (property ∷ props) = first property (logic_for g props)
-  where
-    first : Property → Option LogicLine → Option LogicLine
-    first (kinds.Logic logic) later = if natural logic.group == g then Some logic else later
-    first other later = later
+logic_for g (property ∷ props) = logic_of g property (logic_for g props)
 
 -- What an `M  LOG` says of its group. Without one there is no THEN group, no rest hydrogen, and the range of a blank text.
 abbrev pub IsLogicOf : Option LogicLine → Group → Type 0

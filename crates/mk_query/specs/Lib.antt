@@ -4,7 +4,10 @@ pub mod CompileFaults
 pub mod Compiled
 pub mod Drawn
 pub mod FirstFault
+pub mod GroupMarks
+pub mod KindMarks
 pub mod LastValues
+pub mod ListMarks
 pub mod LinkChecks
 pub mod LinkMarks
 pub mod LinkSearch
@@ -12,10 +15,15 @@ pub mod LogicSearch
 pub mod Marks
 pub mod OrderSearch
 pub mod OwnSizes
+pub mod Passed
 pub mod PointFits
 pub mod PointSearch
 pub mod Recursion
 pub mod RootSizes
 pub mod Searches
 pub mod SiteChecks
+pub mod SlotMarks
 pub mod Standings
+pub mod TableWalk
+pub mod TemplateMarks
+pub mod TestMarks

@@ -50,7 +50,7 @@ fn is_query_word(symbol: &[u8]) -> bool
         || is_word(symbol, b"R#")
 }
 
-fn is_word(symbol: &[u8], word: &[u8]) -> bool
+pub fn is_word(symbol: &[u8], word: &[u8]) -> bool
     ensures { IsTrue result ↔ symbol.now ≡ word.now }
 {
     symbol == word

@@ -11,17 +11,25 @@
 #![tactic(auto)]
 
 mod atom_checks;
+mod atom_kinds;
+mod atom_notes;
+mod atom_tests;
 mod blocks;
 mod bond_checks;
 mod checking;
+mod compile_fault;
+mod compiling;
 mod drawn;
 mod drawn_bonds;
+mod element_kinds;
 mod link_ends;
 #[cfg(test)]
 mod link_tests;
 mod linked;
 mod linked_atoms;
 mod links;
+mod list_place;
+mod list_places;
 mod lists;
 mod logic_lines;
 mod marks;
@@ -30,19 +38,31 @@ mod own_sizes;
 mod point_fits;
 mod points;
 mod property_checks;
+mod query_groups;
 mod recursion;
 mod root_sizes;
+mod site_ends;
+mod site_orders;
 #[cfg(test)]
 mod site_tests;
 mod sites;
 mod standing;
 mod standing_atoms;
 mod table_faults;
+mod table_walk;
+mod template_points;
+mod template_slots;
+#[cfg(test)]
+mod template_tests;
+mod templates;
 #[cfg(test)]
 mod tests;
 mod values;
+mod whole_checks;
 
 pub use checking::first_fault;
+pub use compile_fault::CompileFault;
+pub use compiling::compile;
 pub use mk_text::Memory;
 pub use point_fits::{SitePlace, first_misfit};
 pub use recursion::first_recursive;

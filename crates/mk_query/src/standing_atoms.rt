@@ -64,7 +64,7 @@ pub fn bears(standing: &Standing, p: u32, x: u32) -> bool
     gives_point(standing.points[x as usize - 1], p)
 }
 
-fn gives_point(value: i32, p: u32) -> bool
+pub fn gives_point(value: i32, p: u32) -> bool
     ensures { result ≡ gives_point p value }
 {
     value >= 0 && (natural(value) == p || value == 3)

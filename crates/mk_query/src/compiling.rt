@@ -1,0 +1,47 @@
+// The query of a raw query.
+ghost use Rattle.std.specs.Prelude.{◌≡◌, ◌<◌, ◌+◌, ◌^◌, IfOk};
+ghost use Rattle.mk_rgfile.specs.QueryFacts.{IsRawQuery, member_count};
+ghost use Rattle.mk_query.specs.declared.compile_fault.CompileFault.TheVariants as compile_fault;
+ghost use Rattle.mk_query.specs.Compiled.{IsQueryOf};
+ghost use Rattle.mk_query.specs.CompileFaults.{IfFault, IsFirstCompileFault};
+ghost use Rattle.mk_query.specs.TableWalk.{HaveFewProperties};
+
+use crate::compile_fault::{CompileFault, FaultAt};
+use crate::query_groups::groups_of;
+use crate::table_walk::{first_in_tables, templates_of};
+use crate::whole_checks::first_across;
+use mk_model::Query;
+use mk_rgfile::RawQuery;
+use std::alloc::Global;
+
+/// The query that a raw query means, or the first check that it fails. Tables count from 0: the root, then the members in the order
+/// of the file.
+pub fn compile(alloc: Global, raw: &RawQuery) -> Result<Query, CompileFault>
+    requires raw { IsRawQuery raw.now }
+    requires few_members { member_count raw.now + 1 < 2 ^ 32 }
+    requires few_properties { HaveFewProperties raw.now }
+
+    ensures query { IfOk result (IsQueryOf raw.now) }
+
+    ensures fault { IfFault result (IsFirstCompileFault raw.now) }
+{
+    if let Some(fault) = first_in_tables(alloc, raw)? {
+        return Err(named(fault));
+    }
+    let templates = templates_of(alloc, raw)?;
+    let groups = groups_of(alloc, raw)?;
+    if let Some(fault) = first_across(alloc, raw, &templates, &groups)? {
+        return Err(named(fault));
+    }
+    Ok(Query::of(templates, groups))
+}
+
+fn named(fault: FaultAt) -> CompileFault
+    ensures { result ≡ compile_fault.Check fault.check fault.table fault.item }
+{
+    CompileFault::Check {
+        check: fault.check,
+        table: fault.table,
+        item: fault.item,
+    }
+}

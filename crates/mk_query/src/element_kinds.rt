@@ -1,0 +1,96 @@
+// The kinds of atoms that lists of elements tell.
+ghost use Rattle.std.specs.Prelude.{◌≡◌, pos, All, IfOk, map};
+ghost use Rattle.mk_elements.specs.Symbols.{Names};
+ghost use Rattle.mk_ctab.specs.Numbers.{IsWithin, natural};
+ghost use Rattle.mk_query.specs.Checks.{IsElementName};
+ghost use Rattle.mk_query.specs.Compiled.{NameElements};
+ghost use Rattle.mk_query.specs.Drawn.{by_numbers};
+ghost use Rattle.mk_query.specs.KindMarks.{AreKnownAt, AreKnownIn, IsKindAt, IsKindBy, IsKindIn, kind_with};
+
+use crate::list_place::ListPlace;
+use mk_ctab::{RawList, RawTable, natural};
+use mk_elements::number_of;
+use mk_model::{Elements, Kind};
+use mk_props::{Property, Symbols};
+use mk_text::Memory;
+use std::alloc::Global;
+
+/// The kind that the list at a place tells, where there is one.
+pub fn listed_kind(alloc: Global, table: &RawTable, place: ListPlace) -> Result<Kind, Memory>
+    requires { AreKnownAt table.now.lists table.now.props place }
+    ensures { IfOk result (IsKindAt table.now.lists table.now.props place) }
+{
+    match place {
+        ListPlace::Nothing => Ok(Kind::Anything),
+        ListPlace::Line(i) => line_kind(alloc, &table.lists.as_slice()[i]),
+        ListPlace::Property(i) => property_kind(alloc, &table.props.as_slice()[i]),
+    }
+}
+
+// The kind that an atom-list line tells.
+fn line_kind(alloc: Global, list: &RawList) -> Result<Kind, Memory>
+    requires { All (IsWithin (pos 1) (pos 118)) list.now.numbers }
+    ensures { IfOk result (IsKindIn (by_numbers list.now)) }
+{
+    let elements = numbered_elements(alloc, list.numbers.as_slice())?;
+    Ok(kind_with(list.not, elements))
+}
+
+// The kind that a property tells, where it is a list.
+fn property_kind(alloc: Global, property: &Property) -> Result<Kind, Memory>
+    requires { AreKnownIn property.now }
+    ensures { IfOk result (IsKindBy property.now) }
+{
+    if let Property::List(list) = property {
+        let elements = named_elements(alloc, &list.symbols)?;
+        return Ok(kind_with(list.not, elements));
+    }
+    Ok(Kind::Anything)
+}
+
+fn kind_with(not: bool, elements: Elements) -> Kind
+    ensures { result ≡ kind_with not elements }
+{
+    if not {
+        Kind::NoneOf(elements)
+    } else {
+        Kind::OneOf(elements)
+    }
+}
+
+fn numbered_elements(alloc: Global, numbers: &[i32]) -> Result<Elements, Memory>
+    requires { All (IsWithin (pos 1) (pos 118)) numbers.now }
+    ensures { IfOk result (λ elements. elements ≡ map natural numbers.now) }
+{
+    let mut elements = Elements::new(alloc);
+    for i in 0..numbers.len() {
+        elements.push(numbered_element(&numbers[i]))?;
+    }
+    Ok(elements)
+}
+
+fn numbered_element(number: &i32) -> u8
+    requires { IsWithin (pos 1) (pos 118) number.now }
+    ensures { result ≡ natural number.now }
+{
+    let z = *number;
+    z as u8
+}
+
+fn named_elements(alloc: Global, symbols: &Symbols) -> Result<Elements, Memory>
+    requires { All IsElementName symbols.now }
+    ensures { IfOk result (NameElements symbols.now) }
+{
+    let mut elements = Elements::new(alloc);
+    for i in 0..symbols.count() {
+        elements.push(named_element(symbols.symbol(i)))?;
+    }
+    Ok(elements)
+}
+
+fn named_element(symbol: &[u8]) -> u8
+    requires { IsElementName symbol.now }
+    ensures { Names symbol.now result }
+{
+    number_of(symbol).unwrap()
+}

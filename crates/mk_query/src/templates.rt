@@ -1,0 +1,26 @@
+// The template of a table.
+ghost use Rattle.std.specs.Prelude.{◌≤◌, IfOk, length};
+ghost use Rattle.mk_query.specs.Compiled.{IsTemplateOf};
+ghost use Rattle.mk_query.specs.Passed.{HasPassed};
+
+use crate::atom_tests::tests_of;
+use crate::drawn_bonds::query_bonds_of;
+use crate::template_points::points_of;
+use crate::template_slots::slots_of;
+use mk_ctab::RawTable;
+use mk_model::Template;
+use mk_text::Memory;
+use std::alloc::Global;
+
+/// The template of a table that passed its checks.
+pub fn template_of(alloc: Global, table: &RawTable) -> Result<Template, Memory>
+    requires few { length table.now.atoms ≤ 999 }
+    requires passed { HasPassed table.now }
+    ensures { IfOk result (IsTemplateOf table.now) }
+{
+    let atoms = tests_of(alloc, table)?;
+    let bonds = query_bonds_of(alloc, table.bonds.as_slice())?;
+    let slots = slots_of(alloc, table)?;
+    let points = points_of(alloc, table)?;
+    Ok(Template::of(atoms, bonds, slots, points))
+}
