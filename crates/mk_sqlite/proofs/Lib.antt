@@ -1,0 +1,2 @@
+pub mod FailsLemmas
+pub mod StoredLemmas

@@ -1,0 +1,179 @@
+// A file that is written and read again, and rows that are none of ours.
+ghost use Rattle.std.specs.Prelude.{IfOk};
+ghost use Rattle.std.specs.Str.{IsAscii};
+ghost use Rattle.mk_outside.specs.Tables.{CanKeep};
+
+use crate::SqlKeeper;
+use mk_outside::{Bytes, Change, KeepFail, Keeper, Place, SureKeeper, Tables};
+use sqlite::Connection;
+use std::alloc::{AllocError, Global};
+use std::fs;
+use std::test::Fail;
+
+// Tables and rows that stand in a database before it is loaded.
+static STRANGE: [(&str, &str); 5] = [
+    (
+        "a place of five bytes",
+        "CREATE TABLE cursors(number INTEGER PRIMARY KEY, name TEXT NOT NULL, place BLOB NOT NULL) STRICT;
+        INSERT INTO cursors VALUES (1, 'q', x'0000000100')",
+    ),
+    (
+        "a number below 0",
+        "CREATE TABLE records(number INTEGER PRIMARY KEY, text BLOB NOT NULL) STRICT;
+        INSERT INTO records VALUES (-1, x'61')",
+    ),
+    (
+        "a number of 33 bits",
+        "CREATE TABLE records(number INTEGER PRIMARY KEY, text BLOB NOT NULL) STRICT;
+        INSERT INTO records VALUES (4294967296, x'61')",
+    ),
+    (
+        "text in a blob's place",
+        "CREATE TABLE records(number INTEGER PRIMARY KEY, text BLOB NOT NULL);
+        INSERT INTO records VALUES (1, 'a')",
+    ),
+    (
+        "a next number below 0",
+        "CREATE TABLE nexts(which INTEGER PRIMARY KEY, value INTEGER NOT NULL) STRICT;
+        INSERT INTO nexts VALUES (2, -1)",
+    ),
+];
+
+fn text(alloc: Global, bytes: &[u8]) -> Result<Bytes, AllocError> {
+    Ok(Bytes::of(Vec::from_slice(alloc, bytes)?))
+}
+
+// The name of all rows.
+fn name(alloc: Global) -> Result<Bytes, AllocError>
+    ensures { IfOk result IsAscii }
+{
+    Ok(Bytes::of(Vec::from_slice(alloc, b"q")?))
+}
+
+fn record(alloc: Global, bytes: &[u8]) -> Result<Change, AllocError>
+    ensures { IfOk result CanKeep }
+{
+    let text = text(alloc, bytes)?;
+    Ok(Change::PutRecord { number: 3, text })
+}
+
+fn query(alloc: Global) -> Result<Change, AllocError>
+    ensures { IfOk result CanKeep }
+{
+    let name = name(alloc)?;
+    let text = text(alloc, b"t")?;
+    Ok(Change::PutQuery {
+        number: 2,
+        name,
+        text,
+    })
+}
+
+fn cursor(alloc: Global) -> Result<Change, AllocError>
+    ensures { IfOk result CanKeep }
+{
+    let name = name(alloc)?;
+    let place = Place::of(Vec::from_slice(alloc, &[1, 258, 4_294_967_295])?);
+    Ok(Change::PutCursor {
+        number: 7,
+        name,
+        place,
+    })
+}
+
+fn digit(number: u32) -> u8 {
+    b'0' + (number % 10) as u8
+}
+
+fn show_cursors(tables: &Tables, shown: &mut Vec<u8>) -> Result<(), AllocError> {
+    for row in tables.cursors.as_slice() {
+        shown.push(digit(row.number))?;
+        shown.extend_from_slice(row.name.as_slice())?;
+        for number in row.place.as_slice() {
+            shown.push(digit(*number))?;
+        }
+    }
+    Ok(())
+}
+
+fn shown(alloc: Global, tables: &Tables) -> Result<Vec<u8>, AllocError> {
+    let mut shown = Vec::new(alloc);
+    for row in tables.records.as_slice() {
+        shown.push(digit(row.number))?;
+        shown.extend_from_slice(row.text.as_slice())?;
+    }
+    for row in tables.queries.as_slice() {
+        shown.push(digit(row.number))?;
+        shown.extend_from_slice(row.name.as_slice())?;
+        shown.extend_from_slice(row.text.as_slice())?;
+    }
+    show_cursors(tables, &mut shown)?;
+    shown.push(digit(tables.next_record))?;
+    shown.push(digit(tables.next_cursor))?;
+    Ok(shown)
+}
+
+// Whether both batches were made.
+fn put_all<K: Keeper>(keeper: &mut K, alloc: Global) -> Result<bool, AllocError> {
+    let first = record(alloc, b"ab")?;
+    let query = query(alloc)?;
+    let cursor = cursor(alloc)?;
+    if keeper.commit(alloc, &[first, query, cursor]).is_err() {
+        return Ok(false);
+    }
+    let second = record(alloc, b"c")?;
+    let dropped = Change::DropRecord { number: 8 };
+    Ok(keeper.commit(alloc, &[second, dropped]).is_ok())
+}
+
+// What is loaded. Nothing where that fails.
+fn loaded<K: Keeper>(keeper: &mut K, alloc: Global) -> Result<Vec<u8>, AllocError> {
+    match keeper.load(alloc) {
+        Ok(tables) => shown(alloc, &tables),
+        Err(_) => Ok(Vec::new(alloc)),
+    }
+}
+
+fn kept_in_memory(alloc: Global) -> Result<Vec<u8>, AllocError> {
+    let mut keeper = SureKeeper::new(Tables::new(alloc));
+    put_all(&mut keeper, alloc)?;
+    loaded(&mut keeper, alloc)
+}
+
+fn kept_in_file(rt: &HostRuntime) -> Result<Vec<u8>, AllocError> {
+    let mut keeper = SqlKeeper::at(rt, "kept.db");
+    let put = put_all(&mut keeper, rt.alloc())?;
+    drop(keeper);
+    let mut keeper = SqlKeeper::at(rt, "kept.db");
+    let kept = loaded(&mut keeper, rt.alloc())?;
+    Ok(if put { kept } else { Vec::new(rt.alloc()) })
+}
+
+#[test]
+fn a_file_keeps_what_memory_keeps(rt: HostRuntime) -> Result<(), Fail> {
+    let kept = kept_in_file(&rt)?;
+    fs::remove_file(&rt, "kept.db")?;
+    fs::remove_file(&rt, "kept.db-wal")?;
+    assert!(rt; kept.as_slice() == b"3c2qt7q18548".as_slice());
+    assert!(rt; kept == kept_in_memory(rt.alloc())?);
+    Ok(())
+}
+
+fn fails_to_load(alloc: Global, before: &str) -> Result<bool, AllocError> {
+    let mut connection = Connection::open_in_memory(alloc)?;
+    if connection.execute_batch(before).is_err() {
+        return Ok(false);
+    }
+    let mut keeper = SqlKeeper::over(connection);
+    Ok(matches!(keeper.load(alloc), Err(KeepFail::Failed)))
+}
+
+#[test]
+fn strange_rows_fail(rt: HostRuntime) -> Result<(), Fail> {
+    for (name, before) in STRANGE.iter() {
+        assert!(rt; fails_to_load(rt.alloc(), before)?, "{name}");
+    }
+    let mut shut = SqlKeeper::at(&rt, ":memory:");
+    assert!(rt; matches!(shut.load(rt.alloc()), Err(KeepFail::Failed)));
+    Ok(())
+}
