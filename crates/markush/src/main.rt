@@ -37,7 +37,14 @@ fn run(rt: HostRuntime, words: &[String]) -> Status {
     let mut input = StdSource::new(&rt);
     let mut output = StdSink::new(&rt);
     let mut keeper = SureKeeper::new(Tables::new(alloc));
-    top(alloc, words, &mut files, &mut input, &mut output, &mut keeper)
+    top(
+        alloc,
+        words,
+        &mut files,
+        &mut input,
+        &mut output,
+        &mut keeper,
+    )
 }
 
 // How the program ends after a run.
