@@ -11,6 +11,7 @@ pub mod FitsPointLemmas
 pub mod FitsSlotLemmas
 pub mod FitsTestLemmas
 pub mod FollowLemmas
+pub mod ForCallers
 pub mod GroupLemmas
 pub mod KindLemmas
 pub mod LabelLemmas

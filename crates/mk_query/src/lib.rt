@@ -1,13 +1,11 @@
-//! Queries: whether they can be meant. So far the checks Q1 to Q10 of one table stand, and of the checks across the tables of a
-//! query Q11 to Q13, on its templates and groups.
+//! Queries: from the tables of a query file to the query that they mean, or to the first check that they fail.
 //!
-//! Callers use two promises. `first_fault` gives the first check that a table fails, with its least atom, bond or property, and None
-//! exactly where the table passes (`FindsFirst` in `specs/FirstFault.antt` over the demands of `specs/Checks.antt`, `SiteChecks.antt`
-//! and `LinkChecks.antt`; told in docs/FORMAT.md, "The checks of a query"). `first_recursive`, `first_misfit` and `is_small` give the
-//! first template that uses itself, the first site that its members don't fit, and whether the root's size is at most 512
-//! (`specs/CompileFaults.antt`).
+//! Callers use two promises. `compile` gives exactly the query of a raw query (`IsQueryOf` in `specs/Compiled.antt`), or exactly its
+//! first fault (`IsFirstCompileFault` in `specs/CompileFaults.antt`). `first_fault` gives the first check that one table fails, and
+//! None exactly where it passes (`FindsFirst` in `specs/FirstFault.antt`). The checks are told in docs/FORMAT.md, "The checks of a
+//! query".
 //!
-//! What any table has to keep stands in mk_ctab. What a query means isn't said here.
+//! What any table has to keep stands in mk_ctab. Which molecules a query finds isn't said here.
 #![tactic(auto)]
 
 mod atom_checks;
@@ -18,6 +16,8 @@ mod blocks;
 mod bond_checks;
 mod checking;
 mod compile_fault;
+#[cfg(test)]
+mod compile_tests;
 mod compiling;
 mod drawn;
 mod drawn_bonds;

@@ -1,22 +1,43 @@
 // The template of a table with a list, a link, a site and an attachment point.
-ghost use Rattle.std.specs.Prelude.{◌<◌, length};
-ghost use Rattle.mk_ctab.specs.TableFacts.{IsRawTable};
-
-use crate::checking::first_fault;
-use crate::templates::template_of;
-use mk_ctab::{RawTable, read_table};
+use crate::compile_tests::query_of;
 use mk_model::{Kind, QueryBond, Slot, Template};
-use mk_text::lines;
-use std::alloc::Global;
 use std::test::Fail;
 
 // Atom 1 is in a list of chlorine and bromine and bears point 1, atom 2 is a link, and atom 4 a site of group 7 with an order.
-const TABLE: &str =
-    "  4  3\n                               L\n                               C\n                               N   0  0  0  1\n                               R#\n  1  2  1\n  2  3  1\n  3  4  6  0  0  2\nM  ALS   1  2 F Cl  Br  \nM  LIN  1   2   3   1   3\nM  RGP  1   4   7\nM  AAL   4  1   3   1\nM  APO  1   1   1\nM  CHG  1   3   1\nM  RBC  1   3  -1\nM  END\n";
+// So the table stands as the one member of the root's site, and group 7 has a member of one atom.
+const TEXT: &str = concat!(
+    "$MDL\n$MOL\n$HDR\n\n\n\n$END HDR\n",
+    "$CTAB\n  2  1\n                               C\n                               R#\n  1  2  1\nM  RGP  1   2   1\nM  END\n$END CTAB\n",
+    "$RGP\n  1\n$CTAB\n",
+    "  4  3\n",
+    "                               L\n",
+    "                               C\n",
+    "                               N   0  0  0  1\n",
+    "                               R#\n",
+    "  1  2  1\n",
+    "  2  3  1\n",
+    "  3  4  6  0  0  2\n",
+    "M  ALS   1  2 F Cl  Br  \n",
+    "M  LIN  1   2   3   1   3\n",
+    "M  RGP  1   4   7\n",
+    "M  AAL   4  1   3   1\n",
+    "M  APO  1   1   1\n",
+    "M  CHG  1   3   1\n",
+    "M  RBC  1   3  -1\n",
+    "M  END\n",
+    "$END CTAB\n$END RGP\n",
+    "$RGP\n  7\n$CTAB\n  1  0\n                               F\nM  APO  1   1   1\nM  END\n$END CTAB\n$END RGP\n",
+    "$END MOL\n",
+);
 
 #[test]
 fn gives_a_template(rt: HostRuntime) -> Result<(), Fail> {
-    let template = template_of_text(rt.alloc(), TABLE)?;
+    let query = match query_of(rt.alloc(), TEXT.as_bytes())? {
+        Ok(query) => query,
+        Err(_) => return Err(Fail::from("no query")),
+    };
+    assert!(rt; query.templates().len() == 3);
+    let template = &query.templates()[1];
     let link = Slot::Link {
         atom: 2,
         most: 3,
@@ -38,26 +59,8 @@ fn gives_a_template(rt: HostRuntime) -> Result<(), Fail> {
     assert!(rt; template.slots() == [link, site].as_slice());
     assert!(rt; template.points() == [1].as_slice());
     assert!(rt; template.bonds().last() == Some(&last));
-    assert!(rt; has_tests(&template));
+    assert!(rt; has_tests(template));
     Ok(())
-}
-
-fn template_of_text(alloc: Global, text: &str) -> Result<Template, Fail> {
-    let spans = lines(alloc, text.as_bytes())?;
-    match read_table(alloc, text.as_bytes(), &spans, 0) {
-        Ok((table, _)) if table.props.as_slice().len() < 100 => passed(alloc, &table),
-        _ => Err(Fail::from("no table")),
-    }
-}
-
-fn passed(alloc: Global, table: &RawTable) -> Result<Template, Fail>
-    requires kept { IsRawTable table.now }
-    requires few { length table.now.props < 100 }
-{
-    match first_fault(alloc, &[], false, table)? {
-        Some(_) => Err(Fail::from("a fault")),
-        None => Ok(template_of(alloc, table)?),
-    }
 }
 
 // The kinds of the atoms, and what else the third and the fourth ask.
