@@ -4,11 +4,14 @@ pub mod QueryGraphLemmas
 pub mod MatchLemmas
 pub mod SeekingLemmas
 pub mod StoredRowsLemmas
+pub mod OpeningLemmas
+pub mod LoadingLemmas
 pub mod TurnLemmas
 pub mod RunningLemmas
 pub mod ReadingLemmas
 pub mod AnsweredLemmas
 pub mod HeadlineLemmas
 pub mod JoinLemmas
+pub mod OneEditLemmas
 pub mod OneRunLemmas
 pub mod CommandPartsLemmas

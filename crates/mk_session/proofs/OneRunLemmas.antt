@@ -45,6 +45,10 @@ use Rattle.mk_session.specs.Records.{IsRemove, IsShow, NoRecordRemoved, NoRecord
 use Rattle.mk_session.specs.Run.{Commands, Does, IsOneLine, NotUnderstood, OneLine, ScriptLong, BadStore, bad_store_text}
 use Rattle.mk_session.specs.StoredRows.{AllRead}
 use Rattle.mk_session.proofs.StoredRowsLemmas.{one_first_bad, reads_not_bad}
+use Rattle.mk_library.specs.Edits.{Load}
+use Rattle.mk_session.specs.Loading.{loaded_text}
+use Rattle.mk_session.proofs.LoadingLemmas.{text_is_held}
+use Rattle.mk_session.proofs.OneEditLemmas.{long_not_read, one_edited, one_reading, one_replace}
 use Rattle.mk_session.proofs.QueryGraphLemmas.{before_through}
 
 -- ---- bonds in order
@@ -185,19 +189,6 @@ one_graph laws table a b p q =
     one_order (bare_bonds a.bonds) (bare_bonds b.bonds) (order_bare a.bonds p.kept.sketch.order) (order_bare b.bonds q.kept.sketch.order) (bare_are_in table a b p q) (bare_are_in table b a q p) in
     same_graph a b (p.atoms ∙ sym q.atoms) (laws.marks a.bonds b.bonds p.kept.marks q.kept.marks bare)
 
--- ---- files
-
-module _ (look : Look) (name : List ℕ) (most : ℕ) where
-  -- a file that is read has one text
-  one_reading : (bytes others : List ℕ) → IsShort (Some look) most name bytes → IsShort (Some look) most name others → bytes ≡ others
-  one_reading bytes others p q = let f = p.told in let g = q.told in cc
-
-  -- a file that is too long isn't read
-  long_not_read : (bytes : List ℕ) → IsLong (Some look) most name → IsShort (Some look) most name bytes → ⊥
-  long_not_read bytes p q =
-      let same : p.bytes ≡ bytes = (let f = p.told in let g = q.told in cc) in
-      omega (arith, p.long, q.short, ap length same)
-
 -- ---- the query's file
 
 -- a plain file has one table
@@ -231,7 +222,7 @@ one_held_table laws table (Molecule mol) (Refused line) p q = absurd (laws.no_fa
 one_held_table laws table (Refused line) (Molecule mol) p q = absurd (laws.no_fault table p.0 p.1 q.0 p.2)
 one_held_table laws table (Refused line) (Refused other) p q =
     let same = laws.fault table p.0 p.1 q.0 q.1 p.2 q.2 in
-    ap Refused (p.3 ∙ ap (λ (check : ℕ). check_text check p.1) same.0 ∙ ap (λ (item : ℕ). check_text q.0 item) same.1 ∙ sym q.3)
+    ap Refused (p.3 ∙ ap (λ (check : ℕ). check_text 1 check p.1) same.0 ∙ ap (λ (item : ℕ). check_text 1 q.0 item) same.1 ∙ sym q.3)
 
 -- records come to one thing
 one_made : HasLaws → (records : List RawRecord) (a b : Held) → IsHeldOf records a → IsHeldOf records b → a ≡ b
@@ -395,23 +386,23 @@ one_match laws look query molecules a b p q =
 
 one_show : (t : Tables) (n : ℕ) (a b : Effect) → IsShow t n a → IsShow t n b → a ≡ b
 one_show t n a b (NoRecordShown none is) (NoRecordShown none' is') = is ∙ sym is'
-one_show t n a b (NoRecordShown none is) (Shows text held is') = let h = sym none ∙ held in absurd cc
-one_show t n a b (Shows text held is) (NoRecordShown none is') = let h = sym none ∙ held in absurd cc
+one_show t n a b (NoRecordShown none is) (Shows text held is') = let h = sym none ∙ text_is_held n t.records text held in absurd cc
+one_show t n a b (Shows text held is) (NoRecordShown none is') = let h = sym none ∙ text_is_held n t.records text held in absurd cc
 one_show t n a b (Shows text held is) (Shows other held' is') = let h = sym held ∙ held' in let same : text ≡ other = cc in cc
 
 one_remove : (t : Tables) (n : ℕ) (a b : Effect) → IsRemove t n a → IsRemove t n b → a ≡ b
 one_remove t n a b (NoRecordRemoved none is) (NoRecordRemoved none' is') = is ∙ sym is'
-one_remove t n a b (NoRecordRemoved none is) (Removes text held is') = let h = sym none ∙ held in absurd cc
-one_remove t n a b (Removes text held is) (NoRecordRemoved none is') = let h = sym none ∙ held in absurd cc
-one_remove t n a b (Removes text held is) (Removes other held' is') = is ∙ sym is'
+one_remove t n a b (NoRecordRemoved none is) (Removes held is') = let h = sym none ∙ held in absurd cc
+one_remove t n a b (Removes held is) (NoRecordRemoved none is') = let h = sym none ∙ held in absurd cc
+one_remove t n a b (Removes held is) (Removes held' is') = is ∙ sym is'
 
 -- ---- all commands
 
 pub one_effect : HasLaws → OneEffect
 one_effect laws look t None a b p q = p ∙ sym q
 one_effect laws look t (Some (variant.Match query molecules)) a b p q = one_match laws look query molecules a b p q
-one_effect laws look t (Some (variant.Load file)) a b p q = p ∙ sym q
-one_effect laws look t (Some (variant.Replace number file)) a b p q = p ∙ sym q
+one_effect laws look t (Some (variant.Load file)) a b p q = one_edited laws.sdfile laws.one_bad laws.fault laws.no_fault look t file Load (loaded_text t.next_record) a b p q
+one_effect laws look t (Some (variant.Replace number file)) a b p q = one_replace laws.sdfile laws.one_bad laws.fault laws.no_fault look t number file a b p q
 one_effect laws look t (Some (variant.Remove number)) a b p q = one_remove t number a b p q
 one_effect laws look t (Some (variant.Query name file)) a b p q = p ∙ sym q
 one_effect laws look t (Some (variant.Forget name)) a b p q = p ∙ sym q

@@ -2,16 +2,19 @@
 --     reads_not_bad       where each row reads there is no first that doesn't
 --     one_first_bad       there is at most one
 --     judged_rows         what the first rows of each kind say
-use Rattle.std.proofs.Common.{◌≡◌, ℕ, List, [], ◌∷◌, ◌++◌, append_assoc, refl, sym, ap, ◌∙◌, subst, arith}
-use Rattle.std.specs.Prelude.{Contains}
+use Rattle.std.proofs.Common.{◌≡◌, ℕ, suc, inl, inr, List, [], ◌∷◌, ◌++◌, append_assoc, refl, sym, ap, ◌∙◌, subst, arith}
+use Rattle.std.specs.Prelude.{Contains, Some, slice_get}
+use Rattle.std.proofs.lemmas.Bool.Decides.{leb_tells}
 use Rattle.std.proofs.lemmas.List.{append-nil}
 use Rattle.mk_outside.specs.declared.tables.QueryRow.{QueryRow}
 use Rattle.mk_outside.specs.declared.tables.Tables.{Tables}
 use Rattle.mk_outside.specs.Tables.{cursor_number, query_number, record_number}
+use Rattle.mk_outside.specs.declared.tables.RecordRow.{RecordRow}
+use Rattle.mk_library.specs.StoredRows as library
 use Rattle.mk_session.specs.declared.stored_rows.RowKind.{RowKind}
 use Rattle.mk_session.specs.declared.stored_rows.RowKind.TheVariants.{Records, Queries, Cursors}
 use Rattle.mk_session.specs.Running.{IsFirstOf}
-use Rattle.mk_session.specs.StoredRows.{AllRead, EachReads, IsFirstBad, IsFirstBadRow, IsNamed, ReadsCursor, ReadsQuery, ReadsRecord, BadRecord, BadQuery, BadCursor}
+use Rattle.mk_session.specs.StoredRows.{AllRead, EachReads, IsFirstBad, IsFirstBadRow, IsNamed, ReadsCursor, ReadsQuery, RecordsRead, BadRecord, BadQuery, BadCursor}
 
 -- ---- rows of any kind
 
@@ -62,14 +65,35 @@ numbered : {R : Type 0} (Reads : List R → R → Type 0) (number : R → ℕ) (
     → IsFirstBadRow Reads rows row → IsFirstBadRow Reads rows bad → kind ≡ same → other ≡ same → n ≡ number row → m ≡ number bad → (kind ≡ other) × (n ≡ m)
 numbered Reads number rows row bad kind other same n m p q k o is is' = (k ∙ sym o, is ∙ ap number (one_first Reads rows row bad p q) ∙ sym is')
 
+-- where each record reads there is no first that doesn't
+read_not_bad : (next : ℕ) (rows : List RecordRow) (n : ℕ) → library.AllRead next rows → library.IsFirstBad next rows n → ⊥
+read_not_bad next rows n all bad = bad.fails (all bad.place bad.row bad.there)
+
+-- the first record that doesn't read has one number
+one_bad_record : (next : ℕ) (rows : List RecordRow) (n m : ℕ) → library.IsFirstBad next rows n → library.IsFirstBad next rows m → n ≡ m
+one_bad_record next rows n m p q = elim (leb_tells (suc p.place) q.place) [
+  | inl below ↦ absurd (p.fails (q.before p.place p.row (omega (arith, below.1)) p.there))
+  | inr above ↦ elim (leb_tells (suc q.place) p.place) [
+    | inl below ↦ absurd (q.fails (p.before q.place q.row (omega (arith, below.1)) q.there))
+    | inr other ↦ at_one_place (omega (arith, above.1, other.1))
+  ]
+]
+  where
+    at_one_place : q.place ≡ p.place → n ≡ m
+    at_one_place same =
+        let there : slice_get rows q.place ≡ Some p.row = ap (slice_get rows) same ∙ p.there in
+        let h = sym there ∙ q.there in
+        let one : p.row ≡ q.row = cc in
+        sym p.numbered ∙ ap record_number one ∙ q.numbered
+
 pub one_first_bad : (t : Tables) (kind other : RowKind) (n m : ℕ) → IsFirstBad t kind n → IsFirstBad t other m → (kind ≡ other) × (n ≡ m)
-one_first_bad t kind other n m (BadRecord row p k is) (BadRecord bad q o is') = numbered ReadsRecord record_number t.records row bad kind other Records n m p q k o is is'
-one_first_bad t kind other n m (BadRecord row p k is) (BadQuery records bad q o is') = absurd (each_not_bad ReadsRecord t.records row records p)
-one_first_bad t kind other n m (BadRecord row p k is) (BadCursor records queries bad q o is') = absurd (each_not_bad ReadsRecord t.records row records p)
-one_first_bad t kind other n m (BadQuery records row p k is) (BadRecord bad q o is') = absurd (each_not_bad ReadsRecord t.records bad records q)
+one_first_bad t kind other n m (BadRecord p k) (BadRecord q o) = (k ∙ sym o, one_bad_record t.next_record t.records n m p q)
+one_first_bad t kind other n m (BadRecord p k) (BadQuery records bad q o is') = absurd (read_not_bad t.next_record t.records n records p)
+one_first_bad t kind other n m (BadRecord p k) (BadCursor records queries bad q o is') = absurd (read_not_bad t.next_record t.records n records p)
+one_first_bad t kind other n m (BadQuery records row p k is) (BadRecord q o) = absurd (read_not_bad t.next_record t.records m records q)
 one_first_bad t kind other n m (BadQuery records row p k is) (BadQuery records' bad q o is') = numbered ReadsQuery query_number t.queries row bad kind other Queries n m p q k o is is'
 one_first_bad t kind other n m (BadQuery records row p k is) (BadCursor records' queries bad q o is') = absurd (each_not_bad ReadsQuery t.queries row queries p)
-one_first_bad t kind other n m (BadCursor records queries row p k is) (BadRecord bad q o is') = absurd (each_not_bad ReadsRecord t.records bad records q)
+one_first_bad t kind other n m (BadCursor records queries row p k is) (BadRecord q o) = absurd (read_not_bad t.next_record t.records m records q)
 one_first_bad t kind other n m (BadCursor records queries row p k is) (BadQuery records' bad q o is') = absurd (each_not_bad ReadsQuery t.queries bad queries q)
 one_first_bad t kind other n m (BadCursor records queries row p k is) (BadCursor records' queries' bad q o is') =
     numbered (ReadsCursor t) cursor_number t.cursors row bad kind other Cursors n m p q k o is is'
@@ -77,29 +101,25 @@ one_first_bad t kind other n m (BadCursor records queries row p k is) (BadCursor
 -- ---- tables
 
 pub reads_not_bad : (t : Tables) (kind : RowKind) (number : ℕ) → AllRead t → IsFirstBad t kind number → ⊥
-reads_not_bad t kind number all (BadRecord row bad is same) = each_not_bad ReadsRecord t.records row all.records bad
+reads_not_bad t kind number all (BadRecord bad is) = read_not_bad t.next_record t.records number all.records bad
 reads_not_bad t kind number all (BadQuery records row bad is same) = each_not_bad ReadsQuery t.queries row all.queries bad
 reads_not_bad t kind number all (BadCursor records queries row bad is same) = each_not_bad (ReadsCursor t) t.cursors row all.cursors bad
 
 -- ---- what the first rows say
 
 module _ (t : Tables) where
-  -- the first record is bad, since no record reads
-  pub of_record : (n : ℕ) → IsFirstOf record_number t.records n → IsFirstBad t Records n
-  of_record n first = BadRecord first.row (first_bad_row ReadsRecord record_number t.records n (λ _ never. never) first) refl first.is
-
-  pub of_query : (n : ℕ) → t.records ≡ [] → IsFirstOf query_number t.queries n → IsFirstBad t Queries n
-  of_query n records first = BadQuery (no_rows ReadsRecord t.records records) first.row (first_bad_row ReadsQuery query_number t.queries n (λ _ never. never) first) refl first.is
+  pub of_query : (n : ℕ) → RecordsRead t → IsFirstOf query_number t.queries n → IsFirstBad t Queries n
+  of_query n records first = BadQuery records first.row (first_bad_row ReadsQuery query_number t.queries n (λ _ never. never) first) refl first.is
 
   -- no name is held
   unnamed : (name : List ℕ) → t.queries ≡ [] → IsNamed t name → ⊥
   unnamed name none is = let h = subst (λ (rows : List QueryRow). Contains rows is.row) none is.held in omega (arith, h.1)
 
-  pub of_cursor : (n : ℕ) → t.records ≡ [] → t.queries ≡ [] → IsFirstOf cursor_number t.cursors n → IsFirstBad t Cursors n
+  pub of_cursor : (n : ℕ) → RecordsRead t → t.queries ≡ [] → IsFirstOf cursor_number t.cursors n → IsFirstBad t Cursors n
   of_cursor n records queries first =
-      BadCursor (no_rows ReadsRecord t.records records) (no_rows ReadsQuery t.queries queries) first.row
+      BadCursor records (no_rows ReadsQuery t.queries queries) first.row
       (first_bad_row (ReadsCursor t) cursor_number t.cursors n (λ row reads. unnamed row.name queries reads.name) first) refl first.is
 
-  pub of_none : t.records ≡ [] → t.queries ≡ [] → t.cursors ≡ [] → AllRead t
+  pub of_none : RecordsRead t → t.queries ≡ [] → t.cursors ≡ [] → AllRead t
   of_none records queries cursors =
-      record { records = no_rows ReadsRecord t.records records; queries = no_rows ReadsQuery t.queries queries; cursors = no_rows (ReadsCursor t) t.cursors cursors }
+      record { records = records; queries = no_rows ReadsQuery t.queries queries; cursors = no_rows (ReadsCursor t) t.cursors cursors }

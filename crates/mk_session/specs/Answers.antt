@@ -3,7 +3,7 @@
 --     bad_line_text k             the refusal of a molecules' file at its first bad line
 --     v3000_text k                the same where that line says V3000
 --     records_text k              the refusal of a molecules' file of k records, where k isn't 1
---     check_text check item       the refusal of a record at the first check that fails
+--     check_text record check item    the refusal of a record at the first check that fails
 --     long_query_text .. long_molecules_text      the answers that are one line
 use Rattle.std.specs.Prelude.{ℕ, List, ◌∷◌, ◌++◌, length, nat_lt, codes, decimal, if◌then◌else◌}
 use Rattle.std.specs.List.{flat_map}
@@ -19,6 +19,9 @@ unbuilt_text = codes "refused 12 unbuilt\n"
 abbrev pub long_molecules_text : List ℕ
 long_molecules_text = codes "refused 4 molecules\n"
 
+abbrev pub full_text : List ℕ
+full_text = codes "refused 5 library full\n"
+
 -- ---- refusals
 
 abbrev pub bad_line_text : ℕ → List ℕ
@@ -30,8 +33,9 @@ v3000_text k = codes "refused 2 molecules v3000 line " ++ (decimal k ++ codes "\
 abbrev pub records_text : ℕ → List ℕ
 records_text k = codes "refused 11 records " ++ (decimal k ++ codes "\n")
 
-abbrev pub check_text : ℕ → ℕ → List ℕ
-check_text check item = codes "refused 3 molecules record 1 check V" ++ (decimal check ++ (codes " item " ++ (decimal item ++ codes "\n")))
+abbrev pub check_text : ℕ → ℕ → ℕ → List ℕ
+check_text record_number check item =
+    codes "refused 3 molecules record " ++ (decimal record_number ++ (codes " check V" ++ (decimal check ++ (codes " item " ++ (decimal item ++ codes "\n")))))
 
 -- ---- hits
 

@@ -80,6 +80,8 @@ pub data IsRow (words : List (List ℕ)) (command : Command) : Type 0 where
 -- The commands that are built. Any other row is no command so far.
 abbrev pub is_built : Command → Bool
 is_built (variant.Match query molecules) = true
+is_built (variant.Load file) = true
+is_built (variant.Replace number file) = true
 is_built (variant.Remove number) = true
 is_built (variant.Show number) = true
 is_built variant.List = true

@@ -10,6 +10,7 @@ pub mod Effects
 pub mod Match
 pub mod Matching
 pub mod Records
+pub mod Loading
 pub mod Step
 pub mod Run
 pub mod Faults

@@ -55,7 +55,7 @@ pub data IsRefused (files : Option Look) (name line : List ℕ) : Type 0 where
   NotOne : (bytes : List ℕ) → IsShort files molecule_bytes name bytes → (records : List RawRecord) → IsSdfile (lines_of bytes) records → length records ≢ 1
       → line ≡ records_text (length records) → IsRefused files name line
   FailsCheck : (bytes : List ℕ) → IsShort files molecule_bytes name bytes → (only : RawRecord) → IsSdfile (lines_of bytes) (only ∷ [])
-      → (check item : ℕ) → IsFirstFault only.table check item → line ≡ check_text check item → IsRefused files name line
+      → (check item : ℕ) → IsFirstFault only.table check item → line ≡ check_text 1 check item → IsRefused files name line
 
 -- the file holds one record, which passes the checks, and this is its molecule
 pub record IsHeld (files : Option Look) (name : List ℕ) (mol : Molecule) : Type 0 where

@@ -56,7 +56,7 @@ IsHeldBy files name (Refused line) = IsRefused files name line
 -- the molecule of a record's table, or the line of the check that it fails
 abbrev pub IsHeldTable : RawTable → Held → Type 0
 IsHeldTable table (Molecule mol) = PassesAll table × IsFilled table mol × IsMolecule mol
-IsHeldTable table (Refused line) = (check : ℕ) × (item : ℕ) × IsFirstFault table check item × (line ≡ check_text check item)
+IsHeldTable table (Refused line) = (check : ℕ) × (item : ℕ) × IsFirstFault table check item × (line ≡ check_text 1 check item)
 
 -- where the records are one, the molecule of its table or the line of the check that it fails; else the line that says how many
 -- there are

@@ -2,7 +2,7 @@
 --     IsShow t n effect        what `show n` comes to
 --     IsRemove t n effect      what `remove n` comes to
 --     list_text t              what `list` answers
-use Rattle.std.specs.Prelude.{◌≡◌, ℕ, List, [], ◌∷◌, ◌++◌, length, Some, None, codes, decimal}
+use Rattle.std.specs.Prelude.{◌≡◌, ℕ, List, [], ◌∷◌, ◌++◌, length, true, false, Some, codes, decimal}
 use Rattle.std.specs.List.{flat_map}
 use Rattle.mk_text.specs.Lines.{lines_of}
 use Rattle.mk_outside.specs.declared.tables.Change.TheVariants.{DropRecord}
@@ -10,8 +10,10 @@ use Rattle.mk_outside.specs.declared.tables.RecordRow.{RecordRow}
 use Rattle.mk_outside.specs.declared.tables.QueryRow.{QueryRow}
 use Rattle.mk_outside.specs.declared.tables.CursorRow.{CursorRow}
 use Rattle.mk_outside.specs.declared.tables.Tables.{Tables}
+use Rattle.mk_index.specs.declared.by_number.Numbered.{Numbered}
+use Rattle.mk_model.specs.Molecules.{Molecule}
+use Rattle.mk_library.specs.Records.{is_held, text_of}
 use Rattle.mk_session.specs.Effects.{Answers, Effect, Refuses}
-use Rattle.mk_session.specs.StoredRows.{record_of}
 
 -- a word, a number, and the end of the line
 abbrev pub numbered_line : List ℕ → ℕ → List ℕ
@@ -27,19 +29,23 @@ abbrev pub record_text : ℕ → List ℕ → List ℕ
 record_text n text = codes "record " ++ (decimal n ++ (codes " " ++ (decimal (length (lines_of text)) ++ (codes "\n" ++ text))))
 
 pub data IsShow (t : Tables) (n : ℕ) (effect : Effect) : Type 0 where
-  NoRecordShown : record_of t n ≡ None → effect ≡ Refuses (no_record_text n) → IsShow t n effect
-  Shows : (text : List ℕ) → record_of t n ≡ Some text → effect ≡ Answers [] (record_text n text) → IsShow t n effect
+  NoRecordShown : is_held n t.records ≡ false → effect ≡ Refuses (no_record_text n) → IsShow t n effect
+  Shows : (text : List ℕ) → text_of n t.records ≡ Some text → effect ≡ Answers [] (record_text n text) → IsShow t n effect
 
 -- ---- remove N
 
 pub data IsRemove (t : Tables) (n : ℕ) (effect : Effect) : Type 0 where
-  NoRecordRemoved : record_of t n ≡ None → effect ≡ Refuses (no_record_text n) → IsRemove t n effect
-  Removes : (text : List ℕ) → record_of t n ≡ Some text → effect ≡ Answers (DropRecord n ∷ []) (numbered_line (codes "removed ") n) → IsRemove t n effect
+  NoRecordRemoved : is_held n t.records ≡ false → effect ≡ Refuses (no_record_text n) → IsRemove t n effect
+  Removes : is_held n t.records ≡ true → effect ≡ Answers (DropRecord n ∷ []) (numbered_line (codes "removed ") n) → IsRemove t n effect
 
 -- ---- list
 
 abbrev pub record_line : RecordRow → List ℕ
 record_line row = numbered_line (codes "record ") row.number
+
+-- the same of a row of the shelf. It serves the code alone.
+abbrev pub row_line : Numbered Molecule → List ℕ
+row_line row = numbered_line (codes "record ") row.number
 
 abbrev pub query_line : QueryRow → List ℕ
 query_line row = codes "query " ++ (row.name ++ codes "\n")

@@ -10,7 +10,6 @@ use Rattle.std.specs.List.{list_any}
 use Rattle.mk_outside.specs.Counts.{Rose}
 use Rattle.mk_outside.specs.declared.tables.Tables.{Tables}
 use Rattle.mk_outside.specs.declared.tables.Change.{Change}
-use Rattle.mk_outside.specs.declared.tables.Change.TheVariants.{DropRecord}
 use Rattle.mk_outside.specs.declared.answers.KeepFail.{KeepFail}
 use Rattle.mk_outside.specs.declared.answers.KeepFail.TheVariants as keep
 use Rattle.mk_text.specs.Spans.{parts, AreWithin}
@@ -24,6 +23,9 @@ use Rattle.mk_session.specs.declared.effect.StepFail.{StepFail}
 use Rattle.mk_session.specs.declared.effect.StepFail.TheVariants as fail
 use Rattle.mk_session.specs.declared.effect.Edit.{Edit}
 use Rattle.mk_session.specs.declared.effect.Edit.TheVariants as edit
+use Rattle.mk_library.specs.Library.{LibraryView}
+use Rattle.mk_library.specs.Pending.{PendingFits}
+use Rattle.mk_session.specs.declared.saved.Saved.{Saved}
 use Rattle.mk_session.specs.declared.stored_rows.BadRow.{BadRow}
 use Rattle.mk_session.specs.declared.stored_rows.BeginFail.{BeginFail}
 use Rattle.mk_session.specs.declared.stored_rows.BeginFail.TheVariants as begin
@@ -43,19 +45,38 @@ use Rattle.mk_session.specs.Headline.{Agrees}
 use Rattle.mk_session.specs.Orders.{Asked, Nothing, Order, Orders, TooMuch, asked, orders_asked, orders_of, script_bytes}
 use Rattle.mk_session.specs.Run.{Does, Misses}
 use Rattle.mk_session.specs.Step.{Comes, Reaches}
-use Rattle.mk_session.specs.StoredRows.{AllRead, IsFirstBad}
+use Rattle.mk_session.specs.StoredRows.{AllRead, IsFirstBad, RecordsRead}
 
 -- ---- one command
 
 -- the changes that an edit stands for
 abbrev pub changes_of : Edit → List Change
 changes_of edit.Nothing = []
-changes_of (edit.DropRecord number) = DropRecord number ∷ []
+changes_of (edit.OfRecords pending) = pending.changes
 
 -- what was found, as the effect that it is
 abbrev pub effect_of : Found → Effect
 effect_of (found.Refused line) = Refuses line
 effect_of (found.Answered change text) = Answers (changes_of change) text
+
+-- the tables of a library, of queries and of saved searches
+abbrev pub stands_for : LibraryView → Saved → Tables
+stands_for library saved = record {
+  records = library.records;
+  queries = saved.queries;
+  cursors = saved.cursors;
+  next_record = library.next_record;
+  next_cursor = saved.next_cursor;
+}
+
+-- the library can make the edit without memory
+abbrev pub EditFits : LibraryView → Edit → Type 0
+EditFits library edit.Nothing = ⊤
+EditFits library (edit.OfRecords pending) = PendingFits library pending
+
+abbrev pub FoundFits : LibraryView → Found → Type 0
+FoundFits library (found.Refused line) = ⊤
+FoundFits library (found.Answered change text) = EditFits library change
 
 -- it is some file's turn
 pub record IsReached (Turn : List ℕ → Type 0) : Type 0 where
@@ -143,10 +164,10 @@ Turns files t t' orders so_far so_far' old new (Err ends) = IsHalted files t t' 
 
 -- ---- the rows of tables
 
--- the first row that doesn't read, where there is one
+-- where the record rows read, the first row that doesn't, where there is one
 abbrev pub IsJudgedRows : Tables → Option BadRow → Type 0
-IsJudgedRows t None = AllRead t
-IsJudgedRows t (Some row) = IsFirstBad t row.kind row.number
+IsJudgedRows t None = RecordsRead t → AllRead t
+IsJudgedRows t (Some row) = RecordsRead t → IsFirstBad t row.kind row.number
 
 -- ---- a session from a keeper
 
@@ -171,6 +192,13 @@ Begins sound told told' (Ok t) = IsLoaded sound told told' t × AllRead t
 Begins sound told told' (Err begin.Store) = IsHeld sound told told'
 Begins sound told told' (Err (begin.BadStore kind number)) = IsBad sound told told' kind number
 Begins sound told told' (Err begin.Memory) = IsHeld sound told told'
+
+-- the session of the tables, or their first row that doesn't read
+abbrev pub IsOpened : Tables → Result Tables BeginFail → Type 0
+IsOpened t (Ok session) = (session ≡ t) × AllRead t
+IsOpened t (Err begin.Store) = ⊥
+IsOpened t (Err (begin.BadStore kind number)) = IsFirstBad t kind number
+IsOpened t (Err begin.Memory) = ⊤
 
 abbrev pub is_store : {A : Type 0} → Result A BeginFail → Bool
 is_store (Ok t) = false

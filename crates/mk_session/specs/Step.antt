@@ -6,6 +6,7 @@ use Rattle.mk_outside.specs.declared.tables.Tables.{Tables}
 use Rattle.mk_session.specs.declared.command.Command.TheVariants as variant
 use Rattle.mk_session.specs.Effects.{Answers, Effect, Refuses}
 use Rattle.mk_session.specs.Files.{Look}
+use Rattle.mk_session.specs.Loading.{IsLoad, IsReplace, IsTurnOfReplace}
 use Rattle.mk_session.specs.Match.{IsMatch, IsTurnOfMatch}
 use Rattle.mk_session.specs.Orders.{Order}
 use Rattle.mk_session.specs.Records.{IsRemove, IsShow, list_text}
@@ -17,8 +18,8 @@ no_command_text = codes "refused 1 command\n"
 abbrev pub Comes : Option Look → Tables → Order → Effect → Type 0
 Comes files t None effect = effect ≡ Refuses no_command_text
 Comes files t (Some (variant.Match query molecules)) effect = IsMatch files query molecules effect
-Comes files t (Some (variant.Load file)) effect = effect ≡ Refuses no_command_text
-Comes files t (Some (variant.Replace number file)) effect = effect ≡ Refuses no_command_text
+Comes files t (Some (variant.Load file)) effect = IsLoad files t file effect
+Comes files t (Some (variant.Replace number file)) effect = IsReplace files t number file effect
 Comes files t (Some (variant.Remove number)) effect = IsRemove t number effect
 Comes files t (Some (variant.Query name file)) effect = effect ≡ Refuses no_command_text
 Comes files t (Some (variant.Forget name)) effect = effect ≡ Refuses no_command_text
@@ -31,4 +32,6 @@ Comes files t (Some (variant.Drill start count)) effect = effect ≡ Refuses no_
 -- the order names the file, and no refusal before the file's turn holds
 abbrev pub Reaches : Option Look → Tables → Order → List ℕ → Type 0
 Reaches files t (Some (variant.Match query molecules)) name = IsTurnOfMatch files query molecules name
+Reaches files t (Some (variant.Load file)) name = name ≡ file
+Reaches files t (Some (variant.Replace number file)) name = IsTurnOfReplace t number file name
 Reaches files t _ name = ⊥

@@ -3,14 +3,14 @@
 --     IsFirstBadRow Reads rows row  this row is the first that doesn't
 --     AllRead t                     each row of the tables reads
 --     IsFirstBad t kind number      the first row that doesn't: among the records, then the queries, then the saved searches
---     record_of t n                 the text of the record n, where it is held
-use Rattle.std.specs.Prelude.{◌≡◌, ℕ, ◌<◌, ◌≤◌, nat_eq, List, [], ◌∷◌, ◌++◌, length, All, Contains, Option, Some, None, if◌then◌else◌}
-use Rattle.mk_outside.specs.declared.tables.RecordRow.{RecordRow}
+--     RecordsRead t                 the record rows are those of a library, by mk_library
+use Rattle.std.specs.Prelude.{◌≡◌, ℕ, ◌<◌, ◌≤◌, List, ◌∷◌, ◌++◌, length, All, Contains}
 use Rattle.mk_outside.specs.declared.tables.QueryRow.{QueryRow}
 use Rattle.mk_outside.specs.declared.tables.CursorRow.{CursorRow}
 use Rattle.mk_outside.specs.declared.tables.Tables.{Tables}
 use Rattle.mk_session.specs.declared.stored_rows.RowKind.{RowKind}
 use Rattle.mk_session.specs.declared.stored_rows.RowKind.TheVariants.{Records, Queries, Cursors}
+use Rattle.mk_library.specs.StoredRows as library
 use Rattle.mk_session.specs.Commands.{IsHeldNumber}
 
 -- ---- rows of any kind
@@ -30,11 +30,7 @@ module _ {R : Type 0} (Reads : List R → R → Type 0) where
 
 -- ---- the three kinds
 
--- So far no record row reads, since no command keeps one.
-abbrev pub ReadsRecord : List RecordRow → RecordRow → Type 0
-ReadsRecord front row = ⊥
-
--- Nor does a query row.
+-- So far no query row reads, since no command keeps one.
 abbrev pub ReadsQuery : List QueryRow → QueryRow → Type 0
 ReadsQuery front row = ⊥
 
@@ -56,27 +52,20 @@ pub record ReadsCursor (t : Tables) (front : List CursorRow) (row : CursorRow) :
 
 -- ---- tables
 
+-- the record rows are those of a library with this next number
+abbrev pub RecordsRead : Tables → Type 0
+RecordsRead t = library.AllRead t.next_record t.records
+
 -- each row of the tables reads
 pub record AllRead (t : Tables) : Type 0 where
-  pub records : EachReads ReadsRecord t.records
+  pub records : RecordsRead t
   pub queries : EachReads ReadsQuery t.queries
   pub cursors : EachReads (ReadsCursor t) t.cursors
 
 -- the first row that doesn't read: records come first, then queries, then saved searches
 pub data IsFirstBad (t : Tables) (kind : RowKind) (number : ℕ) : Type 0 where
-  BadRecord : (row : RecordRow) → IsFirstBadRow ReadsRecord t.records row → kind ≡ Records → number ≡ row.number → IsFirstBad t kind number
-  BadQuery : EachReads ReadsRecord t.records → (row : QueryRow) → IsFirstBadRow ReadsQuery t.queries row
+  BadRecord : library.IsFirstBad t.next_record t.records number → kind ≡ Records → IsFirstBad t kind number
+  BadQuery : RecordsRead t → (row : QueryRow) → IsFirstBadRow ReadsQuery t.queries row
       → kind ≡ Queries → number ≡ row.number → IsFirstBad t kind number
-  BadCursor : EachReads ReadsRecord t.records → EachReads ReadsQuery t.queries → (row : CursorRow) → IsFirstBadRow (ReadsCursor t) t.cursors row
+  BadCursor : RecordsRead t → EachReads ReadsQuery t.queries → (row : CursorRow) → IsFirstBadRow (ReadsCursor t) t.cursors row
       → kind ≡ Cursors → number ≡ row.number → IsFirstBad t kind number
-
--- ---- what is held
-
--- the text of the first record of the number
-abbrev pub record_in : ℕ → List RecordRow → Option (List ℕ)
-record_in n [] = None
-record_in n (row ∷ rows) = if nat_eq row.number n then Some row.text else record_in n rows
-
--- the text of the record n, where it is held
-abbrev pub record_of : Tables → ℕ → Option (List ℕ)
-record_of t n = record_in n t.records

@@ -1,6 +1,6 @@
 // The bytes of an answer.
 ghost use Rattle.std.specs.Prelude.{◌≡◌, ◌++◌, IfOk, OnOk};
-ghost use Rattle.mk_session.specs.Answers.{bad_line_text, check_text, hits_text, hit_line, long_molecules_text, long_query_text, numbers_text, records_text, unbuilt_text, v3000_text};
+ghost use Rattle.mk_session.specs.Answers.{bad_line_text, check_text, full_text, hits_text, hit_line, long_molecules_text, long_query_text, numbers_text, records_text, unbuilt_text, v3000_text};
 
 use mk_text::{Memory, Numbers, put_number};
 use std::alloc::Global;
@@ -24,6 +24,13 @@ pub fn long_molecules(alloc: Global) -> Result<Vec<u8>, Memory>
     ensures { IfOk result (λ text. text.items ≡ long_molecules_text) }
 {
     Vec::from_slice(alloc, b"refused 4 molecules\n")
+}
+
+/// The refusal of an edit that the library has no room for.
+pub fn full(alloc: Global) -> Result<Vec<u8>, Memory>
+    ensures { IfOk result (λ text. text.items ≡ full_text) }
+{
+    Vec::from_slice(alloc, b"refused 5 library full\n")
 }
 
 /// The refusal of a molecules' file of so many records.
@@ -56,11 +63,13 @@ pub fn v3000_line(alloc: Global, line: usize) -> Result<Vec<u8>, Memory>
     Ok(text)
 }
 
-/// The refusal of a record that fails this check first, at this item.
-pub fn failed_check(alloc: Global, check: u8, item: u32) -> Result<Vec<u8>, Memory>
-    ensures { IfOk result (λ text. text.items ≡ check_text check item) }
+/// The refusal of a file whose record of this number fails this check first, at this item.
+pub fn failed_check(alloc: Global, number: u32, check: u8, item: u32) -> Result<Vec<u8>, Memory>
+    ensures { IfOk result (λ text. text.items ≡ check_text number check item) }
 {
-    let mut text = Vec::from_slice(alloc, b"refused 3 molecules record 1 check V")?;
+    let mut text = Vec::from_slice(alloc, b"refused 3 molecules record ")?;
+    put_number(alloc, &mut text, u64::from(number))?;
+    text.extend_from_slice(b" check V")?;
     put_number(alloc, &mut text, u64::from(check))?;
     text.extend_from_slice(b" item ")?;
     put_number(alloc, &mut text, u64::from(item))?;

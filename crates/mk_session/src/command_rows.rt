@@ -28,6 +28,8 @@ fn is_built(command: &Command) -> bool
 {
     match command {
         Command::Match { .. } => true,
+        Command::Load { .. } => true,
+        Command::Replace { .. } => true,
         Command::Remove { .. } => true,
         Command::Show { .. } => true,
         Command::List => true,

@@ -3,13 +3,15 @@ ghost use Rattle.std.specs.Prelude.{◌≡◌};
 ghost use Rattle.mk_session.specs.declared.effect.StepFail.TheVariants as step_fail;
 ghost use Rattle.mk_session.specs.Fails.{IsStepFailOf, IsStepFailOfKeep};
 
+use mk_library::Pending;
 use mk_outside::{Bytes, FileFail, KeepFail, Memory};
 
 /// What a command changes.
-#[derive(Clone, Copy, Debug, PartialEq, Eq)]
+#[derive(Drop)]
 pub enum Edit {
     Nothing,
-    DropRecord(u32),
+    /// Records, by a change that is made ready.
+    OfRecords(Pending),
 }
 
 /// What a command comes to, found before anything is changed.

@@ -74,7 +74,7 @@ fn judge_table(alloc: Global, table: &RawTable) -> Result<Held, Memory>
     match prepare(alloc, table) {
         Ok(mol) => Ok(Held::Molecule(mol)),
         Err(PrepareFault::Check { check, item }) => {
-            Ok(Held::Refused(Bytes::of(failed_check(alloc, check, item)?)))
+            Ok(Held::Refused(Bytes::of(failed_check(alloc, 1, check, item)?)))
         }
         Err(PrepareFault::Memory) => Err(Memory),
     }

@@ -1,40 +1,49 @@
 // What a command comes to. A further command is a further function and a further arm here.
 ghost use Rattle.std.specs.Prelude.{◌≡◌, IfOk, Some};
 ghost use Rattle.mk_session.specs.Commands.{CanAsk};
-ghost use Rattle.mk_session.specs.Effects.{Refuses};
+ghost use Rattle.mk_library.specs.Library.{IsSame};
+ghost use Rattle.mk_session.specs.declared.effect.Found.TheVariants as found;
 ghost use Rattle.mk_session.specs.Step.{Reaches, no_command_text};
-ghost use Rattle.mk_session.specs.Running.{MissesAt, Seeks, effect_of};
+ghost use Rattle.mk_session.specs.Running.{FoundFits, MissesAt, Seeks, stands_for};
 
+use crate::loading::{load_found, replace_found};
 use crate::matching::match_found;
 use crate::records::{list_found, remove_found, show_found};
+use crate::saved::Saved;
 use crate::{Command, Found, StepFail};
+use mk_library::Library;
 use mk_model::Steps;
-use mk_outside::{Bytes, Files, Memory, Tables};
+use mk_outside::{Bytes, Files, Memory};
 use std::alloc::Global;
 use std::sync::ledger::Ledger;
 
 /// What the command comes to, found before anything is changed.
 pub fn found_of<F: Files, L: Ledger>(
     alloc: Global,
-    tables: &Tables,
+    library: &mut Library,
+    saved: &Saved,
     files: &mut F,
     command: &Command,
     steps: &mut Steps<L>,
 ) -> Result<Found, StepFail>
     requires { CanAsk command.now }
-    ensures sought { Seeks (F.look_up files.old) tables.now (Some command.now) (F.faults files.old) (F.faults files.new) result }
+    ensures sought { Seeks (F.look_up files.old) (stands_for library.old saved.now) (Some command.now) (F.faults files.old) (F.faults files.new) result }
+    ensures fits { IfOk result (FoundFits library.new) }
+    ensures same { IsSame library.old library.new }
     ensures same_files { F.look_up files.new ≡ F.look_up files.old }
-    ensures missed { MissesAt (F.look_up files.old) (Reaches (F.look_up files.old) tables.now (Some command.now)) (F.absences files.old) (F.absences files.new) }
+    ensures missed { MissesAt (F.look_up files.old) (Reaches (F.look_up files.old) (stands_for library.old saved.now) (Some command.now)) (F.absences files.old) (F.absences files.new) }
 {
     match command {
         Command::Match { query, molecules } => {
             match_found(alloc, files, query.as_str(), molecules.as_str(), steps)
         }
-        Command::Remove { number } => Ok(remove_found(alloc, tables, *number)?),
-        Command::Show { number } => Ok(show_found(alloc, tables, *number)?),
-        Command::List => Ok(list_found(alloc, tables)?),
-        Command::Load { .. } => Ok(no_command(alloc)?),
-        Command::Replace { .. } => Ok(no_command(alloc)?),
+        Command::Load { file } => load_found(alloc, library, saved, files, file.as_str()),
+        Command::Replace { number, file } => {
+            replace_found(alloc, library, saved, files, *number, file.as_str())
+        }
+        Command::Remove { number } => Ok(remove_found(alloc, library, saved, *number)?),
+        Command::Show { number } => Ok(show_found(alloc, library, saved, *number)?),
+        Command::List => Ok(list_found(alloc, library, saved)?),
         Command::Query { .. } => Ok(no_command(alloc)?),
         Command::Forget { .. } => Ok(no_command(alloc)?),
         Command::Search { .. } => Ok(no_command(alloc)?),
@@ -45,7 +54,7 @@ pub fn found_of<F: Files, L: Ledger>(
 
 // A command that isn't built is refused as what is no command.
 fn no_command(alloc: Global) -> Result<Found, Memory>
-    ensures { IfOk result (λ found. effect_of found ≡ Refuses no_command_text) }
+    ensures { IfOk result (λ f. f ≡ found.Refused no_command_text) }
 {
     Ok(Found::Refused(Bytes::of(Vec::from_slice(alloc, b"refused 1 command\n")?)))
 }

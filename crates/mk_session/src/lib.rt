@@ -7,8 +7,8 @@
 //! rows read in `specs/StoredRows.antt`. What a hit is stands in mk_model, the records of an SDfile in mk_sdfile, and the
 //! molecule of a table in mk_mol.
 //!
-//! So far `match`, `show`, `remove` and `list` are built, and no command keeps a record. Only this crate knows what a command
-//! is. It reads no columns: see `mk_ctab`.
+//! So far `match`, `load`, `replace`, `remove`, `show` and `list` are built, and no command keeps a query. Only this crate
+//! knows what a command is. It reads no columns: see `mk_ctab`.
 #![tactic(auto)]
 
 mod answers;
@@ -17,17 +17,20 @@ mod command_parts;
 mod command_reading;
 mod command_rows;
 mod effect;
+mod file_reading;
 mod files;
 mod finding;
 mod judgment;
 mod laws;
 mod listings;
+mod loading;
 mod matching;
 mod ordering;
 mod query_graph;
 mod reading;
 mod records;
 mod running;
+mod saved;
 mod session;
 mod status;
 mod stepping;

@@ -1,14 +1,13 @@
 // The command `match`.
-ghost use Rattle.std.specs.Prelude.{◌≡◌, ◌≤◌, ℕ, List, Option, true, IfOk};
-ghost use Rattle.mk_outside.specs.Counts.{Counts};
-ghost use Rattle.mk_outside.specs.Told.{is_failed_read};
+ghost use Rattle.std.specs.Prelude.{◌≡◌, ℕ, List, Option, true, IfOk};
 ghost use Rattle.mk_ctab.specs.PlainFacts.{IsPlainTable};
-ghost use Rattle.mk_session.specs.Files.{IsFoundAs, IsThere, Look};
+ghost use Rattle.mk_session.specs.Files.{Look};
 ghost use Rattle.mk_session.specs.Match.{IsMatch, IsSearch, IsTurnOfMatch};
-ghost use Rattle.mk_session.specs.Matching.{IsHeldBy, IsTurnOf, IsWithin};
+ghost use Rattle.mk_session.specs.Matching.{IsHeldBy, IsTurnOf};
 ghost use Rattle.mk_session.specs.Running.{MissesAt, SeeksSo, effect_of};
 
 use crate::answers::{hits_answer, long_query, unbuilt};
+use crate::file_reading::{MOLECULE_BYTES, QUERY_BYTES, read_within};
 use crate::files::{judge_molecules, judge_query};
 use crate::judgment::{Held, Judgment};
 use crate::listings::{MOST_HITS, first_hits};
@@ -17,15 +16,9 @@ use crate::{Edit, Found, StepFail};
 use mk_ctab::PlainTable;
 use mk_match::hits_are_listed;
 use mk_model::Steps;
-use mk_outside::{Bytes, FileFail, Files, Memory, ReadEnd};
+use mk_outside::{Bytes, Files, Memory};
 use std::alloc::Global;
 use std::sync::ledger::Ledger;
-
-// How many bytes a query's file may have.
-const QUERY_BYTES: usize = 4_194_304;
-
-// How many bytes a molecules' file may have.
-const MOLECULE_BYTES: usize = 67_108_864;
 
 /// Reads the query's file, and where it isn't refused the molecules'.
 pub fn match_found<F: Files, L: Ledger>(
@@ -91,26 +84,5 @@ fn answer_of<L: Ledger>(
             hits_are_listed();
             Ok(Found::Answered(Edit::Nothing, Bytes::of(answer)))
         }
-    }
-}
-
-// Reads a file that may have so many bytes. None is a file that has more.
-fn read_within<F: Files>(
-    alloc: Global,
-    files: &mut F,
-    name: &str,
-    most: usize,
-) -> Result<Option<Bytes>, FileFail>
-    ensures found { IfOk result (IsFoundAs (F.look_up files.old) most name.now) }
-    ensures within { IfOk result (IsWithin most) }
-    ensures counted { Counts (is_failed_read result) (F.faults files.old) (F.faults files.new) }
-    ensures same_files { F.look_up files.new ≡ F.look_up files.old }
-    ensures never_falls { F.absences files.old ≤ F.absences files.new }
-    ensures absent { IsThere (F.look_up files.old) name.now → F.absences files.new ≡ F.absences files.old }
-{
-    let mut text = Vec::new(alloc);
-    match files.read(alloc, name, most, &mut text)? {
-        ReadEnd::TooLong => Ok(None),
-        ReadEnd::Whole => Ok(Some(Bytes::of(text))),
     }
 }

@@ -1,21 +1,32 @@
 // The commands `show`, `remove` and `list`.
 ghost use Rattle.std.specs.Prelude.{◌≡◌, ◌++◌, [], IfOk, OnOk, codes, decimal, length};
 ghost use Rattle.std.specs.List.{flat_map};
-ghost use Rattle.mk_session.specs.Effects.{Answers, Refuses};
-ghost use Rattle.mk_session.specs.Records.{IsRemove, IsShow, cursor_line, list_text, next_line, no_record_text, numbered_line, query_line, record_line, record_text};
-ghost use Rattle.mk_session.specs.Running.{effect_of};
+ghost use Rattle.mk_library.specs.Library.{IsSame};
+ghost use Rattle.mk_session.specs.declared.effect.Found.TheVariants as found;
+ghost use Rattle.mk_session.specs.Effects.{Answers};
+ghost use Rattle.mk_session.specs.Records.{IsRemove, IsShow, cursor_line, list_text, next_line, no_record_text, numbered_line, query_line, record_line, record_text, row_line};
+ghost use Rattle.mk_session.specs.Running.{FoundFits, effect_of, stands_for};
 
-use crate::stored_rows::record_text;
+use crate::saved::Saved;
 use crate::{Edit, Found};
-use mk_outside::{Bytes, CursorRow, Memory, QueryRow, RecordRow, Tables};
+use mk_index::Numbered;
+use mk_library::{Library, LoadRefusal};
+use mk_model::Mol;
+use mk_outside::{Bytes, CursorRow, Memory, QueryRow};
 use mk_text::{lines, put_number};
 use std::alloc::Global;
 
 /// What `show` comes to.
-pub fn show_found(alloc: Global, tables: &Tables, number: u32) -> Result<Found, Memory>
-    ensures { IfOk result (λ found. IsShow tables.now number (effect_of found)) }
+pub fn show_found(
+    alloc: Global,
+    library: &Library,
+    saved: &Saved,
+    number: u32,
+) -> Result<Found, Memory>
+    ensures comes { IfOk result (λ found. IsShow (stands_for library.now saved.now) number (effect_of found)) }
+    ensures fits { IfOk result (FoundFits library.now) }
 {
-    match record_text(tables.records.as_slice(), number) {
+    match library.text(number) {
         None => no_record(alloc, number),
         Some(text) => Ok(Found::Answered(Edit::Nothing, shown(alloc, number, text)?)),
     }
@@ -36,22 +47,30 @@ fn shown(alloc: Global, number: u32, text: &[u8]) -> Result<Bytes, Memory>
 }
 
 /// What `remove` comes to.
-pub fn remove_found(alloc: Global, tables: &Tables, number: u32) -> Result<Found, Memory>
-    ensures { IfOk result (λ found. IsRemove tables.now number (effect_of found)) }
+pub fn remove_found(
+    alloc: Global,
+    library: &mut Library,
+    saved: &Saved,
+    number: u32,
+) -> Result<Found, Memory>
+    ensures comes { IfOk result (λ found. IsRemove (stands_for library.old saved.now) number (effect_of found)) }
+    ensures fits { IfOk result (FoundFits library.new) }
+    ensures same { IsSame library.old library.new }
 {
-    match record_text(tables.records.as_slice(), number) {
-        None => no_record(alloc, number),
-        Some(_) => {
+    match library.remove(alloc, number) {
+        Err(LoadRefusal::NoRecord) => no_record(alloc, number),
+        Err(_) => Err(Memory),
+        Ok(pending) => {
             let mut text = Vec::new(alloc);
             put_numbered(alloc, &mut text, b"removed ", u64::from(number))?;
-            Ok(Found::Answered(Edit::DropRecord(number), Bytes::of(text)))
+            Ok(Found::Answered(Edit::OfRecords(pending), Bytes::of(text)))
         }
     }
 }
 
-// The refusal of a record that isn't held.
-fn no_record(alloc: Global, number: u32) -> Result<Found, Memory>
-    ensures { IfOk result (λ found. effect_of found ≡ Refuses (no_record_text number)) }
+/// The refusal of a record that isn't held.
+pub fn no_record(alloc: Global, number: u32) -> Result<Found, Memory>
+    ensures { IfOk result (λ f. f ≡ found.Refused (no_record_text number)) }
 {
     let mut text = Vec::new(alloc);
     put_numbered(alloc, &mut text, b"refused 6 record ", u64::from(number))?;
@@ -59,19 +78,27 @@ fn no_record(alloc: Global, number: u32) -> Result<Found, Memory>
 }
 
 /// What `list` comes to.
-pub fn list_found(alloc: Global, tables: &Tables) -> Result<Found, Memory>
-    ensures { IfOk result (λ found. effect_of found ≡ Answers [] (list_text tables.now)) }
+pub fn list_found(alloc: Global, library: &Library, saved: &Saved) -> Result<Found, Memory>
+    ensures comes { IfOk result (λ found. effect_of found ≡ Answers [] (list_text (stands_for library.now saved.now))) }
+    ensures fits { IfOk result (FoundFits library.now) }
 {
     let mut text = Vec::new(alloc);
-    put_records(alloc, &mut text, tables.records.as_slice())?;
-    put_queries(alloc, &mut text, tables.queries.as_slice())?;
-    put_cursors(alloc, &mut text, tables.cursors.as_slice())?;
-    put_next(alloc, &mut text, tables.next_record, tables.next_cursor)?;
+    put_records(alloc, &mut text, library)?;
+    put_queries(alloc, &mut text, saved.queries.as_slice())?;
+    put_cursors(alloc, &mut text, saved.cursors.as_slice())?;
+    put_next(alloc, &mut text, library.next_number(), saved.next_cursor)?;
     Ok(Found::Answered(Edit::Nothing, Bytes::of(text)))
 }
 
-fn put_records(alloc: Global, text: &mut Vec<u8>, rows: &[RecordRow]) -> Result<(), Memory>
-    ensures { OnOk result (text.new.items ≡ text.old.items ++ (numbered_line (codes "records ") (length rows.now) ++ flat_map record_line rows.now)) }
+fn put_records(alloc: Global, text: &mut Vec<u8>, library: &Library) -> Result<(), Memory>
+    ensures { OnOk result (text.new.items ≡ text.old.items ++ (numbered_line (codes "records ") (length library.now.records) ++ flat_map record_line library.now.records)) }
+{
+    let shelf = library.shelf();
+    put_rows(alloc, text, shelf.rows())
+}
+
+fn put_rows(alloc: Global, text: &mut Vec<u8>, rows: &[Numbered<Mol>]) -> Result<(), Memory>
+    ensures { OnOk result (text.new.items ≡ text.old.items ++ (numbered_line (codes "records ") (length rows.now) ++ flat_map row_line rows.now)) }
 {
     put_numbered(alloc, text, b"records ", rows.len() as u64)?;
     for row in rows {
@@ -134,8 +161,13 @@ fn put_next(
     text.extend_from_slice(b"\n")
 }
 
-// A word, a number, and the end of the line.
-fn put_numbered(alloc: Global, text: &mut Vec<u8>, word: &[u8], number: u64) -> Result<(), Memory>
+/// A word, a number, and the end of the line.
+pub fn put_numbered(
+    alloc: Global,
+    text: &mut Vec<u8>,
+    word: &[u8],
+    number: u64,
+) -> Result<(), Memory>
     ensures { OnOk result (text.new.items ≡ text.old.items ++ numbered_line word.now number) }
 {
     text.extend_from_slice(word)?;

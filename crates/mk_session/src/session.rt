@@ -1,10 +1,12 @@
 // A session: the tables that it stands for.
 ghost use Rattle.std.specs.Prelude.{◌≡◌};
 ghost use Rattle.mk_outside.specs.Counts.{Counts};
-ghost use Rattle.mk_session.specs.Running.{Begins, is_store};
+ghost use Rattle.mk_session.specs.Running.{Begins, IsOpened, is_store};
 
 use crate::BeginFail;
-use crate::stored_rows::{BadRow, first_bad_row};
+use crate::saved::Saved;
+use crate::stored_rows::{BadRow, RowKind, first_bad_row};
+use mk_library::{Library, RestoreFault};
 use mk_outside::{KeepFail, Keeper, Tables};
 use std::alloc::Global;
 use std::marker::Model;
@@ -12,15 +14,17 @@ use std::marker::Model;
 /// A session, which stands for tables.
 #[derive(Drop)]
 pub struct Session {
-    pub(crate) tables: Tables,
+    pub(crate) library: Library,
+    pub(crate) saved: Saved,
 }
 
 impl Model for Session {
     ghost use Rattle.mk_outside.specs.declared.tables.Tables.{Tables};
+    ghost use Rattle.mk_session.specs.Running.{stands_for};
 
     ghost Value = { Tables };
 
-    ghost view = { λ s. s.tables };
+    ghost view = { λ s. stands_for s.library s.saved };
 }
 
 impl Session {
@@ -33,10 +37,40 @@ impl Session {
         match keeper.load(alloc) {
             Err(KeepFail::Failed) => Err(BeginFail::Store),
             Err(KeepFail::Memory) => Err(BeginFail::Memory),
-            Ok(tables) => match first_bad_row(&tables) {
-                Some(BadRow { kind, number }) => Err(BeginFail::BadStore { kind, number }),
-                None => Ok(Session { tables }),
-            },
+            Ok(tables) => opened(alloc, tables),
         }
+    }
+}
+
+// The session of these tables, or their first row that doesn't read.
+fn opened(alloc: Global, tables: Tables) -> Result<Session, BeginFail>
+    ensures { IsOpened tables result }
+{
+    match Library::restore(alloc, tables.records.as_slice(), tables.next_record) {
+        Err(RestoreFault::Memory) => Err(BeginFail::Memory),
+        Err(RestoreFault::Bad { number }) => Err(BeginFail::BadStore {
+            kind: RowKind::Records,
+            number,
+        }),
+        Ok(library) => match first_bad_row(&tables) {
+            Some(BadRow { kind, number }) => Err(BeginFail::BadStore { kind, number }),
+            None => Ok(session_of(library, tables)),
+        },
+    }
+}
+
+// The library in place of the record rows.
+fn session_of(library: Library, tables: Tables) -> Session
+    requires records { library.records ≡ tables.records }
+    requires next { library.next_record ≡ tables.next_record }
+    ensures { result ≡ tables }
+{
+    Session {
+        library,
+        saved: Saved {
+            queries: tables.queries,
+            cursors: tables.cursors,
+            next_cursor: tables.next_cursor,
+        },
     }
 }

@@ -1,20 +1,19 @@
 // One command on a session.
-ghost use Rattle.std.specs.Prelude.{◌≡◌, ◌++◌, ◌∷◌, [], Some, IfOk, OnErr, OnOk};
-ghost use Rattle.mk_outside.specs.Counts.{Counts};
-ghost use Rattle.mk_outside.specs.Rows.{without};
-ghost use Rattle.mk_outside.specs.Tables.{after_batch, record_number};
-ghost use Rattle.mk_outside.specs.Told.{committed, is_failed_keep};
+ghost use Rattle.std.specs.Prelude.{◌≡◌, ◌++◌, Some, OnErr, OnOk};
+ghost use Rattle.mk_outside.specs.Told.{committed};
+ghost use Rattle.mk_library.specs.Pending.{PendingFits};
+ghost use Rattle.mk_session.specs.declared.saved.Saved.{Saved};
 ghost use Rattle.mk_session.specs.Commands.{CanAsk};
 ghost use Rattle.mk_session.specs.Step.{Reaches};
-ghost use Rattle.mk_session.specs.Running.{ChangeCounts, MissesAt, IsStepped, StepCounts, changes_of};
+ghost use Rattle.mk_session.specs.Running.{ChangeCounts, EditFits, MissesAt, IsStepped, StepCounts, changes_of, stands_for};
 
 use crate::finding::found_of;
 use crate::session::Session;
 use crate::{Command, Edit, Ended, Found, StepFail};
+use mk_library::{Library, Pending, records_change_alone};
 use mk_model::Steps;
-use mk_outside::{Bytes, Change, Files, KeepFail, Keeper, Listed, Memory, RecordRows};
+use mk_outside::{Bytes, Files, KeepFail, Keeper};
 use std::alloc::Global;
-use std::mem;
 use std::sync::ledger::Ledger;
 
 impl Session {
@@ -36,89 +35,82 @@ impl Session {
         ensures same_files { F.look_up files.new ≡ F.look_up files.old }
         ensures missed { MissesAt (F.look_up files.old) (Reaches (F.look_up files.old) self.old (Some command.now)) (F.absences files.old) (F.absences files.new) }
     {
-        match found_of(alloc, &self.tables, files, command, steps)? {
+        match found_of(alloc, &mut self.library, &self.saved, files, command, steps)? {
             Found::Refused(line) => {
                 answer.extend_from_slice(line.as_slice())?;
                 Ok(Ended::Refused)
             }
             Found::Answered(edit, text) => {
-                self.fulfil(alloc, keeper, edit, &text, answer)?;
+                fulfil(alloc, &mut self.library, keeper, edit, &text, answer)?;
                 Ok(Ended::Done)
             }
         }
     }
+}
 
-    // Appends the text and makes the edit, or neither.
-    fn fulfil<K: Keeper>(
-        &mut self,
-        alloc: Global,
-        keeper: &mut K,
-        edit: Edit,
-        text: &Bytes,
-        answer: &mut Vec<u8>,
-    ) -> Result<(), KeepFail>
-        ensures tables { self.new ≡ committed (changes_of edit) self.old result }
-        ensures answer_ok { OnOk result (answer.new.items ≡ answer.old.items ++ text.now) }
-        ensures answer_err { OnErr result (answer.new.items ≡ answer.old.items) }
-        ensures kept { K.sound keeper.new → K.tables keeper.old ≡ Some self.old → K.tables keeper.new ≡ Some self.new }
-        ensures sound { K.sound keeper.new → K.sound keeper.old }
-        ensures counted { ChangeCounts (changes_of edit) (K.faults keeper.old) (K.faults keeper.new) result }
-    {
-        let before = answer.len();
-        answer.extend_from_slice(text.as_slice())?;
-        let changed = self.change(alloc, keeper, edit);
-        if changed.is_err() {
-            answer.truncate(before);
-        }
-        changed
+// Appends the text and makes the edit, or neither.
+fn fulfil<K: Keeper>(
+    alloc: Global,
+    library: &mut Library,
+    keeper: &mut K,
+    edit: Edit,
+    text: &Bytes,
+    answer: &mut Vec<u8>,
+) -> Result<(), KeepFail>
+    requires { EditFits library.old edit }
+    ensures tables { (saved : Saved) → stands_for library.new saved ≡ committed (changes_of edit) (stands_for library.old saved) result }
+    ensures answer_ok { OnOk result (answer.new.items ≡ answer.old.items ++ text.now) }
+    ensures answer_err { OnErr result (answer.new.items ≡ answer.old.items) }
+    ensures kept { K.sound keeper.new → (saved : Saved) → K.tables keeper.old ≡ Some (stands_for library.old saved) → K.tables keeper.new ≡ Some (stands_for library.new saved) }
+    ensures sound { K.sound keeper.new → K.sound keeper.old }
+    ensures counted { ChangeCounts (changes_of edit) (K.faults keeper.old) (K.faults keeper.new) result }
+{
+    let before = answer.len();
+    answer.extend_from_slice(text.as_slice())?;
+    let changed = change(alloc, library, keeper, edit);
+    if changed.is_err() {
+        answer.truncate(before);
     }
+    changed
+}
 
-    // Commits the batch of the edit, where it isn't empty, and makes its changes here.
-    fn change<K: Keeper>(
-        &mut self,
-        alloc: Global,
-        keeper: &mut K,
-        edit: Edit,
-    ) -> Result<(), KeepFail>
-        ensures tables { self.new ≡ committed (changes_of edit) self.old result }
-        ensures kept { K.sound keeper.new → K.tables keeper.old ≡ Some self.old → K.tables keeper.new ≡ Some self.new }
-        ensures sound { K.sound keeper.new → K.sound keeper.old }
-        ensures counted { ChangeCounts (changes_of edit) (K.faults keeper.old) (K.faults keeper.new) result }
-    {
-        match edit {
-            Edit::Nothing => Ok(()),
-            Edit::DropRecord(number) => {
-                let batch = batch_of(alloc, Change::DropRecord { number })?;
-                keeper.commit(alloc, batch.as_slice())?;
-                self.drop_record(alloc, number);
-                Ok(())
-            }
-        }
-    }
-
-    // Drops a record. It takes no memory.
-    fn drop_record(&mut self, alloc: Global, number: u32)
-        ensures { self.new ≡ after_batch (Change.DropRecord number ∷ []) self.old }
-    {
-        let rows = mem::replace(&mut self.tables.records, RecordRows::new(alloc));
-        self.tables.records = without_record(rows, number);
+// Makes the edit: nothing, or a pending change.
+fn change<K: Keeper>(
+    alloc: Global,
+    library: &mut Library,
+    keeper: &mut K,
+    edit: Edit,
+) -> Result<(), KeepFail>
+    requires { EditFits library.old edit }
+    ensures tables { (saved : Saved) → stands_for library.new saved ≡ committed (changes_of edit) (stands_for library.old saved) result }
+    ensures kept { K.sound keeper.new → (saved : Saved) → K.tables keeper.old ≡ Some (stands_for library.old saved) → K.tables keeper.new ≡ Some (stands_for library.new saved) }
+    ensures sound { K.sound keeper.new → K.sound keeper.old }
+    ensures counted { ChangeCounts (changes_of edit) (K.faults keeper.old) (K.faults keeper.new) result }
+{
+    match edit {
+        Edit::Nothing => Ok(()),
+        Edit::OfRecords(pending) => keep(alloc, library, keeper, pending),
     }
 }
 
-// The records of another number.
-fn without_record(rows: RecordRows, number: u32) -> RecordRows
-    ensures { result ≡ without record_number number rows }
+// Commits the changes, where there are any, and makes them here. Nothing behind the commit takes memory.
+fn keep<K: Keeper>(
+    alloc: Global,
+    library: &mut Library,
+    keeper: &mut K,
+    pending: Pending,
+) -> Result<(), KeepFail>
+    requires { PendingFits library.old pending }
+    ensures tables { (saved : Saved) → stands_for library.new saved ≡ committed pending.changes (stands_for library.old saved) result }
+    ensures kept { K.sound keeper.new → (saved : Saved) → K.tables keeper.old ≡ Some (stands_for library.old saved) → K.tables keeper.new ≡ Some (stands_for library.new saved) }
+    ensures sound { K.sound keeper.new → K.sound keeper.old }
+    ensures counted { ChangeCounts pending.changes (K.faults keeper.old) (K.faults keeper.new) result }
 {
-    let mut rows = rows.into_vec();
-    rows.retain(|row| row.number != number);
-    RecordRows::of(rows)
-}
-
-// The batch of one change.
-fn batch_of(alloc: Global, change: Change) -> Result<Listed<Change>, Memory>
-    ensures { IfOk result (λ batch. batch ≡ change ∷ []) }
-{
-    let mut batch = Vec::new(alloc);
-    batch.push(change)?;
-    Ok(Listed::of(batch))
+    if pending.changes().len() == 0 {
+        return Ok(());
+    }
+    keeper.commit(alloc, pending.changes())?;
+    records_change_alone();
+    library.install(pending);
+    Ok(())
 }

@@ -1,10 +1,9 @@
 // Stored rows, and the first that doesn't read.
-ghost use Rattle.std.specs.Prelude.{◌≡◌, IfNone, IfSome, [], option_copied};
-ghost use Rattle.mk_outside.specs.Tables.{cursor_number, query_number, record_number};
+ghost use Rattle.std.specs.Prelude.{◌≡◌, IfNone, IfSome, []};
+ghost use Rattle.mk_outside.specs.Tables.{cursor_number, query_number};
 ghost use Rattle.mk_session.specs.Running.{IsFirstNumber, IsJudgedRows};
-ghost use Rattle.mk_session.specs.StoredRows.{record_in};
 
-use mk_outside::{CursorRow, QueryRow, RecordRow, Tables};
+use mk_outside::{CursorRow, QueryRow, Tables};
 
 /// A kind of row.
 #[derive(Clone, Copy, Debug, PartialEq, Eq)]
@@ -32,16 +31,10 @@ pub enum BeginFail {
     Memory,
 }
 
-/// The first row that doesn't read.
+/// The first row that doesn't read, where the records read.
 pub fn first_bad_row(tables: &Tables) -> Option<BadRow>
     ensures { IsJudgedRows tables.now result }
 {
-    if let Some(number) = first_record(tables.records.as_slice()) {
-        return Some(BadRow {
-            kind: RowKind::Records,
-            number,
-        });
-    }
     if let Some(number) = first_query(tables.queries.as_slice()) {
         return Some(BadRow {
             kind: RowKind::Queries,
@@ -55,15 +48,6 @@ pub fn first_bad_row(tables: &Tables) -> Option<BadRow>
         });
     }
     None
-}
-
-fn first_record(rows: &[RecordRow]) -> Option<u32>
-    ensures { IsFirstNumber record_number rows.now result }
-{
-    match rows {
-        [] => None,
-        [row, ..] => Some(row.number),
-    }
 }
 
 fn first_query(rows: &[QueryRow]) -> Option<u32>
@@ -82,16 +66,4 @@ fn first_cursor(rows: &[CursorRow]) -> Option<u32>
         [] => None,
         [row, ..] => Some(row.number),
     }
-}
-
-/// The text of the record, where it is held.
-pub fn record_text(rows: &[RecordRow], number: u32) -> Option<&[u8]>
-    ensures { option_copied result ≡ record_in number rows.now }
-{
-    for row in rows {
-        if row.number == number {
-            return Some(row.text.as_slice());
-        }
-    }
-    None
 }

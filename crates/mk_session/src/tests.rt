@@ -482,7 +482,7 @@ static OTHER_WORDS: [&[&str]; 8] = [
     &["Match", "q", "m"],
     &["match", "q", "m", "m"],
     &["--store", "s"],
-    &["load", "m"],
+    &["query", "n", "q"],
     &["show", "0"],
     &["show", "1234567890"],
 ];
@@ -543,7 +543,11 @@ static LINES: [(&str, &str, Status); 19] = [
         "refused 6 record 2\nrecords 0\nqueries 0\ncursors 0\nnext 1 1\n",
         Status::Refused,
     ),
-    ("load m", "refused 1 command\n", Status::Refused),
+    (
+        "load m\nload m\nremove 1\nlist",
+        "loaded 1 first 1\nloaded 1 first 2\nremoved 1\nrecords 1\nrecord 2\nqueries 0\ncursors 0\nnext 3 1\n",
+        Status::Done,
+    ),
     ("query q q", "refused 1 command\n", Status::Refused),
     ("search q 1", "refused 1 command\n", Status::Refused),
     ("drill 1 1", "refused 1 command\n", Status::Refused),
@@ -558,6 +562,72 @@ fn lines_are_answered_in_order(rt: HostRuntime) -> Result<(), Fail> {
         assert!(rt;
             is_run(alloc, &[], rows, script, wanted, *status)?,
             "{script}"
+        );
+    }
+    Ok(())
+}
+
+// A carbon, and behind it an oxygen.
+const TWO: Held = Written(
+    "\n\n\n  1  0\n                               C\nM  END\n$$$$\n\n\n\n  1  0\n                               O\nM  END\n",
+);
+
+// A script over the files q, which holds a carbon, and m, and its answers.
+static EDITS: [(&str, &str, Held, &str, Status); 6] = [
+    (
+        "no record",
+        "load m",
+        Written(""),
+        "loaded 0\n",
+        Status::Done,
+    ),
+    (
+        "two records",
+        "load q\nload m\nshow 3",
+        TWO,
+        "loaded 1 first 1\nloaded 2 first 2\nrecord 3 6\n\n\n\n  1  0\n                               O\nM  END\n",
+        Status::Done,
+    ),
+    (
+        "a record in place of another",
+        "load q\nreplace 1 m\nlist",
+        C,
+        "loaded 1 first 1\nreplaced 1\nrecords 1\nrecord 1\nqueries 0\ncursors 0\nnext 2 1\n",
+        Status::Done,
+    ),
+    (
+        "a second record that fails a check",
+        "load m\nlist",
+        Written(
+            "\n\n\n  1  0\n                               C\nM  END\n$$$$\n\n\n\n  1  0\n                               Xx\nM  END\n",
+        ),
+        "refused 3 molecules record 2 check V1 item 1\nrecords 0\nqueries 0\ncursors 0\nnext 1 1\n",
+        Status::Refused,
+    ),
+    (
+        "a line that is bad behind a record that fails a check",
+        "load m",
+        Written("\n\n\n  1  0\n                               Xx\nM  END\n$$$$\n\nx\n"),
+        "refused 2 molecules line 10\n",
+        Status::Refused,
+    ),
+    (
+        "two records in place of one",
+        "load q\nreplace 1 m",
+        TWO,
+        "loaded 1 first 1\nrefused 11 records 2\n",
+        Status::Refused,
+    ),
+];
+
+#[test]
+fn edits_are_made_or_refused(rt: HostRuntime) -> Result<(), Fail> {
+    let alloc = rt.alloc();
+    for (name, script, molecules, wanted, status) in EDITS.iter() {
+        let rows = files(alloc, C, *molecules)?;
+        assert!(rt;
+            is_run(alloc, &[], rows, script, wanted, *status)?,
+            "{name}"
         );
     }
     Ok(())
@@ -594,7 +664,7 @@ struct Row {
 
 const ANSWER: &str = "hit 1 choice map 1 2\nhit 1 choice map 3 2\nend\n";
 
-static FAILURES: [Row; 9] = [
+static FAILURES: [Row; 11] = [
     Row {
         script: "match q m",
         fails: [9, 9, 9, 9],
@@ -624,6 +694,18 @@ static FAILURES: [Row; 9] = [
         fails: [9, 9, 9, 9],
         status: Status::Read,
         wanted: "",
+    },
+    Row {
+        script: "load none",
+        fails: [9, 9, 9, 9],
+        status: Status::Read,
+        wanted: "",
+    },
+    Row {
+        script: "replace 1 none",
+        fails: [9, 9, 9, 9],
+        status: Status::Refused,
+        wanted: "refused 6 record 1\n",
     },
     Row {
         script: "match q m",
@@ -675,6 +757,45 @@ fn a_failed_call_ends_the_run(rt: HostRuntime) -> Result<(), Fail> {
     Ok(())
 }
 
+// Whether the script ends so over this keeper, and writes this.
+fn is_kept_run(
+    alloc: Global,
+    keeper: &mut MemKeeper,
+    script: &str,
+    wanted: &str,
+    status: Status,
+) -> Result<bool, Fail> {
+    let mut files = SureFiles::new(files(alloc, C, C)?);
+    let mut input = SureSource::new(Bytes::of(script.as_bytes().to_vec(alloc)?));
+    let mut output = SureSink::new(Bytes::new(alloc));
+    let ended = top(alloc, &[], &mut files, &mut input, &mut output, keeper);
+    if ended == Status::Memory {
+        return Err(Fail::from(Memory));
+    }
+    Ok(ended == status && output.bytes() == wanted.as_bytes())
+}
+
+// The third commit fails. The records before it are kept, and read again by the next run.
+#[test]
+fn a_failed_commit_keeps_what_was_kept(rt: HostRuntime) -> Result<(), Fail> {
+    let alloc = rt.alloc();
+    let commits = failing(alloc, 3)?;
+    let mut keeper = MemKeeper::new(Tables::new(alloc), CallNumbers::new(alloc), commits);
+    let answers = "loaded 1 first 1\nloaded 1 first 2\n";
+    assert!(rt;
+        is_kept_run(
+            alloc,
+            &mut keeper,
+            "load m\nload m\nload m",
+            answers,
+            Status::Store
+        )?
+    );
+    let list = "records 2\nrecord 1\nrecord 2\nqueries 0\ncursors 0\nnext 3 1\n";
+    assert!(rt; is_kept_run(alloc, &mut keeper, "list", list, Status::Done)?);
+    Ok(())
+}
+
 // A query that is refused leaves the molecules unread.
 #[test]
 fn a_refused_query_is_the_only_file_read(rt: HostRuntime) -> Result<(), Fail> {
@@ -698,7 +819,7 @@ fn a_refused_query_is_the_only_file_read(rt: HostRuntime) -> Result<(), Fail> {
     Ok(())
 }
 
-// A stored row doesn't read so far.
+// A stored text that is no record.
 #[test]
 fn a_bad_row_ends_the_run(rt: HostRuntime) -> Result<(), Fail> {
     let alloc = rt.alloc();

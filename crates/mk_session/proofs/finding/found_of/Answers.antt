@@ -5,3 +5,9 @@ returns-in-Match-clause-sought g c = rw c.in-Match.is (rw (c.as_str.ensures, c.a
 
 pub returns-in-Match-clause-missed : goal.returns-in-Match-clause-missed
 returns-in-Match-clause-missed g c = rw c.in-Match.is (rw (c.as_str.ensures, c.as_str-in-Match.ensures) at c.match_found.ensures.missed)
+
+pub returns-in-Load-clause-sought : goal.returns-in-Load-clause-sought
+returns-in-Load-clause-sought g c = rw c.in-Load.is (rw c.as_str-in-Load.ensures at c.load_found.ensures.sought)
+
+pub returns-in-Replace-clause-sought : goal.returns-in-Replace-clause-sought
+returns-in-Replace-clause-sought g c = rw c.in-Replace.is (rw c.as_str-in-Replace.ensures at c.replace_found.ensures.sought)

@@ -1,8 +1,11 @@
-use Rattle.std.proofs.Common.{refl, sym}
-use Rattle.mk_session.specs.Records.{Removes}
+use Rattle.std.proofs.Common.{refl}
+use Rattle.mk_library.specs.FirstRefusal.{held_number}
+use Rattle.mk_session.specs.Records.{NoRecordRemoved, Removes}
+use Rattle.mk_session.specs.Effects.{Refuses}
+use Rattle.mk_session.proofs.LoadingLemmas.{not_held}
 use Rattle.mk_session.proofs.records.remove_found.Goals as goal
 
-pub returns-in_ok-put_numbered-in-Some : goal.returns-in_ok-put_numbered-in-Some
-returns-in_ok-put_numbered-in-Some c =
-    Removes c.in-Some.field-0.now (sym (rw c.as_slice.ensures at c.in-Some.ensures))
-    (rw (c.of.ensures, c.in_ok-put_numbered-in-Some.ensures, c.new-text.ensures.items, c.from.ensures) refl)
+pub returns-in_ok-put_numbered-in-Ok-clause-comes : goal.returns-in_ok-put_numbered-in-Ok-clause-comes
+returns-in_ok-put_numbered-in-Ok-clause-comes c =
+    Removes (c.in-Ok.ensures.changes.met held_number)
+    (rw (c.in-Ok.ensures.changes.are, c.of.ensures, c.in_ok-put_numbered-in-Ok.ensures, c.new-text.ensures.items, c.from.ensures) refl)

@@ -1,0 +1,22 @@
+-- A session from tables that were loaded.
+use Rattle.std.proofs.Common.{◌≡◌, false, Option, refl, sym, subst}
+use Rattle.std.specs.Prelude.{Result, Ok, Err}
+use Rattle.mk_outside.specs.declared.tables.Tables.{Tables}
+use Rattle.mk_session.specs.declared.stored_rows.BeginFail.{BeginFail}
+use Rattle.mk_session.specs.declared.stored_rows.BeginFail.TheVariants as begin
+use Rattle.mk_session.specs.StoredRows.{AllRead}
+use Rattle.mk_session.specs.Running.{Begins, IsLoaded, IsOpened, is_store}
+
+-- tables that are opened are those that the keeper holds
+pub begins_by : (sound : Type 0) (told told' : Option Tables) (t : Tables) (r : Result Tables BeginFail) → IsLoaded sound told told' t → IsOpened t r → Begins sound told told' r
+begins_by sound told told' t (Ok s) loaded is = subst (λ (x : Tables). IsLoaded sound told told' x × AllRead x) (sym is.0) (loaded, is.1)
+begins_by sound told told' t (Err begin.Store) loaded is = absurd is
+begins_by sound told told' t (Err (begin.BadStore kind number)) loaded is = record { t = t; loaded = loaded; bad = is }
+begins_by sound told told' t (Err begin.Memory) loaded is = record { t = t; loaded = loaded }
+
+-- opening them fails for no keeper
+pub no_store : (t : Tables) (r : Result Tables BeginFail) → IsOpened t r → is_store r ≡ false
+no_store t (Ok s) is = refl
+no_store t (Err begin.Store) is = absurd is
+no_store t (Err (begin.BadStore kind number)) is = refl
+no_store t (Err begin.Memory) is = refl
