@@ -151,6 +151,71 @@ fn names_the_first_fault_of_a_query(rt: HostRuntime) -> Result<(), Fail> {
     Ok(())
 }
 
+#[test]
+fn counts_4096_members(rt: HostRuntime) -> Result<(), Fail> {
+    let alloc = rt.alloc();
+    assert!(rt; fault_of(alloc, &many_members(alloc, 4096)?)? == (0, 0, 0));
+    assert!(rt; fault_of(alloc, &many_members(alloc, 4097)?)? == (14, 0, 4097));
+    Ok(())
+}
+
+// A root of one atom, and so many members of group 1.
+fn many_members(alloc: Global, count: usize) -> Result<Vec<u8>, Fail> {
+    let mut out = Vec::from_slice(alloc, b"$MDL\n$MOL\n$HDR\n\n\n\n$END HDR\n")?;
+    put_table(alloc, &mut out, "C |")?;
+    out.extend_from_slice(b"$RGP\n1\n")?;
+    let mut member = Vec::new(alloc);
+    put_table(alloc, &mut member, FLUORINE)?;
+    for _ in 0..count {
+        out.extend_from_slice(&member)?;
+    }
+    out.extend_from_slice(b"$END RGP\n$END MOL\n")?;
+    Ok(out)
+}
+
+// The text of a chain of 999 atoms, in which each but the ends is a link.
+fn many_links(alloc: Global) -> Result<Vec<u8>, Fail> {
+    let mut out = Vec::from_slice(alloc, b"$MDL\n$MOL\n$HDR\n\n\n\n$END HDR\n$CTAB\n999998\n")?;
+    for _ in 0..999 {
+        out.extend_from_slice(b"    0.0000    0.0000    0.0000 C\n")?;
+    }
+    for i in 1..999 {
+        put_padded(alloc, &mut out, i)?;
+        put_padded(alloc, &mut out, i + 1)?;
+        out.extend_from_slice(b"  1\n")?;
+    }
+    for i in 1..998 {
+        out.extend_from_slice(b"M  LIN  1 ")?;
+        put_padded(alloc, &mut out, i + 1)?;
+        out.extend_from_slice(b"   2 ")?;
+        put_padded(alloc, &mut out, i)?;
+        out.extend_from_slice(b" ")?;
+        put_padded(alloc, &mut out, i + 2)?;
+        out.extend_from_slice(b"\n")?;
+    }
+    out.extend_from_slice(b"M  END\n$END CTAB\n$END MOL\n")?;
+    Ok(out)
+}
+
+fn put_padded(alloc: Global, out: &mut Vec<u8>, n: u64) -> Result<(), Fail> {
+    if n < 100 {
+        out.extend_from_slice(b" ")?;
+    }
+    if n < 10 {
+        out.extend_from_slice(b" ")?;
+    }
+    put_number(alloc, out, n)?;
+    Ok(())
+}
+
+// 999 links side by side, each of which is looked at.
+#[test]
+fn looks_at_999_links(rt: HostRuntime) -> Result<(), Fail> {
+    let alloc = rt.alloc();
+    assert!(rt; fault_of(alloc, &many_links(alloc)?)? == (13, 0, 0));
+    Ok(())
+}
+
 // The text of an RGfile.
 fn rgfile(alloc: Global, root: &str, groups: &[(u64, &[&str])]) -> Result<Vec<u8>, Fail> {
     let mut out = Vec::from_slice(alloc, b"$MDL\n$MOL\n$HDR\n\n\n\n$END HDR\n")?;
