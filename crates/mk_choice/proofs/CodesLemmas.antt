@@ -2,48 +2,13 @@
 --     next_is_first, none_is_left     the code that is taken is the first of those left
 --     none_between                    no valid code stands between one that is taken and the next
 --     no_valid_begins_another         and none begins another
-use Rattle.std.proofs.Common.{◌≡◌, ℕ, inl, inr, List, [], ◌∷◌, ◌++◌, refl, sym, subst, arith}
-use Rattle.std.proofs.lemmas.Bool.{cases_lt, cases_eq}
+use Rattle.std.proofs.Common.{◌≡◌, ℕ, inl, inr, List, [], ◌∷◌, ◌++◌, sym, subst}
 use Rattle.mk_text.specs.Rising.{Holds, IsBelow}
-use Rattle.mk_text.proofs.ForCallers.{below_or_not, below_through, holds_each, not_below_itself}
+use Rattle.mk_text.proofs.ForCallers.{below_or_not, below_through, between_none, holds_each, none_before_place_behind, not_below_after}
 use Rattle.mk_model.specs.Logic.{IsValid}
-use Rattle.mk_model.specs.Codes.{IsCode}
 use Rattle.mk_model.specs.Queries.{QueryView, slots_of}
-use Rattle.mk_model.proofs.ForCallers.{chooses_of, enough}
+use Rattle.mk_model.proofs.ForCallers.{chooses_of, code_of_valid, enough}
 use Rattle.mk_choice.specs.Codes.{NextIsFirst, NoValidBeginsAnother, NoneBetween, NoneIsLeft}
-
--- ---- the place behind a list
-
--- a list is below the place behind it
-below_after : (xs : List ℕ) → IsBelow xs (xs ++ (0 ∷ []))
-below_after [] = tt
-below_after (x ∷ xs) = inr (refl, below_after xs)
-
--- what isn't below the place behind a list is above the list
-not_below_after : (xs ys : List ℕ) → (IsBelow ys (xs ++ (0 ∷ [])) → ⊥) → IsBelow xs ys
-not_below_after [] [] not = absurd (not tt)
-not_below_after [] (y ∷ ys) not = tt
-not_below_after (x ∷ xs) [] not = absurd (not tt)
-not_below_after (x ∷ xs) (y ∷ ys) not =
-    elim (cases_lt x y) [
-      | inl less ↦ inl less
-      | inr more ↦ elim (cases_eq x y) [
-        | inl same ↦ inr (same, not_below_after xs ys (λ below. not (inr (sym same, below))))
-        | inr other ↦ absurd (not (inl (omega (arith, more, other))))
-      ]
-    ]
-
--- between a list and the place behind it is the list alone
-between_none : (xs ys : List ℕ) → (IsBelow ys xs → ⊥) → IsBelow ys (xs ++ (0 ∷ [])) → xs ≡ ys
-between_none [] [] not below = refl
-between_none [] (y ∷ ys) not (inl less) = absurd (omega arith)
-between_none [] (y ∷ ys) not (inr h) = absurd h.1
-between_none (x ∷ xs) [] not below = absurd (not tt)
-between_none (x ∷ xs) (y ∷ ys) not (inl less) = absurd (not (inl less))
-between_none (x ∷ xs) (y ∷ ys) not (inr h) =
-    let rest : xs ≡ ys = between_none xs ys (λ below. not (inr (h.0, below))) h.1 in
-    let first : x ≡ y = sym h.0 in
-    cc
 
 -- ---- the codes
 
@@ -89,22 +54,13 @@ none_between old middle new code later one next = (above later from, λ other is
     above : (ys : List ℕ) → (IsBelow ys (code ++ (0 ∷ [])) → ⊥) → IsBelow code ys
     above ys not = not_below_after code ys not
 
-    not_before : (other : List ℕ) → IsBelow code other → IsBelow other (code ++ (0 ∷ [])) → ⊥
-    not_before other over below =
-        let same = between_none code other (λ under. not_below_itself code (below_through code other code over under)) below in
-        not_below_itself code (subst (λ (ys : List ℕ). IsBelow code ys) (sym same) over)
-
     none : (other : List ℕ) → IsValid old.query other → IsBelow code other → IsBelow other later → ⊥
     none other is over under =
         next.least.least other (subst (λ query. IsValid query other) (sym one.query) is)
-        (subst (λ (place : List ℕ). IsBelow other place → ⊥) (sym one.place) (not_before other over)) under
+        (subst (λ (place : List ℕ). IsBelow other place → ⊥) (sym one.place) (none_before_place_behind code other over)) under
 
 -- ---- prefixes
 
--- a valid code is a structural code
-code_of : (query : QueryView) (code : List ℕ) → IsValid query code → IsCode query 0 code
-code_of query code is = record { choice = is.choice; made = is.made; spelt = is.spelt }
-
 pub no_valid_begins_another : NoValidBeginsAnother
 no_valid_begins_another query code more is longer =
-    enough query (slots_of query 0) code more (chooses_of query 0 code (code_of query code is)) (chooses_of query 0 (code ++ more) (code_of query (code ++ more) longer))
+    enough query (slots_of query 0) code more (chooses_of query 0 code (code_of_valid query code is)) (chooses_of query 0 (code ++ more) (code_of_valid query (code ++ more) longer))

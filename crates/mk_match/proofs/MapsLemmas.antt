@@ -1,47 +1,13 @@
 -- The hits that are left, one after another.
 --     next_is_first       a hit that is taken is the first of those left, and the others are left behind it
 --     none_is_left        where none is taken none was left
-use Rattle.std.proofs.Common.{◌≡◌, ℕ, inl, inr, List, [], ◌∷◌, ◌++◌, refl, sym, subst, arith}
-use Rattle.std.proofs.lemmas.Bool.{cases_lt, cases_eq}
+use Rattle.std.proofs.Common.{◌≡◌, ℕ, inl, inr, List, [], ◌∷◌, ◌++◌, sym, subst}
 use Rattle.mk_text.specs.Rising.{Holds, IsBelow}
-use Rattle.mk_text.proofs.ForCallers.{below_or_not, below_through, holds_each}
+use Rattle.mk_text.proofs.ForCallers.{below_or_not, below_through, between_none, holds_each, not_below_after}
 use Rattle.mk_model.specs.Molecules.{Molecule}
 use Rattle.mk_model.specs.Graphs.{GraphView}
 use Rattle.mk_model.specs.Hits.{IsHit}
 use Rattle.mk_match.specs.Maps.{NextIsFirst, NoneIsLeft}
-
--- ---- the place behind a list
-
--- a list is below the place behind it
-below_after : (xs : List ℕ) → IsBelow xs (xs ++ (0 ∷ []))
-below_after [] = tt
-below_after (x ∷ xs) = inr (refl, below_after xs)
-
--- what isn't below the place behind a list is above the list
-not_below_after : (xs ys : List ℕ) → (IsBelow ys (xs ++ (0 ∷ [])) → ⊥) → IsBelow xs ys
-not_below_after [] [] not = absurd (not tt)
-not_below_after [] (y ∷ ys) not = tt
-not_below_after (x ∷ xs) [] not = absurd (not tt)
-not_below_after (x ∷ xs) (y ∷ ys) not =
-    elim (cases_lt x y) [
-      | inl less ↦ inl less
-      | inr more ↦ elim (cases_eq x y) [
-        | inl same ↦ inr (same, not_below_after xs ys (λ below. not (inr (sym same, below))))
-        | inr other ↦ absurd (not (inl (omega (arith, more, other))))
-      ]
-    ]
-
--- between a list and the place behind it is the list alone
-between_none : (xs ys : List ℕ) → (IsBelow ys xs → ⊥) → IsBelow ys (xs ++ (0 ∷ [])) → xs ≡ ys
-between_none [] [] not below = refl
-between_none [] (y ∷ ys) not (inl less) = absurd (omega arith)
-between_none [] (y ∷ ys) not (inr h) = absurd h.1
-between_none (x ∷ xs) [] not below = absurd (not tt)
-between_none (x ∷ xs) (y ∷ ys) not (inl less) = absurd (not (inl less))
-between_none (x ∷ xs) (y ∷ ys) not (inr h) =
-    let rest : xs ≡ ys = between_none xs ys (λ below. not (inr (h.0, below))) h.1 in
-    let first : x ≡ y = sym h.0 in
-    cc
 
 -- ---- the hits
 

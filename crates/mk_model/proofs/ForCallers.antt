@@ -13,6 +13,7 @@
 --     one_choice, chooses_of .. standing_is, cut         codes as choices and from the left
 --     no_longer, code_is_short    how long codes are
 --     allows_is .. allowed_same, some_passes .. passes_all      the logic of groups
+--     code_of_valid .. begins_no_key      keys as a number, a code and a hit
 --     codes_listed                the plain program lists the structural codes
 use Rattle.std.proofs.Common.{◌≡◌, ◌≤◌, ◌<◌, ◌+◌, ◌-◌, ℕ, zero, suc, Bool, true, false, cond, List, [], ◌∷◌, refl, length, get_or, take, arith}
 use Rattle.mk_model.specs.declared.edge.Edge.{Edge}
@@ -29,6 +30,7 @@ pub use Rattle.mk_model.proofs.OpenSlotsLemmas.{IsCut, cut, walks, enough, is_co
 pub use Rattle.mk_model.proofs.CodeLengthLemmas.{most_numbers, no_longer, code_is_short}
 pub use Rattle.mk_model.proofs.LogicLemmas.{IsPassed, some_passes, passes_some, all_pass, passes_all, allows_is, is_allowed, allowed_same}
 pub use Rattle.mk_model.proofs.PlainCodesLemmas.{ChoosesWithin, codes_listed}
+pub use Rattle.mk_model.proofs.KeysLemmas.{code_of_valid, one_code, read_one_way, begins_no_occurrence, begins_no_key}
 
 -- among bonds that are numbered from j on, k numbers one of atom n
 pub record IsNumberFrom (j : ℕ) (bonds : List Edge) (n k : ℕ) : Type 0 where

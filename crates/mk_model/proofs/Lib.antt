@@ -13,6 +13,7 @@ pub mod CodeLengthLemmas
 pub mod OpenSlotsLemmas
 pub mod LogicLemmas
 pub mod PlainCodesLemmas
+pub mod KeysLemmas
 pub mod ForCallers
 pub mod OnLiterals
 pub mod FitsOnLiterals

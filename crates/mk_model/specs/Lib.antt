@@ -21,3 +21,4 @@ pub mod OpenSlots
 pub mod PlainCodes
 pub mod Pieces
 pub mod Expansions
+pub mod Keys

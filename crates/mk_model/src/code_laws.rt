@@ -1,5 +1,6 @@
-// Laws of structural codes, each carried by a function that does nothing.
+// Laws of structural codes and of keys, each carried by a function that does nothing.
 ghost use Rattle.mk_model.specs.Codes.{CodesAreReadOneWay, NoCodeBeginsAnother};
+ghost use Rattle.mk_model.specs.Keys.{NoKeyBeginsAnother, OccurrencesAreReadOneWay};
 ghost use Rattle.mk_model.specs.PlainCodes.{ValidCodesAreListed};
 
 /// No structural code is a proper prefix of another.
@@ -15,4 +16,14 @@ pub fn codes_are_read_one_way()
 /// The plain program lists the valid codes of a query, all of them and in order.
 pub fn valid_codes_are_listed()
     ensures { ValidCodesAreListed }
+{}
+
+/// A structural code, and the hit behind it, stand in an occurrence in one way.
+pub fn occurrences_are_read_one_way()
+    ensures { OccurrencesAreReadOneWay }
+{}
+
+/// No key is a proper prefix of another.
+pub fn no_key_begins_another()
+    ensures { NoKeyBeginsAnother }
 {}

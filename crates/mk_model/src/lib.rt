@@ -26,7 +26,10 @@ mod tests;
 
 pub use atom_test::{AtomTest, Kind};
 pub use bond_order::put_in_order;
-pub use code_laws::{codes_are_read_one_way, no_code_begins_another, valid_codes_are_listed};
+pub use code_laws::{
+    codes_are_read_one_way, no_code_begins_another, no_key_begins_another,
+    occurrences_are_read_one_way, valid_codes_are_listed,
+};
 pub use edge::Edge;
 pub use edges::edges_of_graph;
 pub use elements::Elements;

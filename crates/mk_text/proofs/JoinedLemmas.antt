@@ -7,12 +7,12 @@ use Rattle.mk_text.proofs.RisingLemmas.{each_holds, holds_each, each_mapped, hol
 -- ---- the order
 
 -- behind the same list
-below_behind : (a b c : List ℕ) → IsBelow b c → IsBelow (a ++ b) (a ++ c)
+pub below_behind : (a b c : List ℕ) → IsBelow b c → IsBelow (a ++ b) (a ++ c)
 below_behind [] b c below = below
 below_behind (x ∷ a) b c below = inr (refl, below_behind a b c below)
 
 -- behind a lower list that doesn't begin the higher one
-below_joined : (a c b d : List ℕ) → IsBelow a c → ((more : List ℕ) → c ≡ a ++ more → ⊥) → IsBelow (a ++ b) (c ++ d)
+pub below_joined : (a c b d : List ℕ) → IsBelow a c → ((more : List ℕ) → c ≡ a ++ more → ⊥) → IsBelow (a ++ b) (c ++ d)
 below_joined a [] b d below apart = absurd below
 below_joined [] (y ∷ c) b d below apart = absurd (apart (y ∷ c) refl)
 below_joined (x ∷ a) (y ∷ c) b d (inl less) apart = inl less

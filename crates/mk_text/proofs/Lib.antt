@@ -10,6 +10,8 @@ pub mod FieldLemmas
 pub mod KeptColumnLemmas
 pub mod SpellingLemmas
 pub mod RisingLemmas
+pub mod PlaceLemmas
+pub mod FirstLemmas
 pub mod JoinedLemmas
 pub mod ChoiceLemmas
 pub mod ForCallers

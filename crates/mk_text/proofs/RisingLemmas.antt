@@ -113,7 +113,7 @@ same_first xs ys lists others r s (inr late) (inr later) =
     absurd (not_below_itself xs (below_through xs ys xs (each_holds (λ zs. IsBelow xs zs) lists ys r.0 later) (each_holds (λ zs. IsBelow ys zs) others xs s.0 late)))
 
 -- what else the first holds, the second holds behind its own first
-others_held : (xs : List ℕ) (lists others : List (List ℕ)) → Each (λ ys. IsBelow xs ys) lists → ((zs : List ℕ) → Holds (xs ∷ lists) zs → Holds (xs ∷ others) zs) → (zs : List ℕ) → Holds lists zs → Holds others zs
+pub others_held : (xs : List ℕ) (lists others : List (List ℕ)) → Each (λ ys. IsBelow xs ys) lists → ((zs : List ℕ) → Holds (xs ∷ lists) zs → Holds (xs ∷ others) zs) → (zs : List ℕ) → Holds lists zs → Holds others zs
 others_held xs lists others above held zs is =
     elim (held zs (inr is)) [
       | inl same ↦ absurd (not_below_itself xs (subst (λ (ys : List ℕ). IsBelow xs ys) (sym same) (each_holds (λ ys. IsBelow xs ys) lists zs above is)))
@@ -141,27 +141,27 @@ one_of_all P lists others h g =
 -- ---- the first so many
 
 -- the first so many are held
-take_holds : (n : ℕ) (lists : List (List ℕ)) (xs : List ℕ) → Holds (take n lists) xs → Holds lists xs
+pub take_holds : (n : ℕ) (lists : List (List ℕ)) (xs : List ℕ) → Holds (take n lists) xs → Holds lists xs
 take_holds zero lists xs is = absurd is
 take_holds (suc n) [] xs is = absurd is
 take_holds (suc n) (ys ∷ lists) xs (inl same) = inl same
 take_holds (suc n) (ys ∷ lists) xs (inr is) = inr (take_holds n lists xs is)
 
 -- and so are the others
-drop_holds : (n : ℕ) (lists : List (List ℕ)) (xs : List ℕ) → Holds (drop n lists) xs → Holds lists xs
+pub drop_holds : (n : ℕ) (lists : List (List ℕ)) (xs : List ℕ) → Holds (drop n lists) xs → Holds lists xs
 drop_holds zero lists xs is = is
 drop_holds (suc n) [] xs is = absurd is
 drop_holds (suc n) (ys ∷ lists) xs is = inr (drop_holds n lists xs is)
 
 -- the first so many rise
-take_rises : (n : ℕ) (lists : List (List ℕ)) → Rises lists → Rises (take n lists)
+pub take_rises : (n : ℕ) (lists : List (List ℕ)) → Rises lists → Rises (take n lists)
 take_rises zero lists rises = tt
 take_rises (suc n) [] rises = tt
 take_rises (suc n) (xs ∷ lists) rises =
     (holds_each (λ ys. IsBelow xs ys) (take n lists) (λ ys is. each_holds (λ zs. IsBelow xs zs) lists ys rises.0 (take_holds n lists ys is)), take_rises n lists rises.1)
 
 -- and stand below the others
-take_below_drop : (n : ℕ) (lists : List (List ℕ)) (xs ys : List ℕ) → Rises lists → Holds (take n lists) xs → Holds (drop n lists) ys → IsBelow xs ys
+pub take_below_drop : (n : ℕ) (lists : List (List ℕ)) (xs ys : List ℕ) → Rises lists → Holds (take n lists) xs → Holds (drop n lists) ys → IsBelow xs ys
 take_below_drop zero lists xs ys rises early late = absurd early
 take_below_drop (suc n) [] xs ys rises early late = absurd early
 take_below_drop (suc n) (zs ∷ lists) xs ys rises (inl same) late =

@@ -4,8 +4,10 @@
 --     Holds lists xs                     xs is one of the lists
 --     IsRisingListOfAll P lists          the rising list of all lists of numbers that have P
 --     IsLeastFrom front P found          the least list that has P and isn't below the front, or none
+--     AreFirst most P lists              the first so many lists that have P, in rising order
+--     place_behind place lists           the place behind the last of the lists
 --     joined_with behind lists           each list with each of those that stand behind it
-use Rattle.std.specs.Prelude.{◌≡◌, ℕ, ◌<◌, ◌⊎◌, List, [], ◌∷◌, ◌++◌, Option, Some, None, map, take, drop}
+use Rattle.std.specs.Prelude.{◌≡◌, ℕ, ◌<◌, ◌≤◌, ◌⊎◌, List, [], ◌∷◌, ◌++◌, Option, Some, None, length, map, take, drop}
 use Rattle.std.specs.List.{AllByRecursion, flat_map}
 
 -- number by number, a proper prefix before what it begins
@@ -46,6 +48,25 @@ pub record IsLeast (front : List ℕ) (P : List ℕ → Type 0) (found : List �
 abbrev pub IsLeastFrom : List ℕ → (List ℕ → Type 0) → Option (List ℕ) → Type 0
 IsLeastFrom front P None = (other : List ℕ) → P other → (IsBelow other front → ⊥) → ⊥
 IsLeastFrom front P (Some found) = IsLeast front P found
+
+-- ---- the first so many
+
+-- Lists that have P, in rising order. Each list that has P is among them, or they are as many as asked for and it is above all of
+-- them.
+pub record AreFirst (most : ℕ) (P : List ℕ → Type 0) (lists : List (List ℕ)) : Type 0 where
+  pub rises : Rises lists
+  pub each : (xs : List ℕ) → Holds lists xs → P xs
+  pub few : length lists ≤ most
+  pub others : (xs : List ℕ) → P xs → Holds lists xs ⊎ ((length lists ≡ most) × Each (λ ys. IsBelow ys xs) lists)
+
+-- the place behind a list is the list with 0 behind it; the place behind no list is the place before it
+abbrev pub place_behind : List ℕ → List (List ℕ) → List ℕ
+place_behind place [] = place
+place_behind place (xs ∷ lists) = place_behind (xs ++ (0 ∷ [])) lists
+
+-- the list has P and isn't below the place
+abbrev pub IsFrom : (List ℕ → Type 0) → List ℕ → List ℕ → Type 0
+IsFrom P place xs = P xs × (IsBelow xs place → ⊥)
 
 -- ---- lists with others behind them
 
@@ -100,3 +121,7 @@ JoinedListsRise =
     (behind : List ℕ → List (List ℕ)) (lists : List (List ℕ)) → Rises lists → NoneBeginsAnother lists
     → ((a : List ℕ) → Holds lists a → Rises (behind a))
     → IsRisingListOfAll (IsJoined behind lists) (joined_with behind lists)
+
+-- no list stands between a list and the place behind it
+abbrev pub NoneBeforePlaceBehind : Type 0
+NoneBeforePlaceBehind = (xs ys : List ℕ) → IsBelow xs ys → IsBelow ys (xs ++ (0 ∷ [])) → ⊥

@@ -3,7 +3,7 @@ ghost use Rattle.mk_text.specs.Fields.{FieldsAreRead};
 ghost use Rattle.mk_text.specs.Choices.{ChoicesThatPass};
 ghost use Rattle.mk_text.specs.KeptLines.{KeptLinesAreRead, KeptLinesStay};
 ghost use Rattle.mk_text.specs.Lines.{LinesAreFew, LinesHoldNoLf, TextOfLinesIsRead};
-ghost use Rattle.mk_text.specs.Rising.{OneRisingList, FirstOfRising, RisingFromPlace, JoinedListsRise};
+ghost use Rattle.mk_text.specs.Rising.{FirstOfRising, JoinedListsRise, NoneBeforePlaceBehind, OneRisingList, RisingFromPlace};
 ghost use Rattle.mk_text.specs.Spelling.{RightJustifiedIsRead, SignedRightJustifiedIsRead};
 
 /// Columns are a numeric field with a number exactly where the reading of fields gives that number.
@@ -37,6 +37,11 @@ pub fn first_of_rising()
 /// What isn't below a place is the end of a rising list, and rises.
 pub fn rising_from_place()
     ensures { RisingFromPlace }
+{}
+
+/// Nothing stands between a list and the place behind it.
+pub fn none_before_place_behind()
+    ensures { NoneBeforePlaceBehind }
 {}
 
 /// Rising lists with rising lists behind them rise, where none of the first is a proper prefix of another.

@@ -28,8 +28,8 @@ pub use fields::field;
 pub use kept::{kept_lines, kept_lines_between};
 pub use laws::{
     choices_rise, field_is_exact, first_of_rising, joined_lists_rise, kept_lines_stay,
-    lines_are_read, one_rising_list, right_justified_is_read, rising_from_place,
-    signed_right_justified_is_read,
+    lines_are_read, none_before_place_behind, one_rising_list, right_justified_is_read,
+    rising_from_place, signed_right_justified_is_read,
 };
 pub use line_start::{LineStart, first_line, line_from, start_of_line};
 pub use lists::{Bytes, Listed, Numbers, Place};
