@@ -2,11 +2,11 @@
 --     next_is_first, none_is_left     the code that is taken is the first of those left
 --     none_between                    no valid code stands between one that is taken and the next
 --     no_valid_begins_another         and none begins another
-use Rattle.std.proofs.Common.{◌≡◌, ℕ, inl, inr, List, [], ◌∷◌, ◌++◌, sym, subst}
+use Rattle.std.proofs.Common.{ℕ, inl, inr, List, [], ◌∷◌, ◌++◌, sym, subst}
 use Rattle.mk_text.specs.Rising.{Holds, IsBelow}
 use Rattle.mk_text.proofs.ForCallers.{below_or_not, below_through, between_none, holds_each, none_before_place_behind, not_below_after}
 use Rattle.mk_model.specs.Logic.{IsValid}
-use Rattle.mk_model.specs.Queries.{QueryView, slots_of}
+use Rattle.mk_model.specs.Queries.{slots_of}
 use Rattle.mk_model.proofs.ForCallers.{chooses_of, code_of_valid, enough}
 use Rattle.mk_choice.specs.Codes.{NextIsFirst, NoValidBeginsAnother, NoneBetween, NoneIsLeft}
 

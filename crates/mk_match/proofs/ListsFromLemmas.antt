@@ -3,9 +3,9 @@
 --     fewer_in        a number more, where the one before isn't lower
 --     fewer_out       a number less, where the one before is the next
 --     left_next, left_in, left_back      the same of the places of a walk
-use Rattle.std.proofs.Common.{◌≡◌, ℕ, zero, suc, ◌+◌, ◌*◌, ◌-◌, ◌^◌, ◌<◌, ◌≤◌, List, [], ◌∷◌, ◌++◌, length, get_or, take, set, refl, sym, ap, subst, ◌∙◌, arith, append_assoc}
+use Rattle.std.proofs.Common.{◌≡◌, ℕ, zero, suc, ◌+◌, ◌*◌, ◌-◌, ◌^◌, ◌<◌, ◌≤◌, List, [], ◌∷◌, ◌++◌, length, get_or, take, set, sym, ap, subst, ◌∙◌, arith, append_assoc}
 use Rattle.std.proofs.lemmas.List.{length-take-le, take_more, take_more_set}
-use Rattle.std.proofs.Math.Nat.{mul-le-mul_left, mul-le-mul_right, pow-suc, pow-zero}
+use Rattle.std.proofs.Math.Nat.{mul-le-mul_right, pow-suc, pow-zero}
 use Rattle.mk_match.specs.Walk.{lists_from, place_of}
 
 -- ---- products

@@ -1,7 +1,7 @@
 -- The hits that are left, one after another.
 --     next_is_first       a hit that is taken is the first of those left, and the others are left behind it
 --     none_is_left        where none is taken none was left
-use Rattle.std.proofs.Common.{◌≡◌, ℕ, inl, inr, List, [], ◌∷◌, ◌++◌, sym, subst}
+use Rattle.std.proofs.Common.{ℕ, inl, inr, List, [], ◌∷◌, ◌++◌, sym, subst}
 use Rattle.mk_text.specs.Rising.{Holds, IsBelow}
 use Rattle.mk_text.proofs.ForCallers.{below_or_not, below_through, between_none, holds_each, not_below_after}
 use Rattle.mk_model.specs.Molecules.{Molecule}

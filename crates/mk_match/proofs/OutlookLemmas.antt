@@ -2,14 +2,13 @@
 --     beside_put       a neighbour that has its place is an anchor
 --     never_unfit, never_first, never_taken, never_unmet      why an atom can't lie on another
 --     look_starts, look_skips, look_goes_in, look_goes_back, look_ends      the steps of the loop
-use Rattle.std.proofs.Common.{◌≡◌, ◌≢◌, ℕ, ◌+◌, ◌<◌, ◌≤◌, ◌-◌, ◌⊎◌, inl, inr, Bool, true, false, not, cond, eqb, ◌||◌, List, [], ◌∷◌, ◌++◌, length, get_or, take, set, map, Option, Some, None, refl, sym, ap, subst, ◌∙◌, arith, All, append_assoc, append-nil, length-append}
+use Rattle.std.proofs.Common.{◌≡◌, ◌≢◌, ℕ, ◌+◌, ◌<◌, ◌≤◌, ◌-◌, inl, inr, Bool, true, false, not, cond, eqb, ◌||◌, List, [], ◌∷◌, ◌++◌, length, get_or, take, set, map, Option, Some, None, refl, sym, ap, subst, ◌∙◌, arith, length-append}
 use Rattle.std.specs.Prelude.{IfSome, slice_get}
 use Rattle.std.proofs.Math.ListN.{get_or-append}
 use Rattle.std.proofs.Math.Seq.{get_or-append_seam}
 use Rattle.std.proofs.lemmas.Bool.{cases_lt, cases_eq, ne_eqb}
 use Rattle.std.proofs.lemmas.Bool.Decides.{nat_tests}
-use Rattle.std.proofs.lemmas.List.{get_or-map, get_or-take, length-map, length-take-le, take_more, take_more_set, get_or_default, get_or-set_other, get_or-set_same, length-set}
-use Rattle.mk_text.specs.Rising.{IsBelow}
+use Rattle.std.proofs.lemmas.List.{get_or-map, length-map, length-take-le, take_more_set, get_or_default, get_or-set_other, get_or-set_same, length-set}
 use Rattle.mk_model.specs.declared.edge.Edge.{Edge}
 use Rattle.mk_model.specs.declared.graph.GraphBond.{GraphBond}
 use Rattle.mk_model.specs.Edges.{HasEnds, numbers_at, touches}
@@ -21,7 +20,7 @@ use Rattle.mk_model.proofs.ForCallers.{all_at, numbers_at-each, place_is, place_
 use Rattle.mk_match.specs.Candidates.{AreBonded, IsCandidate}
 use Rattle.mk_match.specs.Table.{MayLie}
 use Rattle.mk_match.specs.Walk.{SameFrom, place_of}
-use Rattle.mk_match.specs.Outlook.{Agrees, AreLater, EndsAt, IsBeside, IsChosen, IsNoHitBehind, IsPut, IsTaken, LiesNever, StandsIn}
+use Rattle.mk_match.specs.Outlook.{Agrees, AreLater, EndsAt, IsBeside, IsNoHitBehind, IsPut, IsTaken, LiesNever, StandsIn}
 use Rattle.mk_match.proofs.BondCountLemmas.{may_lie}
 use Rattle.mk_match.proofs.ListsFromLemmas.{take_last}
 use Rattle.mk_match.proofs.PassedLemmas.{none_left, same_back, same_in, same_skip, same_through}

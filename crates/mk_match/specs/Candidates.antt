@@ -2,7 +2,7 @@
 --     AreBonded mol a b                  some bond joins the two atoms
 --     IsCandidate mol anchor a           atom a is bonded to the anchor, where there is one
 --     IsLeastEnd bonds n numbers above least      the least end of these bonds of atom n that is above a number
-use Rattle.std.specs.Prelude.{◌≡◌, ◌<◌, ◌≤◌, ◌-◌, nat_le, min, ℕ, List, Option, Some, None, slice_get, All, if◌then◌else◌}
+use Rattle.std.specs.Prelude.{◌<◌, ◌≤◌, ◌-◌, nat_le, min, ℕ, List, Option, Some, None, slice_get, All, if◌then◌else◌}
 use Rattle.mk_model.specs.declared.molecule.MolBond.{MolBond}
 use Rattle.mk_model.specs.Molecules.{Molecule, IsBondOf, edge_of}
 use Rattle.mk_model.specs.Edges.{other_end}

@@ -10,10 +10,10 @@ use Rattle.mk_model.specs.declared.graph.GraphAtom.{GraphAtom}
 use Rattle.mk_model.specs.Codes.{Choice, IsCode}
 use Rattle.mk_model.specs.Expansions.{IsExpansion, expansion}
 use Rattle.mk_model.specs.Graphs.{GraphView}
-use Rattle.mk_model.specs.Keys.{IsAmong, IsKey, IsOccurrence, NoKeyBeginsAnother, OccurrencesAreReadOneWay}
+use Rattle.mk_model.specs.Keys.{IsOccurrence, NoKeyBeginsAnother, OccurrencesAreReadOneWay}
 use Rattle.mk_model.specs.Logic.{IsValid}
 use Rattle.mk_model.specs.Molecules.{Molecule}
-use Rattle.mk_model.specs.Queries.{QueryView, slots_of}
+use Rattle.mk_model.specs.Queries.{QueryView}
 use Rattle.mk_model.proofs.CodesLemmas.{law as codes_are_read_one_way}
 use Rattle.mk_model.proofs.OpenSlotsLemmas.{law as no_code_begins_another}
 
@@ -77,7 +77,7 @@ nothing_more xs ys (z ∷ more) e same =
 pub begins_no_occurrence : (query : QueryView) (mol other : Molecule) (xs more : List ℕ) → IsOccurrence query mol xs → IsOccurrence query other (xs ++ more) → more ≡ []
 begins_no_occurrence query mol other xs more o p =
     let whole : o.code ++ (o.hit ++ more) ≡ p.code ++ p.hit =
-        sym (append_assoc o.code o.hit more) ∙ ap (λ (zs : List ℕ). zs ++ more) (sym o.whole) ∙ p.whole in
+    sym (append_assoc o.code o.hit more) ∙ ap (λ (zs : List ℕ). zs ++ more) (sym o.whole) ∙ p.whole in
     let same : p.code ≡ o.code = one_code query o.code (o.hit ++ more) p.code p.hit (code_of_valid query o.code o.valid) (code_of_valid query p.code p.valid) whole in
     let behind : p.hit ≡ o.hit ++ more = same_behind o.code (o.hit ++ more) p.code p.hit same whole in
     let atoms : p.graph.atoms ≡ o.graph.atoms = same_atoms query p.code o.code p.graph o.graph p.expanded o.expanded same in

@@ -15,5 +15,6 @@ pub mod LogicLemmas
 pub mod PlainCodesLemmas
 pub mod KeysLemmas
 pub mod ForCallers
+pub mod FewLemmas
 pub mod OnLiterals
 pub mod FitsOnLiterals

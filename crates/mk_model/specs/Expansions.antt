@@ -17,7 +17,7 @@ use Rattle.mk_model.specs.declared.template.QueryBond.{QueryBond}
 use Rattle.mk_model.specs.declared.template.Slot.{Slot}
 use Rattle.mk_model.specs.declared.template.Slot.TheVariants.{Link, Site}
 use Rattle.mk_model.specs.Codes.{Choice, IsChoice, spelling}
-use Rattle.mk_model.specs.Codes.Choice.{done, repeated, unfilled, filled}
+use Rattle.mk_model.specs.Codes.Choice.{repeated, unfilled, filled}
 use Rattle.mk_model.specs.Graphs.{GraphView, IsGraph}
 use Rattle.mk_model.specs.Labels.{draws_rest_hydrogens, member}
 use Rattle.mk_model.specs.Pieces.{Fragment, Piece, before, ending, numbers_to, piece, taker, width}

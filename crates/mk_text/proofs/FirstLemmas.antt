@@ -6,7 +6,7 @@
 use Rattle.std.proofs.Common.{◌≡◌, ℕ, zero, suc, ◌+◌, ◌≤◌, ◌⊎◌, inl, inr, List, [], ◌∷◌, ◌++◌, length, take, drop, refl, sym, ap, ◌∙◌, subst, arith}
 use Rattle.std.proofs.lemmas.Bool.{cases_lt, cases_eq}
 use Rattle.mk_text.specs.Rising.{AreFirst, Each, Holds, IsBelow, IsFrom, IsLeast, IsRisingListOfAll, NoneBeforePlaceBehind, Rises, place_behind}
-use Rattle.mk_text.proofs.PlaceLemmas.{below_after, between_none, not_below_after}
+use Rattle.mk_text.proofs.PlaceLemmas.{below_after, between_none}
 use Rattle.mk_text.proofs.RisingLemmas.{below_or_not, below_through, each_from, each_holds, holds_append, holds_each, holds_either, not_below_itself, one_rising_list, others_held, rises_append, take_below_drop, take_holds, take_rises}
 
 -- ---- the order
@@ -47,7 +47,7 @@ few_of (xs ∷ lists) (ys ∷ others) r s to =
     elim (to xs (inl refl)) [
       | inl same ↦
           let behind : (zs : List ℕ) → Holds lists zs → Holds others zs =
-            others_held xs lists others r.0 (λ zs is. subst (λ (us : List ℕ). Holds (us ∷ others) zs) same (to zs is)) in
+          others_held xs lists others r.0 (λ zs is. subst (λ (us : List ℕ). Holds (us ∷ others) zs) same (to zs is)) in
           let rest = few_of lists others r.1 s.1 behind in
           omega (arith, rest)
       | inr late ↦

@@ -1,4 +1,4 @@
-use Rattle.std.proofs.Common.{◌≡◌, ◌<◌, ◌≤◌, ◌+◌, ◌-◌, length, get_or, take, refl, arith}
+use Rattle.std.proofs.Common.{◌<◌, ◌+◌, length, refl, arith}
 use Rattle.std.proofs.lemmas.Bool.Decides.{nat_tests}
 use Rattle.mk_match.proofs.ListsFromLemmas.{left_back, left_in, left_next}
 use Rattle.mk_match.proofs.OutlookLemmas.{looking_ends, looking_goes_back, looking_puts, looking_skips, looking_starts}

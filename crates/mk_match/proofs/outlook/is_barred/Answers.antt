@@ -1,4 +1,4 @@
-use Rattle.std.proofs.Common.{◌<◌, ◌≤◌, length, get_or, refl, arith}
+use Rattle.std.proofs.Common.{length, get_or, refl, arith}
 use Rattle.mk_match.proofs.OutlookLemmas.{never_first, never_taken, never_unfit}
 use Rattle.mk_match.proofs.outlook.is_barred.Goals as goal
 

@@ -1,4 +1,4 @@
-use Rattle.std.proofs.Common.{◌≡◌, length, subst, arith}
+use Rattle.std.proofs.Common.{◌≡◌, length, arith}
 use Rattle.mk_match.proofs.TableLemmas.{row_ends, row_goes_on, row_starts}
 use Rattle.mk_match.proofs.table.push_row.Goals as goal
 

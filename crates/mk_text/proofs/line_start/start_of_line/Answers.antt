@@ -1,5 +1,4 @@
-use Rattle.std.proofs.Common.{◌≡◌, ◌≤◌, length, get_or, subst, arith}
-use Rattle.std.proofs.lemmas.Option.{slice_get-get_or}
+use Rattle.std.proofs.Common.{◌≡◌, ◌≤◌, length, subst, arith}
 use Rattle.mk_text.specs.declared.cutting.Span.{Span}
 use Rattle.mk_text.specs.LineStart.{IsLineStart}
 use Rattle.mk_text.proofs.LineStartLemmas.{starts_last}

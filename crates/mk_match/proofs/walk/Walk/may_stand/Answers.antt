@@ -1,4 +1,4 @@
-use Rattle.std.proofs.Common.{◌≡◌, ◌<◌, ◌≤◌, ◌+◌, ℕ, length, take, refl, sym, subst, arith}
+use Rattle.std.proofs.Common.{◌≡◌, ◌+◌, ℕ, length, take, refl, sym, subst, arith}
 use Rattle.std.proofs.lemmas.List.{length-take-le}
 use Rattle.mk_match.specs.Table.{MayLie}
 use Rattle.mk_match.proofs.WalkLemmas.{new_where, not_new}

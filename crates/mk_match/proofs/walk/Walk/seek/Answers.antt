@@ -1,4 +1,4 @@
-use Rattle.std.proofs.Common.{◌≡◌, ◌+◌, ◌-◌, ◌<◌, ◌≤◌, length, get_or, take, refl, arith}
+use Rattle.std.proofs.Common.{get_or, refl, arith}
 use Rattle.mk_match.proofs.WalkLemmas.{seek_last, seek_more, seek_past, seek_whole}
 use Rattle.mk_match.proofs.walk.Walk.seek.Goals as goal
 

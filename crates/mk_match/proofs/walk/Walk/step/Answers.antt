@@ -1,4 +1,4 @@
-use Rattle.std.proofs.Common.{◌≡◌, ◌+◌, ◌-◌, ◌<◌, ◌≤◌, length, take, refl, ap, arith}
+use Rattle.std.proofs.Common.{◌≡◌, ◌+◌, ◌<◌, length, take, refl, ap, arith}
 use Rattle.std.proofs.lemmas.List.{length-set, take-set}
 use Rattle.mk_match.proofs.ListsFromLemmas.{left_back, left_in, left_next}
 use Rattle.mk_match.proofs.WalkLemmas.{anchor_within, behind_found, ended, last_most, least_found, moved_back, moved_dead, moved_in, moved_past, walk_back, walk_found, walk_put, walk_tried}
