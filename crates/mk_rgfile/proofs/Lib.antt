@@ -4,3 +4,5 @@ pub mod QueryFileLemmas
 pub mod QueryLawLemmas
 pub mod QueryFactLemmas
 pub mod QueryReadingLemmas
+pub mod KeptQueryLemmas
+pub mod ForCallers

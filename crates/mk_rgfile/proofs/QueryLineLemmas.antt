@@ -16,7 +16,7 @@ use Rattle.mk_rgfile.specs.QueryLines.{is_keyword, IsGroupNumber, group_number_o
 -- ---- keywords
 
 -- a line begins with the bytes that it is found to begin with
-begins : (line word : List ℕ) → starts_with nat_eq line word ≡ true → line ≡ word ++ drop (length word) line
+pub begins : (line word : List ℕ) → starts_with nat_eq line word ≡ true → line ≡ word ++ drop (length word) line
 begins line word h = (starts_is Decides-eqb line word (starts_with nat_eq line word) refl).0 h
 
 -- no two words that differ in their second byte begin one line

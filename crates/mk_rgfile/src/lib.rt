@@ -17,6 +17,6 @@ mod raw_query;
 
 pub use mk_ctab::{RawTable, TableFault};
 pub use mk_text::Memory;
-pub use query_laws::query_file_is_exact;
+pub use query_laws::{kept_lines_are_the_query, kept_text_stays, query_file_is_exact};
 pub use query_reading::read_rgfile;
 pub use raw_query::{RawGroup, RawGroups, RawQuery, RawTables};
