@@ -34,7 +34,7 @@ check_at-number link_atoms = refl
 check_at-number group_logic = refl
 
 -- no two checks have one number
-number-once : (c d : Check) → number c ≡ number d → c ≡ d
+pub number-once : (c d : Check) → number c ≡ number d → c ≡ d
 number-once c d same = sym (check_at-number c) ∙ ap check_at same ∙ check_at-number d
 
 -- they count from 1 to 10
@@ -56,7 +56,7 @@ module _ (groups : List RawGroup) (is_root : Bool) (table : RawTable) where
   below_none d below = absurd (omega (arith, (number-within d).0))
 
   -- one check more
-  below_more : (c : Check) → Passes groups is_root table c → PassesBelow groups is_root table (number c) → PassesBelow groups is_root table (number c + 1)
+  pub below_more : (c : Check) → Passes groups is_root table c → PassesBelow groups is_root table (number c) → PassesBelow groups is_root table (number c + 1)
   below_more c passes before d below =
       ⊎_elim (λ earlier. before d earlier)
       (λ here. let same : c ≡ d = number-once c d (omega arith) in let P : Check → Type 0 = λ x. Passes groups is_root table x in subst P same passes)

@@ -197,7 +197,7 @@ charge_right table x line passed =
     (value_right table IsCharge charges_of x passed (record { least = omega (arith, ints); most = omega (arith, ints) }) charges_known))
     (column_charge (natural line.charge))
 
-radical_right : (table : RawTable) (x : ℕ) (line : RawAtom) → HasPassed table → IsRadical (radical_at table x line)
+pub radical_right : (table : RawTable) (x : ℕ) (line : RawAtom) → HasPassed table → IsRadical (radical_at table x line)
 radical_right table x line passed =
     one_of IsRadical (lists_values table.props) (last_or (pos 0) (values_for x (radical_pairs table.props))) (radical_of_column (natural line.charge))
     (subst (λ (l : List Pair). IsRadical (last_or (pos 0) (values_for x l))) (radical_pairs_are table.props)

@@ -50,7 +50,7 @@ last_all P earlier [] list was all is = was list is
 last_all P earlier (l ∷ lists) list was all is =
     last_all P (Some l) lists list (λ m e. subst P (some_same l m e) (all 0 l (omega arith))) (λ k d below. all (suc k) d (omega (arith, below))) is
 
-last_some : (l : ElementList) (lists : List ElementList) → (list : ElementList) × (last_list (Some l) lists ≡ Some list)
+pub last_some : (l : ElementList) (lists : List ElementList) → (list : ElementList) × (last_list (Some l) lists ≡ Some list)
 last_some l [] = (l, refl)
 last_some l (m ∷ lists) = last_some m lists
 

@@ -40,3 +40,10 @@ pub mod TemplatePointLemmas
 pub mod TestLemmas
 pub mod ValueLemmas
 pub mod WholeLemmas
+pub mod KeptTextLemmas
+pub mod OneQueryLemmas
+pub mod OneFaultLemmas
+pub mod KnownLemmas
+pub mod KnownCheckLemmas
+pub mod QueryThereLemmas
+pub mod FaultOrQueryLemmas

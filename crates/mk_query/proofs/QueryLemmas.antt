@@ -19,11 +19,11 @@ use Rattle.mk_rgfile.specs.declared.raw_query.RawGroup.{RawGroup}
 use Rattle.mk_rgfile.specs.declared.raw_query.RawQuery.{RawQuery}
 use Rattle.mk_rgfile.specs.QueryFacts.{IsRawGroup, IsRawQuery, member_count, members_in}
 use Rattle.mk_query.specs.Compiled.{AreGroupsOf, AreTemplatesOf, IsTemplateOf, member_tables, members_from, tables_of}
-use Rattle.mk_query.specs.CompileFaults.{PassEach}
+use Rattle.mk_query.specs.CompileFaults.{PassAcross, PassEach}
 use Rattle.mk_query.specs.OwnSizes.{IsSized}
 use Rattle.mk_query.specs.Passed.{HasPassed}
 use Rattle.mk_query.specs.Recursion.{HasGroup}
-use Rattle.mk_query.specs.TableWalk.{PassAcross, PassNested}
+use Rattle.mk_query.specs.TableWalk.{PassNested}
 use Rattle.mk_query.proofs.FitsLemmas.{blocks_closed, has_groups, in_range, is_sized, names_neighbours, pairs_once, points_free, sites_apart, slots_rising}
 use Rattle.mk_query.proofs.MemberLemmas.{member_between, members_rise, members_total, one_group}
 use Rattle.mk_query.proofs.TableWalkLemmas.{all_members, members_count, pass_each}

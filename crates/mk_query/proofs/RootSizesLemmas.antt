@@ -137,7 +137,7 @@ module _ (templates : List TemplateView) (groups : List Group) where
   -- ---- the root
 
   -- a sizing is the one by rank, on the tables
-  one_size : (k : ℕ) → 32 ≤ k → HasGroups whole → All (λ (group : Group). All (λ (u : ℕ). u < length templates) group.members) groups → (rank : ℕ → ℕ) → IsRanked whole rank
+  pub one_size : (k : ℕ) → 32 ≤ k → HasGroups whole → All (λ (group : Group). All (λ (u : ℕ). u < length templates) group.members) groups → (rank : ℕ → ℕ) → IsRanked whole rank
       → (size : ℕ → ℕ) → IsSizing whole size → (n t : ℕ) → rank t < n → t < length templates → size t ≡ size_by_rank whole rank t
   one_size k enough has within rank ranks size is zero t below inside = absurd (omega (arith, below))
   one_size k enough has within rank ranks size is (suc n) t below inside =

@@ -2,7 +2,7 @@
 --     member_split        the members of a group, among those of all
 --     walked              a group more that passes
 --     walk_fault          the first fault of a group's members is that of all tables
---     pass_each           what passes group by group passes table by table
+--     pass_each, pass_nested      what passes group by group passes table by table, and the other way round
 --     templates_more, templates_group     a template more, and those of a group
 use Rattle.std.proofs.Common.{◌≡◌, ℕ, zero, suc, ◌+◌, ◌-◌, ◌<◌, ◌≤◌, false, true, List, [], ◌∷◌, ◌++◌, Some, None, refl, sym, ap, subst, ◌∙◌, ⊎_elim, arith, length, get_or, take, All}
 use Rattle.std.specs.Prelude.{◌==◌, slice_get}
@@ -87,6 +87,20 @@ pass_each raw passed zero table at = (let same : raw.root ≡ table = cc in subs
 pass_each raw passed (suc t) table at =
     let all = all_members (PassesAll raw.groups false) raw.groups passed.members in
     rw (no_root t) (all_at (PassesAll raw.groups false) (member_tables raw.groups) t table all at)
+
+-- and the other way round
+pub pass_nested : (raw : RawQuery) → PassEach raw → PassNested raw
+pass_nested raw passed = record {
+  root = passed 0 raw.root refl;
+  members = λ i d below k e inside.
+      let group = get_or raw.groups i d in
+      let member = get_or group.members k e in
+      let front = member_tables (take i raw.groups) in
+      let split = member_split raw.groups i group (at_place raw.groups i d below) in
+      let there : slice_get (member_tables raw.groups) (length front + k) ≡ Some member =
+      rw split.1 (in_second front (group.members ++ split.0) k ∙ in_first group.members split.0 k inside ∙ at_place group.members k e inside) in
+      rw (no_root (length front + k)) at (passed (suc (length front + k)) member there);
+}
 
 -- the root's first fault is that of all tables
 pub root_fault : (raw : RawQuery) (fault : Fault) → IsFirstFault raw.groups true raw.root fault → IsFirstInTables raw (record { check = fault.check; table = 0; item = fault.item })

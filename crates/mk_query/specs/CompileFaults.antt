@@ -1,6 +1,7 @@
 -- The first fault of a raw query: the first check that fails, and the table and the item at which it does.
 --     IsFirstInTables raw fault      the first fault of the first table that fails a check of its own
 --     IsAcross raw query fault       the first of the checks across tables that fails
+--     PassChecks raw query           every check passes
 --     IsFirstCompileFault raw fault  the first fault of the raw query
 --     IfFault result P               where a check is named, P holds of it
 use Rattle.std.specs.Prelude.{◌≡◌, ◌≢◌, ◌≤◌, ◌<◌, ◌==◌, ℕ, List, [], Some, Contains, slice_get, sum_by, if◌then◌else◌, Result, Ok, Err}
@@ -81,7 +82,19 @@ pub data IsAcross (raw : RawQuery) (query : QueryView) (fault : FaultAt) : Type 
   whole : fault.check ≡ 14 → fault.table ≡ 0 → ((t : ℕ) → IsNoCycle query t) → ((t : ℕ) → FitsTable query t) → IsSmall query
       → IsLeastFailing (IsWhole raw) fault.item → IsAcross raw query fault
 
+-- every check across tables passes
+pub record PassAcross (raw : RawQuery) (query : QueryView) : Type 0 where
+  pub no_cycle : (t : ℕ) → IsNoCycle query t
+  pub fits : (t : ℕ) → FitsTable query t
+  pub small : IsSmall query
+  pub whole : (item : ℕ) → IsWhole raw item
+
 -- ---- of the raw query
+
+-- every check passes: those of each table, and those across tables
+pub record PassChecks (raw : RawQuery) (query : QueryView) : Type 0 where
+  pub in_tables : PassEach raw
+  pub across : PassAcross raw query
 
 -- a table's own fault comes first; where every table passes, the query that is meant is checked
 pub data IsFirstCompileFault (raw : RawQuery) (fault : FaultAt) : Type 0 where

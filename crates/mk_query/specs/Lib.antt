@@ -6,6 +6,7 @@ pub mod Drawn
 pub mod FirstFault
 pub mod GroupMarks
 pub mod KindMarks
+pub mod Laws
 pub mod LastValues
 pub mod ListMarks
 pub mod LinkChecks

@@ -10,7 +10,7 @@ use Rattle.mk_ctab.specs.declared.raw.RawTable.{RawTable}
 use Rattle.mk_rgfile.specs.declared.raw_query.RawGroup.{RawGroup}
 use Rattle.mk_rgfile.specs.declared.raw_query.RawQuery.{RawQuery}
 use Rattle.mk_query.specs.declared.compile_fault.FaultAt.{FaultAt}
-use Rattle.mk_query.specs.CompileFaults.{FitsTable, IsAcross, IsFirstInTables, IsNoCycle, IsSmall, IsWhole}
+use Rattle.mk_query.specs.CompileFaults.{IsAcross, IsFirstInTables, PassAcross}
 use Rattle.mk_query.specs.FirstFault.{IsFirstFault, PassesAll}
 
 -- fewer than 2^32 properties
@@ -45,13 +45,6 @@ FindsInMembers groups members t (Some fault) = IsFirstInMembers groups members t
 abbrev pub FindsInTables : RawQuery → Option FaultAt → Type 0
 FindsInTables raw None = PassNested raw
 FindsInTables raw (Some fault) = IsFirstInTables raw fault
-
--- every check across tables passes
-pub record PassAcross (raw : RawQuery) (query : QueryView) : Type 0 where
-  pub no_cycle : (t : ℕ) → IsNoCycle query t
-  pub fits : (t : ℕ) → FitsTable query t
-  pub small : IsSmall query
-  pub whole : (item : ℕ) → IsWhole raw item
 
 -- the first that fails, or none
 abbrev pub FindsAcross : RawQuery → QueryView → Option FaultAt → Type 0

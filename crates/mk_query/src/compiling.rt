@@ -3,7 +3,7 @@ ghost use Rattle.std.specs.Prelude.{◌≡◌, ◌<◌, ◌+◌, ◌^◌, IfOk};
 ghost use Rattle.mk_rgfile.specs.QueryFacts.{IsRawQuery, member_count};
 ghost use Rattle.mk_query.specs.declared.compile_fault.CompileFault.TheVariants as compile_fault;
 ghost use Rattle.mk_query.specs.Compiled.{IsQueryOf};
-ghost use Rattle.mk_query.specs.CompileFaults.{IfFault, IsFirstCompileFault};
+ghost use Rattle.mk_query.specs.CompileFaults.{IfFault, IsFirstCompileFault, PassChecks};
 ghost use Rattle.mk_query.specs.TableWalk.{HaveFewProperties};
 
 use crate::compile_fault::{CompileFault, FaultAt};
@@ -22,6 +22,7 @@ pub fn compile(alloc: Global, raw: &RawQuery) -> Result<Query, CompileFault>
     requires few_properties { HaveFewProperties raw.now }
 
     ensures query { IfOk result (IsQueryOf raw.now) }
+    ensures passed { IfOk result (PassChecks raw.now) }
 
     ensures fault { IfFault result (IsFirstCompileFault raw.now) }
 {

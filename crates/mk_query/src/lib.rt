@@ -22,6 +22,7 @@ mod compiling;
 mod drawn;
 mod drawn_bonds;
 mod element_kinds;
+mod laws;
 mod link_ends;
 #[cfg(test)]
 mod link_tests;
@@ -63,6 +64,7 @@ mod whole_checks;
 pub use checking::first_fault;
 pub use compile_fault::CompileFault;
 pub use compiling::compile;
+pub use laws::{fault_or_query, kept_text_is_the_query, one_first_fault, one_query};
 pub use mk_text::Memory;
 pub use point_fits::{SitePlace, first_misfit};
 pub use recursion::first_recursive;

@@ -3,10 +3,10 @@ use Rattle.mk_model.specs.declared.group.Group.{Group}
 use Rattle.mk_model.specs.Templates.{TemplateView}
 use Rattle.mk_model.specs.QueryFits.{HasRisingSlots, QueryFits}
 use Rattle.mk_query.specs.Compiled.{AreTemplatesOf, tables_of}
-use Rattle.mk_query.specs.CompileFaults.{IsAcross, IsFirstCompileFault, across_tables}
+use Rattle.mk_query.specs.CompileFaults.{IsAcross, IsFirstCompileFault, PassAcross, across_tables}
 use Rattle.mk_query.specs.OwnSizes.{IsSized}
 use Rattle.mk_query.specs.Recursion.{HasGroup}
-use Rattle.mk_query.specs.TableWalk.{PassAcross, PassNested}
+use Rattle.mk_query.specs.TableWalk.{PassNested}
 use Rattle.mk_query.proofs.QueryLemmas.{fits_query, labels_in, members_within, sized_in, slots_rise_in, count_of}
 use Rattle.mk_query.proofs.TableWalkLemmas.{pass_each}
 use Rattle.mk_query.proofs.compiling.compile.Goals as goal
@@ -55,3 +55,10 @@ of-requires c =
     let across : PassAcross c.args.raw.now (record { templates = c.in_ok-templates.templates.items; groups = c.in_ok-groups.groups.items }) =
     rw (c.deref.ensures.value, c.deref-2.ensures.value, c.in_default-2.is) at c.in_ok-fault-2.ensures in
     fits_query c.args.raw.now c.requires.raw (passed past) c.in_ok-templates.templates.items c.in_ok-templates.ensures c.in_ok-groups.groups.items c.in_ok-groups.ensures across
+
+pub returns-clause-passed : goal.returns-clause-passed
+returns-clause-passed c =
+    let past = (goal.at.returns-clause-passed c).In_default in
+    let across : PassAcross c.args.raw.now (record { templates = c.in_ok-templates.templates.items; groups = c.in_ok-groups.groups.items }) =
+    rw (c.deref.ensures.value, c.deref-2.ensures.value, c.in_default-2.is) at c.in_ok-fault-2.ensures in
+    rw c.of.ensures (record { in_tables = pass_each c.args.raw.now (passed past); across = across })
