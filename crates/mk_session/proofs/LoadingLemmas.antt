@@ -5,7 +5,7 @@
 --     text_is_held     a record that has a text is held
 --     rows_as_records  the shelf has the numbers of the records
 --     installed        a change of records changes the whole tables so
-use Rattle.std.proofs.Common.{◌≡◌, ◌≢◌, ℕ, Bool, true, false, ◌||◌, List, [], ◌∷◌, ◌++◌, Option, Some, None, length, refl, sym, ap, ◌∙◌, subst}
+use Rattle.std.proofs.Common.{◌≡◌, ◌≢◌, ℕ, Bool, true, false, ◌||◌, List, [], ◌∷◌, ◌++◌, Option, Some, length, refl, sym, ap, ◌∙◌, subst}
 use Rattle.std.specs.Prelude.{Result, Ok, Err, IsErr, All, codes, decimal, if◌then◌else◌}
 use Rattle.std.specs.List.{flat_map}
 use Rattle.mk_outside.specs.declared.tables.Change.{Change}
@@ -16,7 +16,7 @@ use Rattle.mk_index.specs.declared.by_number.Numbered.{Numbered}
 use Rattle.mk_model.specs.Molecules.{Molecule}
 use Rattle.mk_library.specs.declared.refusal.LoadRefusal.{LoadRefusal}
 use Rattle.mk_library.specs.declared.refusal.LoadRefusal.TheVariants as refusal
-use Rattle.mk_library.specs.Edits.{Edit, Remove}
+use Rattle.mk_library.specs.Edits.{Edit}
 use Rattle.mk_library.specs.FirstRefusal.{Demand, Demands, IfRefused, IsFirstRefusal, Says, held_number, kept_limits, molecules, one_record, sdfile, short_file, text_of_edit}
 use Rattle.mk_library.specs.Library.{IsSame, LibraryView, tables_of}
 use Rattle.mk_library.specs.Pending.{IsOfRecords, RecordsChangeAlone}
@@ -46,22 +46,6 @@ module _ (records : List RecordRow) (next : ℕ) (edit : Edit) where
   no_number T said held refused e =
       let first : IsFirstRefusal records next edit refusal.NoRecord = subst (λ (s : LoadRefusal). IfRefused {T = T} (Err s) (IsFirstRefusal records next edit)) e refused in
       by_demand first.demand first.fails first.says held
-
-  -- a removal is refused where the number isn't held
-  pub not_held : (n : ℕ) → IsFirstRefusal records next (Remove n) refusal.NoRecord → is_held n records ≡ false
-  not_held n first = by_held (is_held n records) (λ held. no_removal first.demand first.fails held)
-    where
-      no_removal : (demand : Demand) → (Demands records next (Remove n) demand → ⊥) → is_held n records ≡ true → ⊥
-      no_removal held_number fails held = fails held
-      no_removal short_file fails held = fails tt
-      no_removal sdfile fails held = fails tt
-      no_removal one_record fails held = fails tt
-      no_removal molecules fails held = fails tt
-      no_removal kept_limits fails held = fails tt
-
-      by_held : (held : Bool) → (held ≡ true → ⊥) → held ≡ false
-      by_held true never = absurd (never refl)
-      by_held false never = refl
 
 -- what has a line is no want of memory
 pub refused_first : (T : Type 0) (P : LoadRefusal → Type 0) (said : LoadRefusal) (line : List ℕ) → IsFileLine said line → IfRefused {T = T} (Err said) P → P said

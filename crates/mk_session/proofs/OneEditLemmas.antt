@@ -2,7 +2,7 @@
 --     one_reading, long_not_read     a told file has one text, or is too long
 --     one_refusal                    an edit is refused for one thing
 --     one_edited, one_replace        so `load` and `replace` come to one effect
-use Rattle.std.proofs.Common.{◌≡◌, ℕ, zero, suc, Bool, true, false, inl, inr, List, [], ◌∷◌, ◌++◌, Some, length, get_or, refl, sym, ap, subst, ◌∙◌, arith}
+use Rattle.std.proofs.Common.{◌≡◌, ℕ, zero, suc, Bool, true, false, inl, inr, List, [], ◌∷◌, ◌++◌, Some, length, refl, sym, ap, subst, ◌∙◌, arith}
 use Rattle.std.specs.Prelude.{◌↔◌, All, IsTrue}
 use Rattle.std.proofs.lemmas.Bool.Decides.{leb_tells}
 use Rattle.mk_text.specs.Lines.{lines_of}
@@ -11,7 +11,7 @@ use Rattle.mk_outside.specs.declared.tables.Change.TheVariants.{PutRecord}
 use Rattle.mk_outside.specs.declared.tables.RecordRow.{RecordRow}
 use Rattle.mk_outside.specs.declared.tables.Tables.{Tables}
 use Rattle.mk_sdfile.specs.declared.raw_record.RawRecord.{RawRecord}
-use Rattle.mk_sdfile.specs.Sdfile.{HasOneBadLine, HasOneValue, IsBadSdfileLine, IsSdfile, IsV3000Line}
+use Rattle.mk_sdfile.specs.Sdfile.{HasOneBadLine, HasOneValue, IsV3000Line}
 use Rattle.mk_mol.specs.FirstFault.{IsFirstFault}
 use Rattle.mk_mol.specs.Laws.{NoFaultWhereAllPass, OneFirstFault}
 use Rattle.mk_library.specs.declared.refusal.LoadRefusal.{LoadRefusal}

@@ -12,7 +12,7 @@ use Rattle.mk_outside.specs.Tables.{cursor_number, query_number, record_number}
 use Rattle.mk_outside.specs.declared.tables.RecordRow.{RecordRow}
 use Rattle.mk_library.specs.StoredRows as library
 use Rattle.mk_session.specs.declared.stored_rows.RowKind.{RowKind}
-use Rattle.mk_session.specs.declared.stored_rows.RowKind.TheVariants.{Records, Queries, Cursors}
+use Rattle.mk_session.specs.declared.stored_rows.RowKind.TheVariants.{Queries, Cursors}
 use Rattle.mk_session.specs.Running.{IsFirstOf}
 use Rattle.mk_session.specs.StoredRows.{AllRead, EachReads, IsFirstBad, IsFirstBadRow, IsNamed, ReadsCursor, ReadsQuery, RecordsRead, BadRecord, BadQuery, BadCursor}
 

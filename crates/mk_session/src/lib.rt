@@ -17,6 +17,8 @@ mod command_parts;
 mod command_reading;
 mod command_rows;
 mod effect;
+#[cfg(test)]
+mod failure_tests;
 mod file_reading;
 mod files;
 mod finding;
@@ -24,6 +26,8 @@ mod judgment;
 mod laws;
 mod listings;
 mod loading;
+#[cfg(test)]
+mod match_tests;
 mod matching;
 mod ordering;
 mod query_graph;
@@ -31,12 +35,14 @@ mod reading;
 mod records;
 mod running;
 mod saved;
+#[cfg(test)]
+mod script_tests;
 mod session;
 mod status;
 mod stepping;
 mod stored_rows;
 #[cfg(test)]
-mod tests;
+mod test_files;
 mod work;
 
 pub use command::{Command, LineKind, WordsKind};

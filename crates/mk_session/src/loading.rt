@@ -5,7 +5,7 @@ ghost use Rattle.mk_library.specs.declared.refusal.LoadRefusal.TheVariants as re
 ghost use Rattle.mk_library.specs.Library.{IsSame};
 ghost use Rattle.mk_library.specs.Records.{is_held};
 ghost use Rattle.mk_session.specs.Files.{IsFoundAs, Look};
-ghost use Rattle.mk_session.specs.Loading.{IsFileLine, IsLoad, IsReplace, IsTurnOfReplace, loaded_text, replaced_text};
+ghost use Rattle.mk_session.specs.Loading.{IsFileLine, IsLoad, IsReplace, IsTurnOfReplace, loaded_text};
 ghost use Rattle.mk_session.specs.Match.{molecule_bytes};
 ghost use Rattle.mk_session.specs.Matching.{IsTurnOf};
 ghost use Rattle.mk_session.specs.Running.{FoundFits, MissesAt, SeeksSo, effect_of, stands_for};

@@ -1,5 +1,5 @@
 // The commands `show`, `remove` and `list`.
-ghost use Rattle.std.specs.Prelude.{◌≡◌, ◌++◌, [], IfOk, OnOk, codes, decimal, length};
+ghost use Rattle.std.specs.Prelude.{◌≡◌, ◌++◌, [], IfOk, OnOk, codes, length};
 ghost use Rattle.std.specs.List.{flat_map};
 ghost use Rattle.mk_library.specs.Library.{IsSame};
 ghost use Rattle.mk_session.specs.declared.effect.Found.TheVariants as found;

@@ -1,5 +1,5 @@
 // Stored rows, and the first that doesn't read.
-ghost use Rattle.std.specs.Prelude.{◌≡◌, IfNone, IfSome, []};
+ghost use Rattle.std.specs.Prelude.{◌≡◌, []};
 ghost use Rattle.mk_outside.specs.Tables.{cursor_number, query_number};
 ghost use Rattle.mk_session.specs.Running.{IsFirstNumber, IsJudgedRows};
 

@@ -3,7 +3,7 @@ use Rattle.mk_library.specs.Edits.{Load}
 use Rattle.mk_library.specs.FirstRefusal.{IsFirstRefusal}
 use Rattle.mk_library.specs.Pending.{PendingView}
 use Rattle.mk_session.specs.Effects.{Answers, Refuses}
-use Rattle.mk_session.specs.Loading.{EditRefused, EditTooLong, Edits, loaded_text}
+use Rattle.mk_session.specs.Loading.{EditRefused, Edits}
 use Rattle.mk_session.proofs.LoadingLemmas.{no_number, refused_first}
 use Rattle.mk_session.proofs.loading.load_text.Goals as goal
 

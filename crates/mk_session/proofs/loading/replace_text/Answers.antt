@@ -3,7 +3,7 @@ use Rattle.mk_library.specs.Edits.{Replace}
 use Rattle.mk_library.specs.FirstRefusal.{IsFirstRefusal}
 use Rattle.mk_library.specs.Pending.{PendingView}
 use Rattle.mk_session.specs.Effects.{Answers, Refuses}
-use Rattle.mk_session.specs.Loading.{EditRefused, EditTooLong, Edits, ReplacesHeld}
+use Rattle.mk_session.specs.Loading.{EditRefused, Edits, ReplacesHeld}
 use Rattle.mk_session.proofs.LoadingLemmas.{no_number, refused_first}
 use Rattle.mk_session.proofs.loading.replace_text.Goals as goal
 

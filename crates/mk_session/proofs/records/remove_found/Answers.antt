@@ -1,8 +1,6 @@
 use Rattle.std.proofs.Common.{refl}
 use Rattle.mk_library.specs.FirstRefusal.{held_number}
-use Rattle.mk_session.specs.Records.{NoRecordRemoved, Removes}
-use Rattle.mk_session.specs.Effects.{Refuses}
-use Rattle.mk_session.proofs.LoadingLemmas.{not_held}
+use Rattle.mk_session.specs.Records.{Removes}
 use Rattle.mk_session.proofs.records.remove_found.Goals as goal
 
 pub returns-in_ok-put_numbered-in-Ok-clause-comes : goal.returns-in_ok-put_numbered-in-Ok-clause-comes

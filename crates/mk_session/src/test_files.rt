@@ -1,0 +1,111 @@
+// Files in memory, and runs over them. The shorthand is that of docs/TESTING.md, "Tables of tests".
+use crate::{Status, top};
+use mk_fixtures::molfile_of_sketch;
+use mk_outside::{
+    Bytes, CallNumbers, FileRow, FileRows, Memory, SureFiles, SureKeeper, SureSink, SureSource,
+    Tables, Text,
+};
+use std::alloc::Global;
+use std::test::Fail;
+
+// What a file holds: the molfile of a sketch, or a text as it stands.
+#[derive(Clone, Copy)]
+pub enum Held {
+    Drawn(&'static str),
+    Written(&'static str),
+}
+
+pub use Held::{Drawn, Written};
+
+// A carbon.
+pub const C: Held = Drawn("C |");
+
+// A carbon and an oxygen with a bond.
+pub const CO: Held = Drawn("C O | 1-2");
+
+// Methoxymethane.
+pub const COC: Held = Drawn("C O C | 1-2 2-3");
+
+// The same bond from the oxygen on.
+pub const OC: Held = Drawn("O C | 1-2");
+
+// Two carbons with a bond.
+pub const CC: Held = Drawn("C C | 1-2");
+
+// A carbon and a nitrogen with a triple bond.
+pub const TRIPLE: Held = Drawn("C N | 1#2");
+
+// A carbon and a nitrogen with a double bond.
+pub const DOUBLE: Held = Drawn("C N | 1=2");
+
+// A ring of three carbons.
+pub const RING: Held = Drawn("C C C | 1-2 2-3 1-3");
+
+// Benzene.
+pub const BENZENE: Held = Drawn("C C C C C C | 1-2 2=3 3-4 4=5 5-6 6=1");
+
+// Acetic acid.
+pub const ACID: Held = Drawn("C C O O | 1-2 2=3 2-4");
+
+// Two carbons that aren't bonded.
+pub const APART: Held = Drawn("C C |");
+
+pub fn file(alloc: Global, name: &str, held: Held) -> Result<FileRow, Fail> {
+    let bytes = match held {
+        Drawn(sketch) => molfile_of_sketch(alloc, sketch)?,
+        Written(text) => text.as_bytes().to_vec(alloc)?,
+    };
+    Ok(FileRow {
+        name: Text::of(String::from_str(alloc, name)?),
+        bytes: Bytes::of(bytes),
+    })
+}
+
+pub fn files(alloc: Global, query: Held, molecule: Held) -> Result<FileRows, Fail> {
+    let mut rows = FileRows::new(alloc);
+    rows.push(file(alloc, "q", query)?)?;
+    rows.push(file(alloc, "m", molecule)?)?;
+    Ok(rows)
+}
+
+pub fn words(alloc: Global, words: &[&str]) -> Result<Vec<String>, Memory> {
+    let mut all = Vec::new(alloc);
+    for word in words {
+        all.push(String::from_str(alloc, word)?)?;
+    }
+    Ok(all)
+}
+
+// Whether the words and the input end so over these files and empty tables, and write this.
+pub fn is_run(
+    alloc: Global,
+    words: &[String],
+    rows: FileRows,
+    script: &str,
+    wanted: &str,
+    status: Status,
+) -> Result<bool, Memory> {
+    let mut files = SureFiles::new(rows);
+    let mut input = SureSource::new(Bytes::of(script.as_bytes().to_vec(alloc)?));
+    let mut output = SureSink::new(Bytes::new(alloc));
+    let mut keeper = SureKeeper::new(Tables::new(alloc));
+    let ended = top(
+        alloc,
+        words,
+        &mut files,
+        &mut input,
+        &mut output,
+        &mut keeper,
+    );
+    if ended == Status::Memory {
+        return Err(Memory);
+    }
+    Ok(ended == status && output.bytes() == wanted.as_bytes())
+}
+
+// The number of the one call that fails.
+pub fn failing(alloc: Global, number: u64) -> Result<CallNumbers, Memory> {
+    let mut numbers = CallNumbers::new(alloc);
+    numbers.push(number)?;
+    Ok(numbers)
+}
