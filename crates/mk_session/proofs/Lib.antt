@@ -1,6 +1,7 @@
 pub mod CommandLemmas
 pub mod ListingsLemmas
 pub mod QueryGraphLemmas
+pub mod QueryTextLemmas
 pub mod MatchLemmas
 pub mod SeekingLemmas
 pub mod StoredRowsLemmas
@@ -13,5 +14,6 @@ pub mod AnsweredLemmas
 pub mod HeadlineLemmas
 pub mod JoinLemmas
 pub mod OneEditLemmas
+pub mod OneQueryLemmas
 pub mod OneRunLemmas
 pub mod CommandPartsLemmas

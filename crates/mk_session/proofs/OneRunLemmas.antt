@@ -37,10 +37,11 @@ use Rattle.mk_session.specs.Answers.{bad_line_text, check_text, hits_text, long_
 use Rattle.mk_session.specs.Effects.{Answers, Effect, Refuses, after_effect, after_effects, ending, texts}
 use Rattle.mk_session.specs.Files.{IsLong, IsShort, Look}
 use Rattle.mk_session.specs.Laws.{OneEffect, OneRun}
-use Rattle.mk_session.specs.Match.{TooLong as LongMolecules, BadLine, V3000, NotOne, FailsCheck, Lists, MoleculesRefused, QueryTooLong, QueryUnbuilt, Searches, IsMatch, IsPlain, IsRefused, IsSearch, IsUnbuilt, molecule_bytes, query_bytes}
+use Rattle.mk_session.specs.Match.{TooLong as LongMolecules, BadLine, V3000, NotOne, FailsCheck, Lists, MoleculesRefused, QueryTooLong, QueryUnbuilt, Searches, IsMatch, IsPlain, IsRefused, IsSearch, IsUnbuilt, molecule_bytes}
 use Rattle.mk_session.specs.Matching.{IsHeldBy, IsHeldOf, IsHeldTable, IsJudged}
 use Rattle.mk_session.specs.Orders.{Asked, Order, Orders}
 use Rattle.mk_session.specs.QueryGraph.{IsAskedBond, IsGraphOf}
+use Rattle.mk_session.specs.QueryText.{query_bytes}
 use Rattle.mk_session.specs.Records.{IsRemove, IsShow, NoRecordRemoved, NoRecordShown, Removes, Shows}
 use Rattle.mk_session.specs.Run.{Commands, Does, IsOneLine, NotUnderstood, OneLine, ScriptLong, BadStore, bad_store_text}
 use Rattle.mk_session.specs.StoredRows.{AllRead}

@@ -5,6 +5,7 @@ pub mod Commands
 pub mod Orders
 pub mod Files
 pub mod QueryGraph
+pub mod QueryText
 pub mod StoredRows
 pub mod Effects
 pub mod Match

@@ -19,12 +19,9 @@ use Rattle.mk_session.specs.Answers.{bad_line_text, check_text, hits_text, long_
 use Rattle.mk_session.specs.Effects.{Answers, Effect, Refuses}
 use Rattle.mk_session.specs.Files.{IsLong, IsShort, Look}
 use Rattle.mk_session.specs.QueryGraph.{IsGraphOf}
+use Rattle.mk_session.specs.QueryText.{query_bytes}
 
--- a query's file has at most so many bytes
-abbrev pub query_bytes : ℕ
-query_bytes = 4194304
-
--- and a molecules' file so many
+-- a molecules' file has at most so many bytes
 abbrev pub molecule_bytes : ℕ
 molecule_bytes = 67108864
 

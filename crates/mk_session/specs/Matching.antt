@@ -17,7 +17,8 @@ use Rattle.mk_session.specs.declared.judgment.Judgment.{Judgment}
 use Rattle.mk_session.specs.declared.judgment.Judgment.TheVariants.{Plain, TooLong, Unbuilt}
 use Rattle.mk_session.specs.Answers.{check_text, records_text}
 use Rattle.mk_session.specs.Files.{IsLong, Look}
-use Rattle.mk_session.specs.Match.{IsHeld, IsPlain, IsRefused, IsUnbuilt, query_bytes}
+use Rattle.mk_session.specs.Match.{IsHeld, IsPlain, IsRefused, IsUnbuilt}
+use Rattle.mk_session.specs.QueryText.{query_bytes}
 
 -- ---- the query's graph
 

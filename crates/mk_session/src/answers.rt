@@ -1,6 +1,6 @@
 // The bytes of an answer.
 ghost use Rattle.std.specs.Prelude.{◌≡◌, ◌++◌, IfOk, OnOk};
-ghost use Rattle.mk_session.specs.Answers.{bad_line_text, check_text, full_text, hits_text, hit_line, long_molecules_text, long_query_text, numbers_text, records_text, unbuilt_text, v3000_text};
+ghost use Rattle.mk_session.specs.Answers.{bad_line_text, bad_query_text, check_text, full_text, hits_text, hit_line, long_molecules_text, long_query_text, numbers_text, query_check_text, records_text, unbuilt_text, v3000_query_text, v3000_text};
 
 use mk_text::{Memory, Numbers, put_number};
 use std::alloc::Global;
@@ -71,6 +71,45 @@ pub fn failed_check(alloc: Global, number: u32, check: u8, item: u32) -> Result<
     put_number(alloc, &mut text, u64::from(number))?;
     text.extend_from_slice(b" check V")?;
     put_number(alloc, &mut text, u64::from(check))?;
+    text.extend_from_slice(b" item ")?;
+    put_number(alloc, &mut text, u64::from(item))?;
+    text.extend_from_slice(b"\n")?;
+    Ok(text)
+}
+
+/// The refusal of a query's file whose first bad line this is.
+pub fn bad_query_line(alloc: Global, line: usize) -> Result<Vec<u8>, Memory>
+    ensures { IfOk result (λ text. text.items ≡ bad_query_text line) }
+{
+    let mut text = Vec::from_slice(alloc, b"refused 2 query line ")?;
+    put_number(alloc, &mut text, line as u64)?;
+    text.extend_from_slice(b"\n")?;
+    Ok(text)
+}
+
+/// The same where that line says V3000.
+pub fn v3000_query_line(alloc: Global, line: usize) -> Result<Vec<u8>, Memory>
+    ensures { IfOk result (λ text. text.items ≡ v3000_query_text line) }
+{
+    let mut text = Vec::from_slice(alloc, b"refused 2 query v3000 line ")?;
+    put_number(alloc, &mut text, line as u64)?;
+    text.extend_from_slice(b"\n")?;
+    Ok(text)
+}
+
+/// The refusal of a query that fails this check first, at this table and this item.
+pub fn failed_query_check(
+    alloc: Global,
+    check: u8,
+    table: u32,
+    item: u32,
+) -> Result<Vec<u8>, Memory>
+    ensures { IfOk result (λ text. text.items ≡ query_check_text check table item) }
+{
+    let mut text = Vec::from_slice(alloc, b"refused 3 query check Q")?;
+    put_number(alloc, &mut text, u64::from(check))?;
+    text.extend_from_slice(b" table ")?;
+    put_number(alloc, &mut text, u64::from(table))?;
     text.extend_from_slice(b" item ")?;
     put_number(alloc, &mut text, u64::from(item))?;
     text.extend_from_slice(b"\n")?;

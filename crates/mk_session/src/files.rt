@@ -1,20 +1,25 @@
 // What is made of the two files, once they are read.
-ghost use Rattle.std.specs.Prelude.{◌≤◌, ◌<◌, ◌^◌, ℕ, List, Option, All, IfOk, length};
+ghost use Rattle.std.specs.Prelude.{◌≤◌, ◌<◌, ◌^◌, ℕ, List, Option, Some, All, IfOk, length};
 ghost use Rattle.mk_ctab.specs.TableFacts.{IsRawTable};
 ghost use Rattle.mk_session.specs.Files.{IsFoundAs, IsShort, Look};
-ghost use Rattle.mk_session.specs.Match.{molecule_bytes, query_bytes};
+ghost use Rattle.mk_session.specs.Match.{molecule_bytes};
 ghost use Rattle.mk_session.specs.Matching.{IsHeldBy, IsHeldOf, IsHeldTable, IsJudged, IsKeptJudgment, IsWithin};
+ghost use Rattle.mk_session.specs.QueryText.{IsHeldQuery, IsTextSaid, query_bytes};
 
-use crate::answers::{bad_line, failed_check, long_molecules, not_one, v3000_line};
-use crate::judgment::{Held, Judgment};
+use crate::answers::{
+    bad_line, bad_query_line, failed_check, failed_query_check, long_molecules, long_query,
+    not_one, v3000_line, v3000_query_line,
+};
+use crate::judgment::{Held, HeldQuery, Judgment};
+use crate::query_text::{QueryText, query_of};
 use mk_ctab::{PlainFault, RawTable, TableFault, read_plain};
 use mk_mol::{PrepareFault, prepare};
 use mk_outside::{Bytes, Memory};
 use mk_sdfile::{RawRecord, read_sdfile};
 use std::alloc::Global;
 
-/// Judges the query's file. None is a file over its limit.
-pub fn judge_query(alloc: Global, bytes: Option<Bytes>) -> Result<Judgment, Memory>
+/// Judges the query's file as a plain one. None is a file over its limit.
+pub fn judge_plain(alloc: Global, bytes: Option<Bytes>) -> Result<Judgment, Memory>
     ensures judged { (files : Option Look) (name : List ℕ) → IsFoundAs files query_bytes name bytes → IfOk result (IsJudged files name) }
     ensures kept { IfOk result IsKeptJudgment }
 {
@@ -25,6 +30,36 @@ pub fn judge_query(alloc: Global, bytes: Option<Bytes>) -> Result<Judgment, Memo
         Ok(table) => Ok(Judgment::Plain(table)),
         Err(PlainFault::Unbuilt) => Ok(Judgment::Unbuilt),
         Err(PlainFault::Memory) => Err(Memory),
+    }
+}
+
+/// Judges the query's file. None is a file over its limit.
+pub fn judge_query(alloc: Global, bytes: &Option<Bytes>) -> Result<HeldQuery, Memory>
+    requires { IsWithin query_bytes bytes.now }
+    ensures { IfOk result (IsHeldQuery bytes.now) }
+{
+    let Some(text) = bytes else {
+        return Ok(HeldQuery::Refused(Bytes::of(long_query(alloc)?)));
+    };
+    let said = query_of(alloc, text.as_slice())?;
+    judge_said(alloc, said)
+}
+
+// The query, or the line with which a text that has none is refused.
+fn judge_said(alloc: Global, said: QueryText) -> Result<HeldQuery, Memory>
+    ensures { (text : List ℕ) → IsTextSaid text said → IfOk result (IsHeldQuery (Some text)) }
+{
+    match said {
+        QueryText::Compiled(query) => Ok(HeldQuery::Query(query)),
+        QueryText::Bad { line } => {
+            Ok(HeldQuery::Refused(Bytes::of(bad_query_line(alloc, line)?)))
+        }
+        QueryText::V3000 { line } => {
+            Ok(HeldQuery::Refused(Bytes::of(v3000_query_line(alloc, line)?)))
+        }
+        QueryText::Fails { check, table, item } => Ok(HeldQuery::Refused(Bytes::of(
+            failed_query_check(alloc, check, table, item)?,
+        ))),
     }
 }
 

@@ -1,6 +1,6 @@
 // What is made of the two files of `match`, once they are read.
 use mk_ctab::PlainTable;
-use mk_model::Mol;
+use mk_model::{Mol, Query};
 use mk_outside::Bytes;
 
 /// What is made of the query's file.
@@ -12,6 +12,15 @@ pub enum Judgment {
     TooLong,
     /// It is no plain file.
     Unbuilt,
+}
+
+/// What is made of a query's file.
+#[derive(Drop)]
+pub enum HeldQuery {
+    /// It holds this query.
+    Query(Query),
+    /// It is refused with this line.
+    Refused(Bytes),
 }
 
 /// What is made of the molecules' file.

@@ -31,6 +31,7 @@ mod match_tests;
 mod matching;
 mod ordering;
 mod query_graph;
+mod query_text;
 mod reading;
 mod records;
 mod running;

@@ -8,7 +8,7 @@ ghost use Rattle.mk_session.specs.Running.{MissesAt, SeeksSo, effect_of};
 
 use crate::answers::{hits_answer, long_query, unbuilt};
 use crate::file_reading::{MOLECULE_BYTES, QUERY_BYTES, read_within};
-use crate::files::{judge_molecules, judge_query};
+use crate::files::{judge_molecules, judge_plain};
 use crate::judgment::{Held, Judgment};
 use crate::listings::{MOST_HITS, first_hits};
 use crate::query_graph::graph_of;
@@ -37,7 +37,7 @@ pub fn match_found<F: Files, L: Ledger>(
         Ok(bytes) => bytes,
         Err(fail) => return Err(StepFail::from(fail)),
     };
-    match judge_query(alloc, bytes)? {
+    match judge_plain(alloc, bytes)? {
         Judgment::TooLong => Ok(Found::Refused(Bytes::of(long_query(alloc)?))),
         Judgment::Unbuilt => Ok(Found::Refused(Bytes::of(unbuilt(alloc)?))),
         Judgment::Plain(wanted) => search_found(alloc, files, &wanted, molecules, steps),

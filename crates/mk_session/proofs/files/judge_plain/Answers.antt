@@ -1,5 +1,5 @@
 use Rattle.std.proofs.Common.{refl}
-use Rattle.mk_session.proofs.files.judge_query.Goals as goal
+use Rattle.mk_session.proofs.files.judge_plain.Goals as goal
 
 pub returns-in-Err-Unbuilt-clause-judged : goal.returns-in-Err-Unbuilt-clause-judged
 returns-in-Err-Unbuilt-clause-judged c = λ files name read. record {
