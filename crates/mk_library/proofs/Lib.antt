@@ -6,3 +6,4 @@ pub mod FileLemmas
 pub mod LoadLemmas
 pub mod EditLemmas
 pub mod StoredLemmas
+pub mod RebuiltLemmas

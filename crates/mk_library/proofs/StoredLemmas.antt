@@ -20,6 +20,7 @@ use Rattle.mk_mol.proofs.ForCallers.{no_fault}
 use Rattle.mk_library.specs.Records.{IsMoleculeOf, IsRecordText, records_of, text_bytes}
 use Rattle.mk_library.specs.Limits.{IsWithinLimits, most_number}
 use Rattle.mk_library.specs.Library.{IsKept}
+use Rattle.mk_library.specs.Steps.{GoesBehind}
 use Rattle.mk_library.specs.StoredRows.{AllRead, HasPlace, ReadBefore, Reads}
 use Rattle.std.proofs.lemmas.Option.{slice_get_within}
 use Rattle.mk_library.proofs.EditLemmas.{single}
@@ -34,7 +35,7 @@ bad_text text k bad is = (bad_where_none (lines_of text)).0 (k, bad) (is.raw ∷
 only_same : (a b : RawRecord) → a ∷ [] ≡ b ∷ [] → a ≡ b
 only_same a b h = cc
 
-same_raw : (text : List ℕ) (raw : RawRecord) → IsSdfile (lines_of text) (raw ∷ []) → (is : IsRecordText text) → raw ≡ is.raw
+pub same_raw : (text : List ℕ) (raw : RawRecord) → IsSdfile (lines_of text) (raw ∷ []) → (is : IsRecordText text) → raw ≡ is.raw
 same_raw text raw are is = only_same raw is.raw (one (lines_of text) (raw ∷ []) (is.raw ∷ []) are is.read)
 
 pub other_text : (text : List ℕ) (raw : RawRecord) → IsSdfile (lines_of text) (raw ∷ []) → raw.text ≢ text → IsRecordText text → ⊥
@@ -72,16 +73,16 @@ new_of number text (x ∷ texts) under =
     let less : x.number < number = under.0 in
     grind (arith, common_steps, new_of number text texts under.1)
 
-pub stored_new : (number next : ℕ) (text : List ℕ) (texts : List (Numbered (List ℕ))) → HasPlace next (records_of texts) (record { number = number; text = text }) → holds number texts ≡ false
+pub stored_new : (number next : ℕ) (text : List ℕ) (texts : List (Numbered (List ℕ))) → GoesBehind next (records_of texts) (record { number = number; text = text }) → holds number texts ≡ false
 stored_new number next text texts place = new_of number text texts place.above
 
-pub stored_records : (number next : ℕ) (text : List ℕ) (texts : List (Numbered (List ℕ))) → HasPlace next (records_of texts) (record { number = number; text = text })
+pub stored_records : (number next : ℕ) (text : List ℕ) (texts : List (Numbered (List ℕ))) → GoesBehind next (records_of texts) (record { number = number; text = text })
     → records_of (put_in_order (record { number = number; item = text }) texts) ≡ records_of texts ++ record { number = number; text = text } ∷ []
 stored_records number next text texts place =
     in_order_of (record { number = number; item = text }) texts ∙ behind_all (record { number = number; text = text }) (records_of texts) place.above
 
 pub stored_kept : (texts : List (Numbered (List ℕ))) (rows : List (Numbered Molecule)) (bytes next number : ℕ) (text : List ℕ) (mol : Molecule) → IsKept texts rows bytes next
-    → HasPlace next (records_of texts) (record { number = number; text = text }) → IsMoleculeOf text mol
+    → GoesBehind next (records_of texts) (record { number = number; text = text }) → IsMoleculeOf text mol
     → IsKept (put_in_order (record { number = number; item = text }) texts) (put_in_order (record { number = number; item = mol }) rows) (bytes + length text) next
 stored_kept texts rows bytes next number text mol kept place molecule = record {
   rising = put_rising (record { number = number; item = text }) texts kept.rising (stored_new number next text texts place);

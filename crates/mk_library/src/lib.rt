@@ -16,6 +16,7 @@ mod laws;
 mod library;
 mod molecules;
 mod pending;
+mod rebuilding;
 mod refusal;
 mod restoring;
 #[cfg(test)]

@@ -3,13 +3,13 @@ ghost use Rattle.std.specs.Prelude.{◌≡◌, ◌↔◌, ◌+◌, ◌≤◌, �
 ghost use Rattle.mk_index.specs.Rows.{holds};
 ghost use Rattle.mk_outside.specs.Tables.{after_change};
 ghost use Rattle.mk_outside.specs.declared.tables.Change.TheVariants.{PutRecord, DropRecord};
-ghost use Rattle.mk_library.specs.Records.{IsMoleculeOf, AreHeld, is_held, text_of};
+ghost use Rattle.mk_library.specs.Records.{IsMoleculeOf, AreHeld, is_held, records_of, text_of};
 ghost use Rattle.mk_library.specs.Library.{IsLibrary, IsSame, tables_of, IsLeastHeld, NoneHeld};
 ghost use Rattle.mk_library.specs.Pending.{IsNumbered, KeepsLimits};
-ghost use Rattle.mk_library.specs.Steps.{LoadKeeps, bytes_of};
+ghost use Rattle.mk_library.specs.Steps.{GoesBehind, LoadKeeps, bytes_of};
 ghost use Rattle.mk_library.specs.StoredRows.{HasPlace};
 
-use mk_index::{ByNumber, Shelf};
+use mk_index::{ByNumber, Numbered, Shelf};
 use mk_model::Mol;
 use mk_outside::{Bytes, Memory, RecordRow};
 use std::alloc::Global;
@@ -123,6 +123,14 @@ impl Library {
         self.next
     }
 
+    // The texts under their numbers, in order.
+    pub(crate) fn texts(&self) -> &[Numbered<Bytes>]
+        ensures texts { records_of result.now ≡ self.now.records }
+        ensures kept { IsLibrary self.now }
+    {
+        self.texts.rows()
+    }
+
     pub(crate) fn holds(&self, number: u32) -> bool
         ensures held { result ≡ is_held number self.now.records }
         ensures kept { IsLibrary self.now }
@@ -214,7 +222,7 @@ impl Library {
 
     // Puts a stored record behind all that are held, below the next number.
     pub(crate) fn put_stored(&mut self, number: u32, text: Bytes, mol: Mol)
-        requires place { HasPlace self.old.next_record self.old.records (record { number = number; text = text }) }
+        requires place { GoesBehind self.old.next_record self.old.records (record { number = number; text = text }) }
         requires room { 1 ≤ self.old.spare }
         requires molecule { IsMoleculeOf text mol }
         ensures records { self.new.records ≡ self.old.records ++ record { number = number; text = text } ∷ [] }

@@ -8,7 +8,7 @@ use mk_outside::{Bytes, Memory, RecordRow};
 use std::alloc::Global;
 
 // The same text, in memory of its own.
-fn copied(alloc: Global, text: &[u8]) -> Result<Bytes, Memory>
+pub fn copied(alloc: Global, text: &[u8]) -> Result<Bytes, Memory>
     ensures { IfOk result (λ copy. copy ≡ text.now) }
 {
     Ok(Bytes::of(Vec::from_slice(alloc, text)?))
