@@ -4,9 +4,11 @@ pub mod CountLemmas
 pub mod SearchLemmas
 pub mod ValidLemmas
 pub mod CodesLemmas
+pub mod CodesLeftLemmas
+pub mod WithinLemmas
 pub mod BoundLemmas
 pub mod RowLemmas
 pub mod LostLemmas
 pub mod AheadLemmas
-pub mod ExampleFits
 pub mod OnLiterals
+pub mod ForCallers

@@ -7,7 +7,7 @@ use Rattle.mk_model.specs.PlainCodes.{is_allowed_code, valid_codes}
 use Rattle.mk_model.proofs.PlainCodesLemmas.{law}
 use Rattle.mk_model.proofs.OnLiterals.{group, plain_group, range, single, then_query, two_sites}
 use Rattle.mk_choice.specs.Fronts.{rest_after}
-use Rattle.mk_choice.proofs.ExampleFits.{fits}
+use Rattle.mk_fixtures.proofs.ExampleFits.{fits}
 
 -- ---- fronts
 

@@ -5,3 +5,4 @@ pub mod Bounds
 pub mod Ahead
 pub mod Codes
 pub mod Lending
+pub mod Within

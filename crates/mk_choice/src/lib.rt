@@ -21,6 +21,8 @@ mod pruning;
 mod search;
 #[cfg(test)]
 mod tests;
+mod within;
 
 pub use codes::{Codes, least_code};
 pub use laws::{codes_are_taken_in_order, no_valid_code_begins_another};
+pub use within::code_within;

@@ -1,1 +1,2 @@
 pub mod FixtureLemmas
+pub mod ExampleFits

@@ -10,6 +10,7 @@
 mod building;
 mod checks;
 mod files;
+mod queries;
 mod sketches;
 #[cfg(test)]
 mod tests;
@@ -17,6 +18,7 @@ mod words;
 
 pub use building::{graph_of, mol_of};
 pub use files::{molfile_of_sketch, table_of_sketch};
+pub use queries::query_of_two_sites;
 pub use sketches::{
     asked, asked_atoms, asked_bonds, bonds_of_sketch, elements_of, graph_of_sketch, mol_of_sketch,
 };

@@ -1,6 +1,6 @@
 use Rattle.std.proofs.Common.{◌≡◌, ◌≤◌, ◌∷◌, [], replicate}
 use Rattle.mk_model.proofs.OnLiterals.{group, plain_group, range, single, two_sites}
-use Rattle.mk_choice.proofs.tests.then_query.Given as goal
+use Rattle.mk_fixtures.proofs.queries.query_of_two_sites.Given as goal
 
 abbrev pub invariant-loop : goal.invariant-loop
 invariant-loop l = record {
