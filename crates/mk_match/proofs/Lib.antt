@@ -5,6 +5,7 @@ pub mod ListTestLemmas
 pub mod BondCountLemmas
 pub mod BegunLemmas
 pub mod CountLemmas
+pub mod AskedLemmas
 pub mod TableLemmas
 pub mod OutlookLemmas
 pub mod WalkLemmas

@@ -3,6 +3,7 @@ pub mod Begun
 pub mod EarlierBonds
 pub mod Candidates
 pub mod Counts
+pub mod Asked
 pub mod Walk
 pub mod Outlook
 pub mod Search

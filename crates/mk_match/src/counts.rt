@@ -1,5 +1,6 @@
 // Counts that show at once that there is no hit.
-ghost use Rattle.std.specs.Prelude.{◌≡◌, ℕ, IsTrue, count_by};
+ghost use Rattle.std.specs.Prelude.{◌≡◌, ◌≤◌, ℕ, IsTrue, count_by};
+ghost use Rattle.mk_model.specs.Tests.{IsKindInRange};
 ghost use Rattle.mk_match.specs.Counts.{HasNoHit, asks_for, is_of};
 
 use mk_model::{Atom, Graph, GraphAtom, Kind, Mol};
@@ -22,16 +23,18 @@ pub fn has_too_few(graph: &Graph, mol: &Mol) -> bool
     false
 }
 
-// The element that an atom asks for, or 0 where it asks for no single one.
-fn element_asked(atom: &GraphAtom) -> u8 {
+/// The element that an atom asks for, or 0 where it asks for no single one.
+pub fn element_asked(atom: &GraphAtom) -> u8
+    ensures { IsKindInRange atom.now.test.kind → result ≤ 118 }
+{
     match &atom.test.kind {
         Kind::Element(z) => *z,
         _ => 0,
     }
 }
 
-// How many atoms of the graph ask for this element.
-fn count_asked(atoms: &[GraphAtom], z: u8) -> usize
+/// How many atoms of the graph ask for this element.
+pub fn count_asked(atoms: &[GraphAtom], z: u8) -> usize
     ensures { result ≡ count_by (asks_for z) atoms.now }
 {
     let mut count = 0;

@@ -10,6 +10,7 @@
 //! first, and which atom may lie on which is asked once for each pair. Codes and libraries aren't known here.
 #![tactic(auto)]
 
+mod asked;
 mod candidates;
 mod counts;
 mod earlier_bonds;
@@ -23,5 +24,6 @@ mod table;
 mod tests;
 mod walk;
 
+pub use asked::{Asked, Counts, ElementCount, cannot_hold, counts_asked, counts_there};
 pub use laws::{hits_are_listed, hits_are_taken_in_order};
 pub use maps::{Maps, least_map};

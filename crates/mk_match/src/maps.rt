@@ -99,6 +99,20 @@ impl<'a> Maps<'a> {
         Some(&self.place[..self.len - 1])
     }
 
+    /// Gives the graph back.
+    pub fn into_graph(self) -> Graph
+        ensures { result ≡ self.entry.graph }
+    {
+        let Maps {
+            search: _,
+            graph,
+            place: _,
+            mol: _,
+            len: _,
+        } = self;
+        graph
+    }
+
     // Goes to the place behind the next hit, where there is one.
     fn advance(&mut self) -> bool
         ensures { IsTaken self.old self.new result }

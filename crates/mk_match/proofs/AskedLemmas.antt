@@ -1,0 +1,83 @@
+-- Counts of a graph and of a molecule, taken atom by atom.
+--     tallied_none, tallied_more     the atoms of each element, up to an atom
+--     asked_more                     what is asked for, with one element more
+--     none_held, few_held            where there are too few atoms, or too few of an element, there is no hit
+use Rattle.std.proofs.Common.{◌≡◌, ℕ, ◌+◌, ◌-◌, ◌<◌, ◌≤◌, ◌≢◌, inl, inr, true, false, List, [], ◌∷◌, ◌++◌, length, get_or, set, take, replicate, refl, sym, ap, subst, ◌∙◌, arith, All, Contains}
+use Rattle.std.specs.Prelude.{count_by}
+use Rattle.std.specs.List.{range_with_len}
+use Rattle.std.proofs.lemmas.Bool.{cases_eq}
+use Rattle.std.proofs.lemmas.Bool.Decides.{nat_tests}
+use Rattle.std.proofs.lemmas.List.{get_or-replicate, get_or-set_other, get_or-set_same, length-set}
+use Rattle.std.proofs.lemmas.List.Elements.{All-push}
+use Rattle.std.proofs.lemmas.List.FromFn.{get_or-range_with_len, length-range_with_len}
+use Rattle.std.proofs.lemmas.List.Sums.{count_by_more_no, count_by_more_yes, count_by-le-length}
+use Rattle.mk_model.specs.declared.molecule.Atom.{Atom}
+use Rattle.mk_model.specs.Graphs.{GraphView}
+use Rattle.mk_model.specs.Hits.{IsHit}
+use Rattle.mk_model.specs.Molecules.{Molecule}
+use Rattle.mk_match.specs.declared.asked.Asked.{Asked}
+use Rattle.mk_match.specs.declared.asked.Counts.{Counts}
+use Rattle.mk_match.specs.declared.asked.ElementCount.{ElementCount}
+use Rattle.mk_match.specs.Asked.{AreAsked, AreThere, IsAsked}
+use Rattle.mk_match.specs.Counts.{HasNoHit, asks_for, is_of}
+use Rattle.mk_match.proofs.BondCountLemmas.{fits_in}
+use Rattle.mk_match.proofs.CountLemmas.{enough}
+
+-- ---- the atoms of each element
+
+-- at place z stands how many of the atoms are of element z
+pub record Tallied (atoms : List Atom) (elements : List ℕ) : Type 0 where
+  pub all : length elements ≡ 119
+  pub each : (z : ℕ) → z ≤ 118 → get_or elements z 0 ≡ count_by (is_of z) atoms
+
+pub tallied_none : Tallied [] (replicate 119 0)
+tallied_none = record { all = refl; each = λ z known. get_or-replicate 119 z 0 0 (omega arith) }
+
+pub tallied_more : (atoms : List Atom) (i : ℕ) (atom : Atom) (elements : List ℕ) → i < length atoms → get_or atoms i atom ≡ atom → atom.element ≤ 118 → Tallied (take i atoms) elements
+    → Tallied (take (i + 1) atoms) (set elements atom.element (get_or elements atom.element 0 + 1))
+tallied_more atoms i atom elements below is known tallied = record {
+  all = length-set elements atom.element (get_or elements atom.element 0 + 1) ∙ tallied.all;
+  each = λ z known'. elim (cases_eq z atom.element) [ inl same ↦ here z same | inr other ↦ there z known' other ];
+}
+  where
+    here : (z : ℕ) → z ≡ atom.element → get_or (set elements atom.element (get_or elements atom.element 0 + 1)) z 0 ≡ count_by (is_of z) (take (i + 1) atoms)
+    here z same =
+        let counts = count_by_more_yes (is_of atom.element) atoms i atom below (let at : is_of atom.element (get_or atoms i atom) ≡ true = rw is (grind (arith, nat_tests)) in at) in
+        rw same (get_or-set_same elements atom.element (get_or elements atom.element 0 + 1) 0 (omega (arith, tallied.all, known)) ∙ ap (λ (n : ℕ). n + 1) (tallied.each atom.element known) ∙ sym counts)
+
+    there : (z : ℕ) → z ≤ 118 → (z ≡ atom.element → ⊥) → get_or (set elements atom.element (get_or elements atom.element 0 + 1)) z 0 ≡ count_by (is_of z) (take (i + 1) atoms)
+    there z known' other =
+        let counts = count_by_more_no (is_of z) atoms i atom below (let at : is_of z (get_or atoms i atom) ≡ false = rw is (grind (arith, nat_tests)) in at) in
+        get_or-set_other elements atom.element z (get_or elements atom.element 0 + 1) 0 other ∙ tallied.each z known' ∙ sym counts
+
+-- ---- what is asked for
+
+-- one element more
+pub asked_more : (graph : GraphView) (elements : List ElementCount) (one : ElementCount) → All (IsAsked graph) elements → one.element ≤ 118 → one.count ≡ count_by (asks_for one.element) graph.atoms → All (IsAsked graph) (elements ++ one ∷ [])
+asked_more graph elements one are known count = All-push (IsAsked graph) elements one are (record { known = known; count = count })
+
+-- ---- too few
+
+-- a hit takes as many atoms as the graph has
+hit_fits : (graph : GraphView) (mol : Molecule) (hit : List ℕ) → IsHit graph mol hit → length graph.atoms ≤ length mol.atoms
+hit_fits graph mol hit is =
+    let numbers = range_with_len 1 (length mol.atoms) in
+    omega (arith, fits_in hit numbers is.distinct there, is.one_each, length-range_with_len 1 (length mol.atoms))
+  where
+    there : All (Contains (range_with_len 1 (length mol.atoms))) hit
+    there i d within =
+        let range = is.within i d within in
+        let atom = get_or hit i d in
+        let place : atom - 1 < length mol.atoms = omega (arith, range.0, range.1) in
+        let number : 1 + (atom - 1) ≡ atom = omega (arith, range.0) in
+        (atom - 1, omega (arith, place, length-range_with_len 1 (length mol.atoms)), get_or-range_with_len 1 (length mol.atoms) (atom - 1) atom place ∙ number)
+
+pub none_held : (graph : GraphView) (mol : Molecule) (asked : Asked) (counts : Counts) → counts.atoms < asked.atoms → AreAsked graph asked → AreThere mol counts → HasNoHit graph mol
+none_held graph mol asked counts few are has hit is = omega (arith, few, are.atoms, has.atoms, hit_fits graph mol hit is)
+
+pub few_held : (graph : GraphView) (mol : Molecule) (asked : Asked) (counts : Counts) (i : ℕ) (d : ElementCount) → i < length asked.elements.items
+    → get_or counts.elements (get_or asked.elements.items i d).element 0 < (get_or asked.elements.items i d).count → AreAsked graph asked → AreThere mol counts → HasNoHit graph mol
+few_held graph mol asked counts i d below few are has hit is =
+    let one = get_or asked.elements.items i d in
+    let asks : IsAsked graph one = are.elements i d below in
+    omega (arith, few, asks.count, has.elements one.element asks.known, enough graph mol one.element hit is)
