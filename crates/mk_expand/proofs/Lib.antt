@@ -24,3 +24,4 @@ pub mod GraphLemmas
 pub mod OneExpansionLemmas
 pub mod DrawnLawLemmas
 pub mod EachAtomLemmas
+pub mod ForCallers

@@ -1,0 +1,11 @@
+-- For the code: expansions that are kept.
+--     IsKept query expansion       the graph is the expansion of the query by the code, with what it asks for in numbers
+use Rattle.mk_model.specs.Expansions.{IsExpansion}
+use Rattle.mk_model.specs.Queries.{QueryView}
+use Rattle.mk_match.specs.Asked.{AreAsked}
+use Rattle.mk_search.specs.declared.expansions.Expansion.{Expansion}
+
+-- the graph is the expansion of the query by the code, and its counts are what it asks for
+pub record IsKept (query : QueryView) (expansion : Expansion) : Type 0 where
+  pub is : IsExpansion query expansion.code.items expansion.graph
+  pub asked : AreAsked expansion.graph expansion.asked
