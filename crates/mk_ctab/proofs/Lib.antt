@@ -1,6 +1,3 @@
-pub mod PlainLemmas
-pub mod PlainFactLemmas
-pub mod SeenLemmas
 pub mod BlockLemmas
 pub mod TableLemmas
 pub mod FaultLemmas

@@ -1,7 +1,3 @@
-pub mod PlainLines
-pub mod PlainFile
-pub mod PlainFacts
-pub mod PlainReading
 pub mod TableLines
 pub mod Table
 pub mod TableReading

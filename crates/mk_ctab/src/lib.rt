@@ -1,5 +1,4 @@
-//! Connection tables of the format V2000: `read_table` reads a whole one, and `write_table` writes it. `read_plain` reads
-//! files of a few kinds of atoms and bonds alone, and serves the first command until queries are read whole.
+//! Connection tables of the format V2000: `read_table` reads a whole one, and `write_table` writes it.
 //!
 //! Callers use one promise of each. `read_table` gives exactly the table that begins at a line of a text, or names exactly the
 //! first line that no table can have there, and whether that line says V3000 (`IsTable` in `specs/Table.antt` over the
@@ -9,9 +8,6 @@
 //!
 //! `write_table` appends exactly the spelling of a table that can be spelt (`spelling` and `CanBeSpelt` in
 //! `specs/TableSpelling.antt`), and that spelling is the table again (`spelling_is_read`).
-//!
-//! `read_plain` gives exactly the table of a plain file, or `Unbuilt` exactly where the text is none (`IsPlainFile` in
-//! `specs/PlainFile.antt`). Every table that it gives keeps what `IsPlainTable` says.
 //!
 //! What a table means for a molecule, a query or a search isn't said here.
 #![tactic(auto)]
@@ -23,9 +19,6 @@ mod fault;
 mod kept_tables;
 mod laws;
 mod numbers;
-mod plain_lines;
-mod plain_reading;
-mod plain_table;
 mod raw;
 mod rows;
 mod table_lines;
@@ -33,8 +26,6 @@ mod table_reading;
 #[cfg(test)]
 mod table_tests;
 mod table_walk;
-#[cfg(test)]
-mod tests;
 mod values;
 mod writing;
 #[cfg(test)]
@@ -51,11 +42,9 @@ pub use charges::{Electrons, charges_and_radicals};
 pub use edges::{edges_between, has_two_ends};
 pub use fault::TableFault;
 pub use kept_tables::kept_lines_are_the_table;
-pub use laws::{blank_line_is_no_counts_line, plain_file_is_exact, table_is_exact};
+pub use laws::{blank_line_is_no_counts_line, table_is_exact};
 pub use mk_text::{Bytes, Listed, Memory};
 pub use numbers::{byte, is_atom, is_within, natural};
-pub use plain_reading::{PlainFault, read_plain};
-pub use plain_table::{PlainBond, PlainBonds, PlainTable};
 pub use raw::{
     Properties, RawAtom, RawAtoms, RawBond, RawBonds, RawList, RawLists, RawTable, Signed,
 };

@@ -19,6 +19,35 @@ pub fn table_of_sketch(alloc: Global, sketch: &str) -> Result<Vec<u8>, Fail> {
     Ok(out)
 }
 
+/// The RGfile of a sketch and of groups, each a number and the sketches of its members.
+pub fn rgfile_of_sketches(
+    alloc: Global,
+    root: &str,
+    groups: &[(u64, &[&str])],
+) -> Result<Vec<u8>, Fail> {
+    let mut out = Vec::from_slice(alloc, b"$MDL\n$MOL\n$HDR\n\n\n\n$END HDR\n")?;
+    put_block(alloc, &mut out, root)?;
+    for (number, members) in groups {
+        out.extend_from_slice(b"$RGP\n")?;
+        put_number(alloc, &mut out, *number)?;
+        out.push(b'\n')?;
+        for member in *members {
+            put_block(alloc, &mut out, member)?;
+        }
+        out.extend_from_slice(b"$END RGP\n")?;
+    }
+    out.extend_from_slice(b"$END MOL\n")?;
+    Ok(out)
+}
+
+/// A table between its keywords, as RGfiles hold it.
+pub fn put_block(alloc: Global, out: &mut Vec<u8>, sketch: &str) -> Result<(), Fail> {
+    out.extend_from_slice(b"$CTAB\n")?;
+    put_table(alloc, out, sketch)?;
+    out.extend_from_slice(b"$END CTAB\n")?;
+    Ok(())
+}
+
 // Counts line, atom lines, bond lines, property lines, `M  END`.
 fn put_table(alloc: Global, out: &mut Vec<u8>, sketch: &str) -> Result<(), Fail> {
     let parts = parts_of(sketch)?;

@@ -1,6 +1,6 @@
 pub mod CommandLemmas
+pub mod HitLinesLemmas
 pub mod ListingsLemmas
-pub mod QueryGraphLemmas
 pub mod QueryTextLemmas
 pub mod MatchLemmas
 pub mod SeekingLemmas

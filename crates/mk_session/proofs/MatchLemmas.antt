@@ -5,7 +5,7 @@ use Rattle.std.proofs.Common.{◌≡◌, ℕ, ◌≤◌, List, [], ◌∷◌, Op
 use Rattle.std.specs.Prelude.{Result, Ok, Err, IfOk}
 use Rattle.mk_text.specs.Lines.{lines_of}
 use Rattle.mk_outside.specs.Counts.{Rose}
-use Rattle.mk_ctab.specs.declared.plain_table.PlainTable.{PlainTable}
+use Rattle.mk_model.specs.Queries.{QueryView}
 use Rattle.mk_sdfile.specs.declared.raw_record.RawRecord.{RawRecord}
 use Rattle.mk_sdfile.specs.Sdfile.{IsSdfile}
 use Rattle.mk_session.specs.declared.effect.Found.{Found}
@@ -14,8 +14,9 @@ use Rattle.mk_session.specs.declared.effect.StepFail.TheVariants as fail
 use Rattle.mk_session.specs.declared.judgment.Held.{Held}
 use Rattle.mk_session.specs.declared.judgment.Held.TheVariants.{Molecule, Refused}
 use Rattle.mk_session.specs.Files.{IsShort, IsThere, Look}
-use Rattle.mk_session.specs.Match.{FailsCheck, IsMatch, IsPlain, IsSearch, IsTurnOfMatch, NotOne, Searches, TurnOfMolecules, TurnOfQuery, molecule_bytes}
+use Rattle.mk_session.specs.Match.{FailsCheck, IsMatch, IsSearch, IsTurnOfMatch, NotOne, Searches, TurnOfMolecules, TurnOfQuery, molecule_bytes}
 use Rattle.mk_session.specs.Matching.{IsHeldBy, IsHeldOf, IsTurnOf}
+use Rattle.mk_session.specs.QueryText.{IsQueryHeld}
 use Rattle.mk_session.specs.Running.{MissesAt, SeeksSo}
 
 -- the molecule of records that were read, or what they are refused with
@@ -34,23 +35,23 @@ held_if files name bytes records (Err e) read is holds = tt
 -- ---- the search as the command
 
 module _ (files : Option Look) (query molecules : List ℕ) where
-  pub matched : (wanted : PlainTable) (old mid new : ℕ) (r : Result Found StepFail) → IsPlain files query wanted → mid ≡ old
+  pub matched : (wanted : QueryView) (old mid new : ℕ) (r : Result Found StepFail) → IsQueryHeld files query wanted → mid ≡ old
       → SeeksSo (IsSearch wanted files molecules) (IsTurnOf molecules) mid new r → SeeksSo (IsMatch files query molecules) (IsTurnOfMatch files query molecules) old new r
-  matched wanted old mid new (Ok found) plain same sought = (Searches wanted plain sought.0, sought.1 ∙ same)
-  matched wanted old mid new (Err fail.Read) plain same sought =
-      (record { name = sought.0.name; reaches = TurnOfMolecules wanted plain sought.0.reaches }, subst (λ (n : ℕ). Rose n new) same sought.1)
-  matched wanted old mid new (Err fail.Store) plain same sought = absurd sought
-  matched wanted old mid new (Err fail.Memory) plain same sought = sought ∙ same
+  matched wanted old mid new (Ok found) held same sought = (Searches wanted held sought.0, sought.1 ∙ same)
+  matched wanted old mid new (Err fail.Read) held same sought =
+      (record { name = sought.0.name; reaches = TurnOfMolecules wanted held sought.0.reaches }, subst (λ (n : ℕ). Rose n new) same sought.1)
+  matched wanted old mid new (Err fail.Store) held same sought = absurd sought
+  matched wanted old mid new (Err fail.Memory) held same sought = sought ∙ same
 
   -- the query's turn alone
   pub misses_query : (a b : ℕ) → a ≤ b → (IsThere files query → b ≡ a) → MissesAt files (IsTurnOfMatch files query molecules) a b
   misses_query a b never_falls absent = record { never_falls = never_falls; absent = λ all. absent (all query (TurnOfQuery refl)) }
 
   -- and that of the molecules
-  pub misses_both : (wanted : PlainTable) (a b c : ℕ) → IsPlain files query wanted → a ≤ b → (IsThere files query → b ≡ a) → MissesAt files (IsTurnOf molecules) b c
+  pub misses_both : (wanted : QueryView) (a b c : ℕ) → IsQueryHeld files query wanted → a ≤ b → (IsThere files query → b ≡ a) → MissesAt files (IsTurnOf molecules) b c
       → MissesAt files (IsTurnOfMatch files query molecules) a c
-  misses_both wanted a b c plain never_falls absent m = record {
+  misses_both wanted a b c held never_falls absent m = record {
     never_falls = omega (arith, never_falls, m.never_falls);
     absent = λ all.
-        m.absent (λ name turn. subst (IsThere files) (sym turn) (all molecules (TurnOfMolecules wanted plain refl))) ∙ absent (all query (TurnOfQuery refl));
+        m.absent (λ name turn. subst (IsThere files) (sym turn) (all molecules (TurnOfMolecules wanted held refl))) ∙ absent (all query (TurnOfQuery refl));
   }

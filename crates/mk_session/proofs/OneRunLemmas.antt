@@ -1,218 +1,58 @@
 -- Over told files a command comes to at most one effect, and a run has at most one outcome.
---     one_graph        a plain query is at most one graph
---     one_judgment     one thing is made of the query's file
---     one_held         and one of the molecules' file
+--     one_held         one thing is made of the molecules' file
 --     one_effect       so a command comes to at most one effect
 --     one_run          and a run has at most one outcome
-use Rattle.std.proofs.Common.{◌≡◌, ◌≢◌, ℕ, zero, suc, ◌<◌, inl, inr, ◌⊎◌, true, List, [], ◌∷◌, Some, None, length, get_or, take, refl, sym, ap, subst, ◌∙◌, arith}
-use Rattle.std.specs.Prelude.{AllPairs, Contains}
-use Rattle.std.proofs.lemmas.List.{get_or-map, length-map}
-use Rattle.std.proofs.lemmas.List.Elements.{All-contains, Contains-get_or}
+-- What is made of the query's file stands in OneQueryLemmas.
+use Rattle.std.proofs.Common.{◌≡◌, ◌≢◌, ℕ, inl, inr, ◌⊎◌, List, [], ◌∷◌, None, Some, length, refl, sym, ap, subst, ◌∙◌}
 use Rattle.mk_text.specs.Lines.{lines_of}
-use Rattle.mk_text.specs.Rising.{IsRisingListOfAll, OneRisingList}
-use Rattle.mk_ctab.specs.declared.plain_table.PlainBond.{PlainBond}
-use Rattle.mk_ctab.specs.declared.plain_table.PlainTable.{PlainTable}
+use Rattle.mk_text.specs.Rising.{AreFirst}
+use Rattle.mk_text.proofs.ForCallers.{one_list_is_first}
 use Rattle.mk_ctab.specs.declared.raw.RawTable.{RawTable}
-use Rattle.mk_ctab.specs.PlainFile.{IsPlainFile}
-use Rattle.mk_ctab.specs.PlainReading.{PlainFilesAreRead}
 use Rattle.mk_sdfile.specs.declared.raw_record.RawRecord.{RawRecord}
 use Rattle.mk_sdfile.specs.Sdfile.{HasBadLine, HasOneBadLine, HasOneValue, IsBadSdfileLine, IsSdfile, IsV3000Line}
-use Rattle.mk_model.specs.declared.graph.GraphAtom.{GraphAtom}
-use Rattle.mk_model.specs.declared.graph.GraphBond.{GraphBond}
-use Rattle.mk_model.specs.Graphs.{GraphView, IsBefore}
-use Rattle.mk_model.specs.Hits.{AreHits, IsHit}
+use Rattle.mk_model.specs.Keys.{IsKey}
 use Rattle.mk_model.specs.Molecules.{Molecule as Mol}
-use Rattle.mk_rings.specs.Bare.{bare_bond, bare_bonds}
+use Rattle.mk_model.specs.Queries.{QueryView}
 use Rattle.mk_mol.specs.Laws.{NoFaultWhereAllPass, OneFilledMolecule, OneFirstFault}
-use Rattle.mk_rings.specs.Laws.{OneListOfGraphBonds}
 use Rattle.mk_outside.specs.declared.tables.Tables.{Tables}
 use Rattle.mk_session.specs.declared.command.Command.TheVariants as variant
 use Rattle.mk_session.specs.declared.judgment.Held.{Held}
 use Rattle.mk_session.specs.declared.judgment.Held.TheVariants.{Molecule, Refused}
-use Rattle.mk_session.specs.declared.judgment.Judgment.{Judgment}
-use Rattle.mk_session.specs.declared.judgment.Judgment.TheVariants.{Plain, TooLong, Unbuilt}
+use Rattle.mk_session.specs.declared.judgment.HeldQuery.{HeldQuery}
+use Rattle.mk_session.specs.declared.judgment.HeldQuery.TheVariants.{Query, Refused as RefusedQuery}
 use Rattle.mk_session.specs.declared.status.Status.{Status}
 use Rattle.mk_session.specs.declared.stored_rows.RowKind.{RowKind}
-use Rattle.mk_session.specs.Answers.{bad_line_text, check_text, hits_text, long_molecules_text, long_query_text, records_text, unbuilt_text, v3000_text}
+use Rattle.mk_session.specs.Answers.{bad_line_text, check_text, long_molecules_text, records_text, v3000_text}
 use Rattle.mk_session.specs.Effects.{Answers, Effect, Refuses, after_effect, after_effects, ending, texts}
 use Rattle.mk_session.specs.Files.{IsLong, IsShort, Look}
+use Rattle.mk_session.specs.Hits.{IsHitsText}
 use Rattle.mk_session.specs.Laws.{OneEffect, OneRun}
-use Rattle.mk_session.specs.Match.{TooLong as LongMolecules, BadLine, V3000, NotOne, FailsCheck, Lists, MoleculesRefused, QueryTooLong, QueryUnbuilt, Searches, IsMatch, IsPlain, IsRefused, IsSearch, IsUnbuilt, molecule_bytes}
-use Rattle.mk_session.specs.Matching.{IsHeldBy, IsHeldOf, IsHeldTable, IsJudged}
+use Rattle.mk_session.specs.Match.{TooLong as LongMolecules, BadLine, V3000, NotOne, FailsCheck, IsRecord1, Lists, MoleculesRefused, QueryRefused, Searches, IsMatch, IsRefused, IsSearch, molecule_bytes}
+use Rattle.mk_session.specs.Matching.{IsHeldBy, IsHeldOf, IsHeldTable}
 use Rattle.mk_session.specs.Orders.{Asked, Order, Orders}
-use Rattle.mk_session.specs.QueryGraph.{IsAskedBond, IsGraphOf}
-use Rattle.mk_session.specs.QueryText.{query_bytes}
 use Rattle.mk_session.specs.Records.{IsRemove, IsShow, NoRecordRemoved, NoRecordShown, Removes, Shows}
+use Rattle.mk_session.specs.QueryText.{IsQueryHeldBy}
 use Rattle.mk_session.specs.Run.{Commands, Does, IsOneLine, NotUnderstood, OneLine, ScriptLong, BadStore, bad_store_text}
 use Rattle.mk_session.specs.StoredRows.{AllRead}
 use Rattle.mk_session.proofs.StoredRowsLemmas.{one_first_bad, reads_not_bad}
 use Rattle.mk_library.specs.Edits.{Load}
 use Rattle.mk_session.specs.Loading.{loaded_text}
+use Rattle.mk_session.proofs.HitLinesLemmas.{one_hits_text}
 use Rattle.mk_session.proofs.LoadingLemmas.{text_is_held}
 use Rattle.mk_session.proofs.OneEditLemmas.{long_not_read, one_edited, one_reading, one_replace}
-use Rattle.mk_session.proofs.QueryGraphLemmas.{before_through}
-
--- ---- bonds in order
-
--- no bond stands before itself
-never_itself : (bond : GraphBond) → IsBefore bond bond → ⊥
-never_itself bond (inl less) = absurd (omega arith)
-never_itself bond (inr less) = absurd (omega (arith, less.1))
-
--- each bond that the others hold stands behind the first
-behind_first : (bond : GraphBond) (bonds : List GraphBond) (other : GraphBond) → AllPairs IsBefore (bond ∷ bonds) → Contains bonds other → IsBefore bond other
-behind_first bond bonds other order is = subst (IsBefore bond) is.2 (order 0 (suc is.0) other (omega arith) (omega (arith, is.1)))
-
--- and the others are in order
-others_ordered : (bond : GraphBond) (bonds : List GraphBond) → AllPairs IsBefore (bond ∷ bonds) → AllPairs IsBefore bonds
-others_ordered bond bonds order i j d less within = order (suc i) (suc j) d (omega arith) (omega arith)
-
--- the first is held
-first_in : (bond : GraphBond) (bonds : List GraphBond) → Contains (bond ∷ bonds) bond
-first_in bond bonds = (0, omega arith, refl)
-
--- so is each of the others
-other_in : (bond : GraphBond) (bonds : List GraphBond) (other : GraphBond) → Contains bonds other → Contains (bond ∷ bonds) other
-other_in bond bonds other is = (suc is.0, omega (arith, is.1), is.2)
-
--- and no more
-first_or_other : (bond : GraphBond) (bonds : List GraphBond) (held : GraphBond) → Contains (bond ∷ bonds) held → (bond ≡ held) ⊎ Contains bonds held
-first_or_other bond bonds held is = by_place is.0 is.1 is.2
-  where
-    by_place : (k : ℕ) → k < length (bond ∷ bonds) → get_or (bond ∷ bonds) k held ≡ held → (bond ≡ held) ⊎ Contains bonds held
-    by_place zero below same = inl same
-    by_place (suc k) below same = inr (k, omega arith, same)
-
--- what the one list holds the other holds
-abbrev AreIn : List GraphBond → List GraphBond → Type 0
-AreIn bonds others = (bond : GraphBond) → Contains bonds bond → Contains others bond
-
--- two lists in order that hold the same begin alike
-same_first : (b c : GraphBond) (bonds others : List GraphBond) → AllPairs IsBefore (b ∷ bonds) → AllPairs IsBefore (c ∷ others) → Contains (c ∷ others) b → Contains (b ∷ bonds) c → b ≡ c
-same_first b c bonds others order order' to from =
-    elim (first_or_other c others b to) [
-      | inl same ↦ sym same
-      | inr late ↦ elim (first_or_other b bonds c from) [
-        | inl same ↦ same
-        | inr later ↦ absurd (never_itself b (before_through b c b (behind_first b bonds c order later) (behind_first c others b order' late)))
-      ]
-    ]
-
--- what else the one holds, the other holds behind its own first
-others_in : (b : GraphBond) (bonds others : List GraphBond) → AllPairs IsBefore (b ∷ bonds) → AreIn (b ∷ bonds) (b ∷ others) → AreIn bonds others
-others_in b bonds others order held bond is =
-    elim (first_or_other b others bond (held bond (other_in b bonds bond is))) [
-      | inl same ↦ absurd (never_itself b (subst (IsBefore b) (sym same) (behind_first b bonds bond order is)))
-      | inr behind ↦ behind
-    ]
-
--- so they are one
-one_order : (bonds others : List GraphBond) → AllPairs IsBefore bonds → AllPairs IsBefore others → AreIn bonds others → AreIn others bonds → bonds ≡ others
-one_order [] [] order order' to from = refl
-one_order [] (c ∷ others) order order' to from = (let never = from c (first_in c others) in absurd (omega (arith, never.1)))
-one_order (b ∷ bonds) [] order order' to from = (let never = to b (first_in b bonds) in absurd (omega (arith, never.1)))
-one_order (b ∷ bonds) (c ∷ others) order order' to from =
-    let same : b ≡ c = same_first b c bonds others order order' (to b (first_in b bonds)) (from c (first_in c others)) in
-    let ordered : AllPairs IsBefore (b ∷ others) = subst (λ (x : GraphBond). AllPairs IsBefore (x ∷ others)) (sym same) order' in
-    let to' : AreIn (b ∷ bonds) (b ∷ others) = subst (λ (x : GraphBond). AreIn (b ∷ bonds) (x ∷ others)) (sym same) to in
-    let from' : AreIn (b ∷ others) (b ∷ bonds) = subst (λ (x : GraphBond). AreIn (x ∷ others) (b ∷ bonds)) (sym same) from in
-    let rest = one_order bonds others (others_ordered b bonds order) (others_ordered b others ordered) (others_in b bonds others order to') (others_in b others bonds ordered from') in
-    ap (λ (x : GraphBond). x ∷ bonds) same ∙ ap (λ (xs : List GraphBond). c ∷ xs) rest
-
--- ---- the bonds of a query's graphs
-
--- bonds without their marks are in the same order
-order_bare : (bonds : List GraphBond) → AllPairs IsBefore bonds → AllPairs IsBefore (bare_bonds bonds)
-order_bare bonds order i j d less within =
-    let below : j < length bonds = omega (arith, length-map bonds bare_bond) in
-    rw (get_or-map bare_bond bonds i d d (omega arith), get_or-map bare_bond bonds j d d below) (order i j d less below)
-
--- a bond that is held is held without its marks
-bare_in : (bonds : List GraphBond) (bond : GraphBond) → Contains bonds bond → Contains (bare_bonds bonds) (bare_bond bond)
-bare_in bonds bond is = (is.0, omega (arith, length-map bonds bare_bond, is.1), get_or-map bare_bond bonds is.0 bond (bare_bond bond) is.1 ∙ ap bare_bond is.2)
-
--- one bond of the query, with its lower end first, is one bond but for its marks
-asked_alike : (bond : PlainBond) (b c : GraphBond) → IsAskedBond bond b → IsAskedBond bond c → b.first < b.second → c.first < c.second → bare_bond b ≡ bare_bond c
-asked_alike bond b c p q less less' =
-    let ends : (b.first ≡ c.first) × (b.second ≡ c.second) = by_ends p.ends q.ends in
-    let first = ends.0 in
-    let second = ends.1 in
-    let kind : b.kind ≡ c.kind = p.kind ∙ sym q.kind in
-    let topology : b.topology ≡ c.topology = p.topology ∙ sym q.topology in
-    cc
-  where
-    by_ends : ((b.first ≡ bond.first) × (b.second ≡ bond.second)) ⊎ ((b.first ≡ bond.second) × (b.second ≡ bond.first))
-        → ((c.first ≡ bond.first) × (c.second ≡ bond.second)) ⊎ ((c.first ≡ bond.second) × (c.second ≡ bond.first)) → (b.first ≡ c.first) × (b.second ≡ c.second)
-    by_ends (inl h) (inl g) = (h.0 ∙ sym g.0, h.1 ∙ sym g.1)
-    by_ends (inl h) (inr g) = absurd (omega (arith, h, g))
-    by_ends (inr h) (inl g) = absurd (omega (arith, h, g))
-    by_ends (inr h) (inr g) = (h.0 ∙ sym g.0, h.1 ∙ sym g.1)
-
--- each bond of one graph of the query is, without its marks, one of each other graph of it
-bare_are_in : (table : PlainTable) (a b : GraphView) → IsGraphOf table a → IsGraphOf table b → AreIn (bare_bonds a.bonds) (bare_bonds b.bonds)
-bare_are_in table a b p q c is =
-    let k = is.0 in
-    let below : k < length a.bonds = omega (arith, length-map a.bonds bare_bond, is.1) in
-    let bond = get_or a.bonds k c in
-    let inside : Contains a.bonds bond = Contains-get_or a.bonds k c below in
-    let from = p.asked bond inside in
-    let there = q.written from.0 from.1 in
-    let lower : GraphBond → Type 0 = λ d. d.first < d.second in
-    let alike : bare_bond bond ≡ bare_bond there.0 =
-    asked_alike from.0 bond there.0 from.2 there.2 (All-contains lower a.bonds bond p.kept.sketch.lower_first inside) (All-contains lower b.bonds there.0 q.kept.sketch.lower_first there.1) in
-    let here : bare_bond bond ≡ c = sym (get_or-map bare_bond a.bonds k c c below) ∙ is.2 in
-    subst (λ (d : GraphBond). Contains (bare_bonds b.bonds) d) (sym alike ∙ here) (bare_in b.bonds there.0 there.1)
+use Rattle.mk_session.proofs.OneQueryLemmas.{HasQueryLaws, one_query_held}
 
 -- ---- the laws that are cited
 
--- what the crates below say of rising lists, marks, files and tables
+-- what the crates below say of files, tables and queries
 pub record HasLaws : Type 0 where
-  pub rising : OneRisingList
-  pub marks : OneListOfGraphBonds
-  pub plain : PlainFilesAreRead
+  pub queries : HasQueryLaws
   pub sdfile : HasOneValue
   pub bad : HasBadLine
   pub one_bad : HasOneBadLine
   pub fault : OneFirstFault
   pub no_fault : NoFaultWhereAllPass
   pub filled : OneFilledMolecule
-
--- ---- the graph
-
--- atoms and bonds make a graph
-same_graph : (a b : GraphView) → a.atoms ≡ b.atoms → a.bonds ≡ b.bonds → a ≡ b
-same_graph a b atoms bonds = ap (λ (x : List GraphAtom). record { atoms = x; bonds = a.bonds }) atoms ∙ ap (λ (x : List GraphBond). record { atoms = b.atoms; bonds = x }) bonds
-
--- a plain query is at most one graph
-pub one_graph : HasLaws → (table : PlainTable) (a b : GraphView) → IsGraphOf table a → IsGraphOf table b → a ≡ b
-one_graph laws table a b p q =
-    let bare : bare_bonds a.bonds ≡ bare_bonds b.bonds =
-    one_order (bare_bonds a.bonds) (bare_bonds b.bonds) (order_bare a.bonds p.kept.sketch.order) (order_bare b.bonds q.kept.sketch.order) (bare_are_in table a b p q) (bare_are_in table b a q p) in
-    same_graph a b (p.atoms ∙ sym q.atoms) (laws.marks a.bonds b.bonds p.kept.marks q.kept.marks bare)
-
--- ---- the query's file
-
--- a plain file has one table
-one_plain_table : HasLaws → (lines : List (List ℕ)) (a b : PlainTable) → IsPlainFile true lines a → IsPlainFile true lines b → a ≡ b
-one_plain_table laws lines a b p q = let f = (laws.plain true lines a).1 p in let g = (laws.plain true lines b).1 q in cc
-
-module _ (laws : HasLaws) (look : Look) (name : List ℕ) where
-  -- a file that is no plain file has no table
-  unbuilt_not_plain : (table : PlainTable) → IsUnbuilt (Some look) name → IsPlain (Some look) name table → ⊥
-  unbuilt_not_plain table p q = p.unbuilt table (subst (λ (bytes : List ℕ). IsPlainFile true (lines_of bytes) table) (one_reading look name query_bytes q.bytes p.bytes q.read p.read) q.plain)
-
-  -- one thing is made of the query's file
-  pub one_judgment : (a b : Judgment) → IsJudged (Some look) name a → IsJudged (Some look) name b → a ≡ b
-  one_judgment TooLong TooLong p q = refl
-  one_judgment TooLong Unbuilt p q = absurd (long_not_read look name query_bytes q.bytes p q.read)
-  one_judgment TooLong (Plain table) p q = absurd (long_not_read look name query_bytes q.bytes p q.read)
-  one_judgment Unbuilt TooLong p q = absurd (long_not_read look name query_bytes p.bytes q p.read)
-  one_judgment Unbuilt Unbuilt p q = refl
-  one_judgment Unbuilt (Plain table) p q = absurd (unbuilt_not_plain table p q)
-  one_judgment (Plain table) TooLong p q = absurd (long_not_read look name query_bytes p.bytes q p.read)
-  one_judgment (Plain table) Unbuilt p q = absurd (unbuilt_not_plain table q p)
-  one_judgment (Plain table) (Plain other) p q =
-      ap Plain (one_plain_table laws (lines_of q.bytes) table other (subst (λ (bytes : List ℕ). IsPlainFile true (lines_of bytes) table) (one_reading look name query_bytes p.bytes q.bytes p.read q.read) p.plain) q.plain)
 
 -- ---- the molecules' file
 
@@ -303,85 +143,74 @@ module _ (laws : HasLaws) (look : Look) (name : List ℕ) where
 
 -- ---- the search
 
--- the effect of a search with these hits
-abbrev done : List (List ℕ) → Effect
-done hits = Answers [] (hits_text (take 10000 hits) 10000)
-
--- the hits of the query in the molecule are listed
-record IsListing (wanted : PlainTable) (mol : Mol) (effect : Effect) : Type 0 where
-  graph : GraphView
-  of_query : IsGraphOf wanted graph
-  hits : List (List ℕ)
-  are_hits : AreHits graph mol hits
-  ends : effect ≡ done hits
+-- the first keys of the query in the molecule are listed
+record IsListing (wanted : QueryView) (mol : Mol) (effect : Effect) : Type 0 where
+  keys : List (List ℕ)
+  first : AreFirst 10000 (IsKey (IsRecord1 mol) wanted) keys
+  text : List ℕ
+  lists : IsHitsText wanted keys 10000 0 text
+  ends : effect ≡ Answers [] text
 
 -- how a search ends, by what is made of the molecules' file
-abbrev IsEndOfSearch : PlainTable → Held → Effect → Type 0
+abbrev IsEndOfSearch : QueryView → Held → Effect → Type 0
 IsEndOfSearch wanted (Molecule mol) effect = IsListing wanted mol effect
 IsEndOfSearch wanted (Refused line) effect = effect ≡ Refuses line
 
--- all lists that have P are one rising list
-one_of_all : HasLaws → (P : List ℕ → Type 0) (lists others : List (List ℕ)) → IsRisingListOfAll P lists → IsRisingListOfAll P others → lists ≡ others
-one_of_all laws P lists others p q = laws.rising lists others p.rises q.rises (λ xs is. q.all xs (p.each xs is)) (λ xs is. p.all xs (q.each xs is))
-
--- it is one end, since the graph and all its hits are one
-one_end_of_search : HasLaws → (wanted : PlainTable) (held : Held) (a b : Effect) → IsEndOfSearch wanted held a → IsEndOfSearch wanted held b → a ≡ b
-one_end_of_search laws wanted (Molecule mol) a b p q =
-    let same : q.graph ≡ p.graph = one_graph laws wanted q.graph p.graph q.of_query p.of_query in
-    let hits : p.hits ≡ q.hits = one_of_all laws (IsHit p.graph mol) p.hits q.hits p.are_hits (subst (λ (graph : GraphView). AreHits graph mol q.hits) same q.are_hits) in
-    p.ends ∙ ap done hits ∙ sym q.ends
-one_end_of_search laws wanted (Refused line) a b p q = p ∙ sym q
+-- it is one end, since the first keys are one list, which has one text
+one_end_of_search : (wanted : QueryView) (held : Held) (a b : Effect) → IsEndOfSearch wanted held a → IsEndOfSearch wanted held b → a ≡ b
+one_end_of_search wanted (Molecule mol) a b p q =
+    let keys : q.keys ≡ p.keys = one_list_is_first 10000 (IsKey (IsRecord1 mol) wanted) q.keys p.keys q.first p.first in
+    let text : p.text ≡ q.text = one_hits_text wanted p.keys 10000 0 p.text q.text p.lists (subst (λ (ks : List (List ℕ)). IsHitsText wanted ks 10000 0 q.text) keys q.lists) in
+    p.ends ∙ ap (Answers []) text ∙ sym q.ends
+one_end_of_search wanted (Refused line) a b p q = p ∙ sym q
 
 -- a search goes by what is made of the molecules' file
-record HasSearched (wanted : PlainTable) (look : Look) (name : List ℕ) (effect : Effect) : Type 0 where
+record HasSearched (wanted : QueryView) (look : Look) (name : List ℕ) (effect : Effect) : Type 0 where
   held : Held
   of_file : IsHeldBy (Some look) name held
   ends : IsEndOfSearch wanted held effect
 
-searched : (wanted : PlainTable) (look : Look) (name : List ℕ) (effect : Effect) → IsSearch wanted (Some look) name effect → HasSearched wanted look name effect
+searched : (wanted : QueryView) (look : Look) (name : List ℕ) (effect : Effect) → IsSearch wanted (Some look) name effect → HasSearched wanted look name effect
 searched wanted look name effect (MoleculesRefused line of_file ends) = record { held = Refused line; of_file = of_file; ends = ends }
-searched wanted look name effect (Lists graph of_query mol of_file hits are_hits ends) =
-    record { held = Molecule mol; of_file = of_file; ends = record { graph = graph; of_query = of_query; hits = hits; are_hits = are_hits; ends = ends } }
+searched wanted look name effect (Lists mol of_file keys first text lists ends) =
+    record { held = Molecule mol; of_file = of_file; ends = record { keys = keys; first = first; text = text; lists = lists; ends = ends } }
 
 -- so it has one effect
-one_search : HasLaws → (wanted : PlainTable) (look : Look) (name : List ℕ) (a b : Effect) → IsSearch wanted (Some look) name a → IsSearch wanted (Some look) name b → a ≡ b
+one_search : HasLaws → (wanted : QueryView) (look : Look) (name : List ℕ) (a b : Effect) → IsSearch wanted (Some look) name a → IsSearch wanted (Some look) name b → a ≡ b
 one_search laws wanted look name a b p q =
     let s = searched wanted look name a p in
     let t = searched wanted look name b q in
     let same : t.held ≡ s.held = one_held laws look name t.held s.held t.of_file s.of_file in
-    one_end_of_search laws wanted s.held a b s.ends (subst (λ (held : Held). IsEndOfSearch wanted held b) same t.ends)
+    one_end_of_search wanted s.held a b s.ends (subst (λ (held : Held). IsEndOfSearch wanted held b) same t.ends)
 
 -- ---- match
 
 -- how it ends, by what is made of the query's file
-abbrev IsEndOfMatch : Look → List ℕ → Judgment → Effect → Type 0
-IsEndOfMatch look molecules TooLong effect = effect ≡ Refuses long_query_text
-IsEndOfMatch look molecules Unbuilt effect = effect ≡ Refuses unbuilt_text
-IsEndOfMatch look molecules (Plain wanted) effect = IsSearch wanted (Some look) molecules effect
+abbrev IsEndOfMatch : Look → List ℕ → HeldQuery → Effect → Type 0
+IsEndOfMatch look molecules (Query wanted) effect = IsSearch wanted (Some look) molecules effect
+IsEndOfMatch look molecules (RefusedQuery line) effect = effect ≡ Refuses line
 
 -- it is one end
-one_end_of_match : HasLaws → (look : Look) (molecules : List ℕ) (judgment : Judgment) (a b : Effect) → IsEndOfMatch look molecules judgment a → IsEndOfMatch look molecules judgment b → a ≡ b
-one_end_of_match laws look molecules TooLong a b p q = p ∙ sym q
-one_end_of_match laws look molecules Unbuilt a b p q = p ∙ sym q
-one_end_of_match laws look molecules (Plain wanted) a b p q = one_search laws wanted look molecules a b p q
+one_end_of_match : HasLaws → (look : Look) (molecules : List ℕ) (held : HeldQuery) (a b : Effect) → IsEndOfMatch look molecules held a → IsEndOfMatch look molecules held b → a ≡ b
+one_end_of_match laws look molecules (Query wanted) a b p q = one_search laws wanted look molecules a b p q
+one_end_of_match laws look molecules (RefusedQuery line) a b p q = p ∙ sym q
 
 -- it goes by what is made of the query's file
 record HasMatched (look : Look) (query molecules : List ℕ) (effect : Effect) : Type 0 where
-  judgment : Judgment
-  of_file : IsJudged (Some look) query judgment
-  ends : IsEndOfMatch look molecules judgment effect
+  held : HeldQuery
+  of_file : IsQueryHeldBy (Some look) query held
+  ends : IsEndOfMatch look molecules held effect
 
 matched : (look : Look) (query molecules : List ℕ) (effect : Effect) → IsMatch (Some look) query molecules effect → HasMatched look query molecules effect
-matched look query molecules effect (QueryTooLong long ends) = record { judgment = TooLong; of_file = long; ends = ends }
-matched look query molecules effect (QueryUnbuilt unbuilt ends) = record { judgment = Unbuilt; of_file = unbuilt; ends = ends }
-matched look query molecules effect (Searches wanted plain search) = record { judgment = Plain wanted; of_file = plain; ends = search }
+matched look query molecules effect (QueryRefused line refused ends) = record { held = RefusedQuery line; of_file = refused; ends = ends }
+matched look query molecules effect (Searches wanted held search) = record { held = Query wanted; of_file = held; ends = search }
 
 one_match : HasLaws → (look : Look) (query molecules : List ℕ) (a b : Effect) → IsMatch (Some look) query molecules a → IsMatch (Some look) query molecules b → a ≡ b
 one_match laws look query molecules a b p q =
     let m = matched look query molecules a p in
     let n = matched look query molecules b q in
-    let same : n.judgment ≡ m.judgment = one_judgment laws look query n.judgment m.judgment n.of_file m.of_file in
-    one_end_of_match laws look molecules m.judgment a b m.ends (subst (λ (j : Judgment). IsEndOfMatch look molecules j b) same n.ends)
+    let same : n.held ≡ m.held = one_query_held look query laws.queries n.held m.held n.of_file m.of_file in
+    one_end_of_match laws look molecules m.held a b m.ends (subst (λ (held : HeldQuery). IsEndOfMatch look molecules held b) same n.ends)
 
 -- ---- commands on the tables
 

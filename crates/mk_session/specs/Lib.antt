@@ -1,10 +1,10 @@
 pub mod Status
 pub mod Fails
 pub mod Answers
+pub mod Hits
 pub mod Commands
 pub mod Orders
 pub mod Files
-pub mod QueryGraph
 pub mod QueryText
 pub mod StoredRows
 pub mod Effects

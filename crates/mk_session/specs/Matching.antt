@@ -1,30 +1,16 @@
 -- What the parts of `match` answer; it serves the code alone.
---     asked_bond bond                   a bond of the query, with its ends as they are written
---     IsJudged files name judgment      what is made of the query's file
 --     IsHeldBy files name held          what is made of the molecules' file
-use Rattle.std.specs.Prelude.{◌≡◌, ◌≤◌, ℕ, true, false, List, [], ◌∷◌, length, Option, Some, None, ⊤}
-use Rattle.mk_ctab.specs.declared.plain_table.PlainBond.{PlainBond}
+use Rattle.std.specs.Prelude.{◌≡◌, ◌≤◌, ℕ, List, [], ◌∷◌, length, Option, Some, None, ⊤}
 use Rattle.mk_ctab.specs.declared.raw.RawTable.{RawTable}
-use Rattle.mk_ctab.specs.PlainFacts.{IsPlainTable}
-use Rattle.mk_model.specs.declared.graph.GraphBond.{GraphBond}
 use Rattle.mk_model.specs.Molecules.{IsMolecule}
 use Rattle.mk_sdfile.specs.declared.raw_record.RawRecord.{RawRecord}
 use Rattle.mk_mol.specs.Filled.{IsFilled}
 use Rattle.mk_mol.specs.FirstFault.{IsFirstFault, PassesAll}
 use Rattle.mk_session.specs.declared.judgment.Held.{Held}
 use Rattle.mk_session.specs.declared.judgment.Held.TheVariants.{Molecule, Refused}
-use Rattle.mk_session.specs.declared.judgment.Judgment.{Judgment}
-use Rattle.mk_session.specs.declared.judgment.Judgment.TheVariants.{Plain, TooLong, Unbuilt}
 use Rattle.mk_session.specs.Answers.{check_text, records_text}
-use Rattle.mk_session.specs.Files.{IsLong, Look}
-use Rattle.mk_session.specs.Match.{IsHeld, IsPlain, IsRefused, IsUnbuilt}
-use Rattle.mk_session.specs.QueryText.{query_bytes}
-
--- ---- the query's graph
-
--- a bond that asks for a type alone, with its ends as they are written
-abbrev pub asked_bond : PlainBond → GraphBond
-asked_bond bond = record { first = bond.first; second = bond.second; kind = bond.kind; topology = 0; ring = false; aromatic = false }
+use Rattle.mk_session.specs.Files.{Look}
+use Rattle.mk_session.specs.Match.{IsHeld, IsRefused}
 
 -- ---- files
 
@@ -36,18 +22,6 @@ IsTurnOf file name = name ≡ file
 abbrev pub IsWithin : ℕ → Option (List ℕ) → Type 0
 IsWithin most None = ⊤
 IsWithin most (Some bytes) = length bytes ≤ most
-
--- what is made of the query's file
-abbrev pub IsJudged : Option Look → List ℕ → Judgment → Type 0
-IsJudged files name TooLong = IsLong files query_bytes name
-IsJudged files name Unbuilt = IsUnbuilt files name
-IsJudged files name (Plain table) = IsPlain files name table
-
--- a table that is judged plain keeps what every plain table keeps
-abbrev pub IsKeptJudgment : Judgment → Type 0
-IsKeptJudgment (Plain table) = IsPlainTable true table
-IsKeptJudgment TooLong = ⊤
-IsKeptJudgment Unbuilt = ⊤
 
 -- what is made of the molecules' file
 abbrev pub IsHeldBy : Option Look → List ℕ → Held → Type 0

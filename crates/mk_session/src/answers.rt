@@ -1,8 +1,8 @@
-// The bytes of an answer.
-ghost use Rattle.std.specs.Prelude.{◌≡◌, ◌++◌, IfOk, OnOk};
-ghost use Rattle.mk_session.specs.Answers.{bad_line_text, bad_query_text, check_text, full_text, hits_text, hit_line, long_molecules_text, long_query_text, numbers_text, query_check_text, records_text, unbuilt_text, v3000_query_text, v3000_text};
+// The lines of refusals.
+ghost use Rattle.std.specs.Prelude.{◌≡◌, IfOk};
+ghost use Rattle.mk_session.specs.Answers.{bad_line_text, bad_query_text, check_text, full_text, long_molecules_text, long_query_text, query_check_text, records_text, v3000_query_text, v3000_text};
 
-use mk_text::{Memory, Numbers, put_number};
+use mk_text::{Memory, put_number};
 use std::alloc::Global;
 
 /// The refusal of a query's file over its limit.
@@ -10,13 +10,6 @@ pub fn long_query(alloc: Global) -> Result<Vec<u8>, Memory>
     ensures { IfOk result (λ text. text.items ≡ long_query_text) }
 {
     Vec::from_slice(alloc, b"refused 4 query\n")
-}
-
-/// The refusal of a query's file that is no plain file.
-pub fn unbuilt(alloc: Global) -> Result<Vec<u8>, Memory>
-    ensures { IfOk result (λ text. text.items ≡ unbuilt_text) }
-{
-    Vec::from_slice(alloc, b"refused 12 unbuilt\n")
 }
 
 /// The refusal of a molecules' file over its limit.
@@ -114,40 +107,4 @@ pub fn failed_query_check(
     put_number(alloc, &mut text, u64::from(item))?;
     text.extend_from_slice(b"\n")?;
     Ok(text)
-}
-
-/// The answer that lists these hits, of which at most so many are listed.
-#[tactic(auto, unfolding(crate::specs::Answers::hits_text))]
-pub fn hits_answer(alloc: Global, hits: &[Numbers], most: usize) -> Result<Vec<u8>, Memory>
-    ensures { IfOk result (λ answer. answer.items ≡ hits_text hits.now most) }
-{
-    let mut answer = Vec::new(alloc);
-    for hit in hits {
-        put_hit(alloc, &mut answer, hit.as_slice())?;
-    }
-    if hits.len() < most {
-        answer.extend_from_slice(b"end\n")?;
-    } else {
-        answer.extend_from_slice(b"more 0\n")?;
-    }
-    Ok(answer)
-}
-
-fn put_hit(alloc: Global, answer: &mut Vec<u8>, atoms: &[u32]) -> Result<(), Memory>
-    ensures { OnOk result (answer.new.items ≡ answer.old.items ++ hit_line atoms.now) }
-{
-    answer.extend_from_slice(b"hit 1 choice map")?;
-    put_numbers(alloc, answer, atoms)?;
-    answer.extend_from_slice(b"\n")
-}
-
-// Each number after a blank.
-fn put_numbers(alloc: Global, answer: &mut Vec<u8>, numbers: &[u32]) -> Result<(), Memory>
-    ensures { OnOk result (answer.new.items ≡ answer.old.items ++ numbers_text numbers.now) }
-{
-    for number in numbers {
-        answer.push(b' ')?;
-        put_number(alloc, answer, u64::from(*number))?;
-    }
-    Ok(())
 }

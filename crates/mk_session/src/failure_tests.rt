@@ -1,5 +1,5 @@
 // Calls that fail, files that aren't read, and a store with a bad row.
-use crate::test_files::{C, CO, COC, DOUBLE, failing, files, words};
+use crate::test_files::{C, CO, COC, NOTHING, failing, files, words};
 use crate::{Status, top};
 use mk_outside::{
     Bytes, CallNumbers, FileRows, MemFiles, MemKeeper, MemSink, MemSource, Memory, RecordRow,
@@ -154,7 +154,7 @@ fn a_failed_commit_keeps_what_was_kept(rt: HostRuntime) -> Result<(), Fail> {
 #[test]
 fn a_refused_query_is_the_only_file_read(rt: HostRuntime) -> Result<(), Fail> {
     let alloc = rt.alloc();
-    let mut files = MemFiles::new(files(alloc, DOUBLE, COC)?, failing(alloc, 2)?);
+    let mut files = MemFiles::new(files(alloc, NOTHING, COC)?, failing(alloc, 2)?);
     let mut input = SureSource::new(Bytes::new(alloc));
     let mut output = SureSink::new(Bytes::new(alloc));
     let mut keeper = SureKeeper::new(Tables::new(alloc));
@@ -169,7 +169,7 @@ fn a_refused_query_is_the_only_file_read(rt: HostRuntime) -> Result<(), Fail> {
     );
     assert!(rt; ended != Status::Memory, "want of memory");
     assert!(rt; ended == Status::Refused);
-    assert!(rt; output.bytes() == b"refused 12 unbuilt\n".as_slice());
+    assert!(rt; output.bytes() == b"refused 2 query line 1\n".as_slice());
     Ok(())
 }
 

@@ -3,35 +3,20 @@ ghost use Rattle.std.specs.Prelude.{◌≤◌, ◌<◌, ◌^◌, ℕ, List, Opti
 ghost use Rattle.mk_ctab.specs.TableFacts.{IsRawTable};
 ghost use Rattle.mk_session.specs.Files.{IsFoundAs, IsShort, Look};
 ghost use Rattle.mk_session.specs.Match.{molecule_bytes};
-ghost use Rattle.mk_session.specs.Matching.{IsHeldBy, IsHeldOf, IsHeldTable, IsJudged, IsKeptJudgment, IsWithin};
+ghost use Rattle.mk_session.specs.Matching.{IsHeldBy, IsHeldOf, IsHeldTable, IsWithin};
 ghost use Rattle.mk_session.specs.QueryText.{IsHeldQuery, IsTextSaid, query_bytes};
 
 use crate::answers::{
     bad_line, bad_query_line, failed_check, failed_query_check, long_molecules, long_query,
     not_one, v3000_line, v3000_query_line,
 };
-use crate::judgment::{Held, HeldQuery, Judgment};
+use crate::judgment::{Held, HeldQuery};
 use crate::query_text::{QueryText, query_of};
-use mk_ctab::{PlainFault, RawTable, TableFault, read_plain};
+use mk_ctab::{RawTable, TableFault};
 use mk_mol::{PrepareFault, prepare};
 use mk_outside::{Bytes, Memory};
 use mk_sdfile::{RawRecord, read_sdfile};
 use std::alloc::Global;
-
-/// Judges the query's file as a plain one. None is a file over its limit.
-pub fn judge_plain(alloc: Global, bytes: Option<Bytes>) -> Result<Judgment, Memory>
-    ensures judged { (files : Option Look) (name : List ℕ) → IsFoundAs files query_bytes name bytes → IfOk result (IsJudged files name) }
-    ensures kept { IfOk result IsKeptJudgment }
-{
-    let Some(text) = bytes else {
-        return Ok(Judgment::TooLong);
-    };
-    match read_plain(alloc, text.as_slice(), true) {
-        Ok(table) => Ok(Judgment::Plain(table)),
-        Err(PlainFault::Unbuilt) => Ok(Judgment::Unbuilt),
-        Err(PlainFault::Memory) => Err(Memory),
-    }
-}
 
 /// Judges the query's file. None is a file over its limit.
 pub fn judge_query(alloc: Global, bytes: &Option<Bytes>) -> Result<HeldQuery, Memory>

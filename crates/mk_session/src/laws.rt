@@ -2,11 +2,10 @@
 ghost use Rattle.mk_session.specs.Commands.{CommandsAreRead, OneReading};
 ghost use Rattle.mk_session.specs.Laws.{OneEffect, OneRun, TwoScripts};
 
-use mk_ctab::plain_file_is_exact;
 use mk_mol::{one_filled_molecule, one_first_fault};
-use mk_rings::marks_determine_bonds;
+use mk_query::{fault_or_query, one_first_fault as one_first_query_fault, one_query};
+use mk_rgfile::query_file_is_exact;
 use mk_sdfile::sdfile_is_exact;
-use mk_text::one_rising_list;
 
 /// The command that words are is computed exactly, and words are at most one command.
 pub fn commands_are_read()
@@ -26,9 +25,10 @@ pub fn one_run()
     ensures run { OneRun }
 {
     // The laws on which this one rests.
-    one_rising_list();
-    marks_determine_bonds();
-    plain_file_is_exact();
+    query_file_is_exact();
+    one_query();
+    one_first_query_fault();
+    fault_or_query();
     sdfile_is_exact();
     one_first_fault();
     one_filled_molecule();

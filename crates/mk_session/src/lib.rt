@@ -22,6 +22,9 @@ mod failure_tests;
 mod file_reading;
 mod files;
 mod finding;
+#[cfg(test)]
+mod generic_tests;
+mod hit_lines;
 mod judgment;
 mod laws;
 mod listings;
@@ -30,7 +33,6 @@ mod loading;
 mod match_tests;
 mod matching;
 mod ordering;
-mod query_graph;
 mod query_text;
 mod reading;
 mod records;

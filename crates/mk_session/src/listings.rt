@@ -1,31 +1,19 @@
-// The hits that are listed, one after another.
-ghost use Rattle.std.specs.Prelude.{◌≡◌, IfOk, take};
-ghost use Rattle.mk_match.specs.Plain.{hits_of};
+// What is searched by `match`, and how much of it is listed.
+ghost use Rattle.std.specs.Prelude.{◌≡◌, ◌∷◌, [], IfOk};
 
-use mk_match::Maps;
-use mk_model::{Graph, Map, Memory, Mol, Steps};
+use mk_index::Shelf;
+use mk_model::{Memory, Mol};
 use std::alloc::Global;
-use std::sync::ledger::Ledger;
 
 /// How many hits are listed at most.
 pub const MOST_HITS: usize = 10_000;
 
-/// The first hits in rising order, as many as are listed.
-pub fn first_hits<L: Ledger>(
-    alloc: Global,
-    graph: Graph,
-    mol: &Mol,
-    steps: &mut Steps<L>,
-) -> Result<Vec<Map>, Memory>
-    ensures { IfOk result (λ hits. hits.items ≡ take 10000 (hits_of graph mol.now)) }
+/// The shelf of one molecule, which is record 1.
+pub fn shelf_of(alloc: Global, mol: Mol) -> Result<Shelf, Memory>
+    ensures { IfOk result (λ shelf. shelf.rows ≡ record { number = 1; item = mol } ∷ []) }
 {
-    let mut maps = Maps::from_place(alloc, graph, mol, &[], steps)?;
-    let mut hits = Vec::new(alloc);
-    while hits.len() < MOST_HITS {
-        let Some(hit) = maps.next() else {
-            return Ok(hits);
-        };
-        hits.push(Map::of(Vec::from_slice(alloc, hit)?))?;
-    }
-    Ok(hits)
+    let mut shelf = Shelf::new(alloc);
+    shelf.reserve(1)?;
+    shelf.insert(1, mol);
+    Ok(shelf)
 }

@@ -2,22 +2,11 @@
 use crate::Status;
 use crate::test_files::{
     ACID, APART, BENZENE, C, CC, CO, COC, DOUBLE, Drawn, Held, OC, RING, TRIPLE, Written, file,
-    files, is_run, words,
+    files, is_answered,
 };
 use mk_outside::{Bytes, FileRow, FileRows, Memory, Text};
 use std::alloc::Global;
 use std::test::Fail;
-
-// Whether `match q m` ends so over these files, and writes this.
-fn is_answered(
-    alloc: Global,
-    rows: FileRows,
-    wanted: &str,
-    status: Status,
-) -> Result<bool, Memory> {
-    let words = words(alloc, ["match", "q", "m"].as_slice())?;
-    is_run(alloc, &words, rows, "", wanted, status)
-}
 
 static HITS: [(&str, Held, Held, &str); 22] = [
     (
@@ -161,7 +150,7 @@ fn queries_have_their_hits(rt: HostRuntime) -> Result<(), Fail> {
     Ok(())
 }
 
-static REFUSALS: [(&str, Held, Held, &str); 21] = [
+static REFUSALS: [(&str, Held, Held, &str); 19] = [
     (
         "an unknown symbol",
         C,
@@ -271,25 +260,13 @@ static REFUSALS: [(&str, Held, Held, &str); 21] = [
         "a query of no byte",
         Written(""),
         COC,
-        "refused 12 unbuilt\n",
-    ),
-    (
-        "a query with a double bond",
-        DOUBLE,
-        COC,
-        "refused 12 unbuilt\n",
-    ),
-    (
-        "a query with a charge",
-        Drawn("C | {M  CHG  1   1   1}"),
-        COC,
-        "refused 12 unbuilt\n",
+        "refused 2 query line 1\n",
     ),
     (
         "a bad query and a bad molecule",
-        DOUBLE,
         Written("x"),
-        "refused 12 unbuilt\n",
+        Written("x"),
+        "refused 2 query line 2\n",
     ),
 ];
 
@@ -325,13 +302,13 @@ static LONG_QUERIES: [(&str, u8, usize, &str); 3] = [
         "a query of one line at its limit",
         b' ',
         4_194_304,
-        "refused 12 unbuilt\n",
+        "refused 2 query line 2\n",
     ),
     (
         "a query of many lines at its limit",
         b'\n',
         4_194_304,
-        "refused 12 unbuilt\n",
+        "refused 2 query line 4\n",
     ),
 ];
 

@@ -1,22 +1,20 @@
 // The command `match`.
-ghost use Rattle.std.specs.Prelude.{◌≡◌, ℕ, List, Option, true, IfOk};
-ghost use Rattle.mk_ctab.specs.PlainFacts.{IsPlainTable};
+ghost use Rattle.std.specs.Prelude.{◌≡◌, ℕ, List, Option, IfOk};
 ghost use Rattle.mk_session.specs.Files.{Look};
 ghost use Rattle.mk_session.specs.Match.{IsMatch, IsSearch, IsTurnOfMatch};
-ghost use Rattle.mk_session.specs.Matching.{IsHeldBy, IsTurnOf};
+ghost use Rattle.mk_session.specs.Matching.{IsHeldBy, IsTurnOf, IsWithin};
+ghost use Rattle.mk_session.specs.QueryText.{IsHeldQuery, query_bytes};
 ghost use Rattle.mk_session.specs.Running.{MissesAt, SeeksSo, effect_of};
 
-use crate::answers::{hits_answer, long_query, unbuilt};
 use crate::file_reading::{MOLECULE_BYTES, QUERY_BYTES, read_within};
-use crate::files::{judge_molecules, judge_plain};
-use crate::judgment::{Held, Judgment};
-use crate::listings::{MOST_HITS, first_hits};
-use crate::query_graph::graph_of;
+use crate::files::{judge_molecules, judge_query};
+use crate::hit_lines::hits_answer;
+use crate::judgment::{Held, HeldQuery};
+use crate::listings::{MOST_HITS, shelf_of};
 use crate::{Edit, Found, StepFail};
-use mk_ctab::PlainTable;
-use mk_match::hits_are_listed;
-use mk_model::Steps;
+use mk_model::{Query, Steps};
 use mk_outside::{Bytes, Files, Memory};
+use mk_search::page;
 use std::alloc::Global;
 use std::sync::ledger::Ledger;
 
@@ -37,22 +35,29 @@ pub fn match_found<F: Files, L: Ledger>(
         Ok(bytes) => bytes,
         Err(fail) => return Err(StepFail::from(fail)),
     };
-    match judge_plain(alloc, bytes)? {
-        Judgment::TooLong => Ok(Found::Refused(Bytes::of(long_query(alloc)?))),
-        Judgment::Unbuilt => Ok(Found::Refused(Bytes::of(unbuilt(alloc)?))),
-        Judgment::Plain(wanted) => search_found(alloc, files, &wanted, molecules, steps),
+    let held = query_held(alloc, bytes)?;
+    match held {
+        HeldQuery::Refused(line) => Ok(Found::Refused(line)),
+        HeldQuery::Query(wanted) => search_found(alloc, files, &wanted, molecules, steps),
     }
+}
+
+// What is made of the query's file, which isn't kept.
+fn query_held(alloc: Global, bytes: Option<Bytes>) -> Result<HeldQuery, Memory>
+    requires { IsWithin query_bytes bytes }
+    ensures { IfOk result (IsHeldQuery bytes) }
+{
+    judge_query(alloc, &bytes)
 }
 
 // Reads the molecules' file and searches it.
 fn search_found<F: Files, L: Ledger>(
     alloc: Global,
     files: &mut F,
-    wanted: &PlainTable,
+    wanted: &Query,
     molecules: &str,
     steps: &mut Steps<L>,
 ) -> Result<Found, StepFail>
-    requires { IsPlainTable true wanted.now }
     ensures sought { SeeksSo (IsSearch wanted.now (F.look_up files.old) molecules.now) (IsTurnOf molecules.now) (F.faults files.old) (F.faults files.new) result }
     ensures same_files { F.look_up files.new ≡ F.look_up files.old }
     ensures missed { MissesAt (F.look_up files.old) (IsTurnOf molecules.now) (F.absences files.old) (F.absences files.new) }
@@ -68,20 +73,18 @@ fn search_found<F: Files, L: Ledger>(
 // The refusal, or the hits in the molecule.
 fn answer_of<L: Ledger>(
     alloc: Global,
-    wanted: &PlainTable,
+    wanted: &Query,
     held: Held,
     steps: &mut Steps<L>,
 ) -> Result<Found, Memory>
-    requires { IsPlainTable true wanted.now }
     ensures { (files : Option Look) (name : List ℕ) → IsHeldBy files name held → IfOk result (λ found. IsSearch wanted.now files name (effect_of found)) }
 {
     match held {
         Held::Refused(line) => Ok(Found::Refused(line)),
         Held::Molecule(mol) => {
-            let graph = graph_of(alloc, wanted)?;
-            let hits = first_hits(alloc, graph, &mol, steps)?;
-            let answer = hits_answer(alloc, &hits, MOST_HITS)?;
-            hits_are_listed();
+            let shelf = shelf_of(alloc, mol)?;
+            let listed = page(alloc, &shelf, wanted, &[], MOST_HITS, steps)?;
+            let answer = hits_answer(alloc, wanted, listed.hits.as_slice(), MOST_HITS, 0)?;
             Ok(Found::Answered(Edit::Nothing, Bytes::of(answer)))
         }
     }

@@ -1,6 +1,6 @@
 // Files in memory, and runs over them. The shorthand is that of docs/TESTING.md, "Tables of tests".
 use crate::{Status, top};
-use mk_fixtures::molfile_of_sketch;
+use mk_fixtures::{molfile_of_sketch, rgfile_of_sketches};
 use mk_outside::{
     Bytes, CallNumbers, FileRow, FileRows, Memory, SureFiles, SureKeeper, SureSink, SureSource,
     Tables, Text,
@@ -8,14 +8,18 @@ use mk_outside::{
 use std::alloc::Global;
 use std::test::Fail;
 
-// What a file holds: the molfile of a sketch, or a text as it stands.
+// The groups of a query by number, each with its members.
+pub type Groups = &'static [(u64, &'static [&'static str])];
+
+// What a file holds: the molfile of a sketch, the RGfile of a sketch and of groups, or a text as it stands.
 #[derive(Clone, Copy)]
 pub enum Held {
     Drawn(&'static str),
+    Grouped(&'static str, Groups),
     Written(&'static str),
 }
 
-pub use Held::{Drawn, Written};
+pub use Held::{Drawn, Grouped, Written};
 
 // A carbon.
 pub const C: Held = Drawn("C |");
@@ -47,12 +51,16 @@ pub const BENZENE: Held = Drawn("C C C C C C | 1-2 2=3 3-4 4=5 5-6 6=1");
 // Acetic acid.
 pub const ACID: Held = Drawn("C C O O | 1-2 2=3 2-4");
 
+// A file of no byte.
+pub const NOTHING: Held = Written("");
+
 // Two carbons that aren't bonded.
 pub const APART: Held = Drawn("C C |");
 
 pub fn file(alloc: Global, name: &str, held: Held) -> Result<FileRow, Fail> {
     let bytes = match held {
         Drawn(sketch) => molfile_of_sketch(alloc, sketch)?,
+        Grouped(root, groups) => rgfile_of_sketches(alloc, root, groups)?,
         Written(text) => text.as_bytes().to_vec(alloc)?,
     };
     Ok(FileRow {
@@ -101,6 +109,17 @@ pub fn is_run(
         return Err(Memory);
     }
     Ok(ended == status && output.bytes() == wanted.as_bytes())
+}
+
+// Whether `match q m` ends so over these files, and writes this.
+pub fn is_answered(
+    alloc: Global,
+    rows: FileRows,
+    wanted: &str,
+    status: Status,
+) -> Result<bool, Memory> {
+    let words = words(alloc, ["match", "q", "m"].as_slice())?;
+    is_run(alloc, &words, rows, "", wanted, status)
 }
 
 // The number of the one call that fails.
