@@ -1,6 +1,6 @@
 // The codes of the query of the example: `[C R# R# | 1-2 1-3]` with the groups 1 and 2, `[F | ]` and `[Cl | ]`, IF R1 THEN R2,
 // R1 `0-1`, R2 `1`.
-use crate::{Codes, least_code};
+use crate::{Codes, code_within, least_code};
 use mk_fixtures::query_of_two_sites;
 use mk_model::{Memory, Query};
 use std::alloc::Global;
@@ -38,6 +38,25 @@ fn codes_in_order(rt: HostRuntime) -> Result<(), Fail> {
     }
     assert_eq!(rt; told.as_slice(), [1, 1, 2, 1, 2, 2, 0].as_slice());
     assert_eq!(rt; codes.place(rt.alloc())?.as_slice(), [2, 2, 0].as_slice());
+    Ok(())
+}
+
+// Numbers, and how many of the first are a structural code.
+static NUMBERS: [(&str, &[u32], Option<usize>); 6] = [
+    ("a code", &[1, 1], Some(2)),
+    ("a code that isn't valid, and more", &[1, 2, 9, 9], Some(2)),
+    ("the middle of a code", &[2], None),
+    ("no number", &[], None),
+    ("a number above the greatest", &[1, 3], None),
+    ("a number below the least", &[0, 1], None),
+];
+
+#[test]
+fn codes_at_the_front(rt: HostRuntime) -> Result<(), Fail> {
+    let query = query_of_two_sites(rt.alloc())?;
+    for (name, numbers, want) in &NUMBERS {
+        assert!(rt; code_within(&query, numbers) == *want, "{name}");
+    }
     Ok(())
 }
 

@@ -2,7 +2,7 @@
 // docs/TESTING.md, "Tables of tests".
 ghost use Rattle.std.specs.Prelude.{◌≡◌, ◌<◌, length};
 
-use crate::{Maps, least_map};
+use crate::{Maps, cannot_hold, counts_asked, counts_there, least_map};
 use mk_fixtures::{
     asked, asked_atoms, asked_bonds, elements_of, graph_of, graph_of_sketch, mol_of, mol_of_sketch,
 };
@@ -108,6 +108,27 @@ fn fronts(rt: HostRuntime) -> Result<(), Fail> {
                 assert_eq!(rt; found.is_some(), want.is_some(), "row {row}");
             }
         }
+    }
+    Ok(())
+}
+
+// A graph, a molecule, and whether their counts show that there is no hit.
+static COUNTS: [(&str, &str, bool); 5] = [
+    (COC, CO, true),
+    ("O O | 1-2", COC, true),
+    (CO, COC, false),
+    ("C C O |", COC, false),
+    ("* * |", CO, false),
+];
+
+#[test]
+fn counts_of_elements(rt: HostRuntime) -> Result<(), Fail> {
+    for (query, molecule, want) in &COUNTS {
+        let graph = graph_of_sketch(rt.alloc(), query)?;
+        let mol = mol_of_sketch(rt.alloc(), molecule)?;
+        let asked = counts_asked(rt.alloc(), &graph)?;
+        let counts = counts_there(&mol);
+        assert!(rt; cannot_hold(&asked, &counts) == *want, "{query} {molecule}");
     }
     Ok(())
 }
