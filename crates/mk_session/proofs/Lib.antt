@@ -4,6 +4,11 @@ pub mod ListingsLemmas
 pub mod QueryTextLemmas
 pub mod MatchLemmas
 pub mod SeekingLemmas
+pub mod SavedLemmas
+pub mod SavedSearchLemmas
+pub mod SavedPendingLemmas
+pub mod RestoredLemmas
+pub mod QueriesLemmas
 pub mod StoredRowsLemmas
 pub mod OpeningLemmas
 pub mod LoadingLemmas
@@ -15,5 +20,6 @@ pub mod HeadlineLemmas
 pub mod JoinLemmas
 pub mod OneEditLemmas
 pub mod OneQueryLemmas
+pub mod OneKeepLemmas
 pub mod OneRunLemmas
 pub mod CommandPartsLemmas

@@ -16,23 +16,29 @@ use Rattle.mk_index.specs.declared.by_number.Numbered.{Numbered}
 use Rattle.mk_model.specs.Molecules.{Molecule}
 use Rattle.mk_library.specs.declared.refusal.LoadRefusal.{LoadRefusal}
 use Rattle.mk_library.specs.declared.refusal.LoadRefusal.TheVariants as refusal
-use Rattle.mk_library.specs.Edits.{Edit}
+use Rattle.mk_library.specs.Edits.{Edit as LibraryEdit}
 use Rattle.mk_library.specs.FirstRefusal.{Demand, Demands, IfRefused, IsFirstRefusal, Says, held_number, kept_limits, molecules, one_record, sdfile, short_file, text_of_edit}
 use Rattle.mk_library.specs.Library.{IsSame, LibraryView, tables_of}
 use Rattle.mk_library.specs.Pending.{IsOfRecords, RecordsChangeAlone}
 use Rattle.mk_library.specs.Records.{AreHeld, is_held, text_of}
 use Rattle.mk_session.specs.declared.effect.Ended.{Ended}
 use Rattle.mk_session.specs.declared.effect.StepFail.{StepFail}
-use Rattle.mk_session.specs.declared.saved.Saved.{Saved}
+use Rattle.mk_session.specs.Saved.{IsSameSaved, SavedView}
 use Rattle.mk_session.specs.Files.{Look}
 use Rattle.mk_session.specs.Orders.{Order}
 use Rattle.mk_session.specs.Loading.{IsFileLine, loaded_text}
 use Rattle.mk_session.specs.Records.{record_line, row_line}
-use Rattle.mk_session.specs.Running.{IsStepped, stands_for}
+use Rattle.mk_session.specs.Running.{ChangeCounts, IsStepped, StepCounts, changes_of, stands_for}
+use Rattle.mk_session.specs.Step.{Comes}
+use Rattle.mk_session.specs.Effects.{Answers}
+use Rattle.mk_session.specs.Fails.{IsStepFailOfKeep}
+use Rattle.mk_session.specs.declared.effect.Edit.{Edit}
+use Rattle.mk_outside.specs.declared.answers.KeepFail.{KeepFail}
+use Rattle.mk_outside.specs.declared.answers.KeepFail.TheVariants as keep
 
 -- ---- refusals
 
-module _ (records : List RecordRow) (next : ℕ) (edit : Edit) where
+module _ (records : List RecordRow) (next : ℕ) (edit : LibraryEdit) where
   by_demand : (demand : Demand) → (Demands records next edit demand → ⊥) → Says (text_of_edit edit) demand refusal.NoRecord → Demands records next edit held_number → ⊥
   by_demand held_number fails says held = fails held
   by_demand short_file fails says held = cc
@@ -103,14 +109,23 @@ pub stepped_err : (files : Option Look) (t t' : Tables) (order : Order) (old new
 stepped_err files t t' order old new (Ok e) is same answer = absurd cc
 stepped_err files t t' order old new (Err e) is same answer = (same, answer)
 
+-- an edit that couldn't be kept changes the counts so
+pub step_counted : (files : Option Look) (t u : Tables) (order : Order) (f f' k k' : ℕ) (change : Edit) (text : List ℕ) (fail : KeepFail) (said : StepFail) → IsStepFailOfKeep fail said
+    → u ≡ t → Comes files u order (Answers (changes_of change) text) → f' ≡ f → ChangeCounts {A = Unit {0}} (changes_of change) k k' (Err fail) → StepCounts files t order f f' k k' (Err said)
+step_counted files t u order f f' k k' change text keep.Failed said is tables comes same counts =
+    let here = subst (λ (v : Tables). Comes files v order (Answers (changes_of change) text)) tables comes in
+    subst (λ (s : StepFail). StepCounts files t order f f' k k' (Err s)) (sym is) (record { batch = changes_of change; text = text; comes = here; some = counts.0 }, counts.1, same)
+step_counted files t u order f f' k k' change text keep.Memory said is tables comes same counts =
+    subst (λ (s : StepFail). StepCounts files t order f f' k k' (Err s)) (sym is) (same, counts)
+
 -- ---- changes
 
--- a library that holds the same stands for the same tables
-pub same_tables : (a b : LibraryView) (saved : Saved) → IsSame a b → stands_for b saved ≡ stands_for a saved
-same_tables a b saved same = rw (same.records, same.next_record) refl
+-- what holds the same stands for the same tables
+pub same_tables : (a b : LibraryView) (saved other : SavedView) → IsSame a b → IsSameSaved saved other → stands_for b other ≡ stands_for a saved
+same_tables a b saved other same is = rw (same.records, same.next_record, is.queries, is.cursors, is.next_cursor) refl
 
 -- what the library makes of its records, the batch makes of the whole tables
-pub installed : RecordsChangeAlone → (batch : List Change) (a b : LibraryView) (saved : Saved) → All IsOfRecords batch → tables_of b ≡ after_batch batch (tables_of a)
+pub installed : RecordsChangeAlone → (batch : List Change) (a b : LibraryView) (saved : SavedView) → All IsOfRecords batch → tables_of b ≡ after_batch batch (tables_of a)
     → stands_for b saved ≡ after_batch batch (stands_for a saved)
 installed alone batch a b saved all is =
     let whole = alone batch (stands_for a saved) all in

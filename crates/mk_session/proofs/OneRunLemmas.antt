@@ -40,6 +40,7 @@ use Rattle.mk_session.specs.Loading.{loaded_text}
 use Rattle.mk_session.proofs.HitLinesLemmas.{one_hits_text}
 use Rattle.mk_session.proofs.LoadingLemmas.{text_is_held}
 use Rattle.mk_session.proofs.OneEditLemmas.{long_not_read, one_edited, one_reading, one_replace}
+use Rattle.mk_session.proofs.OneKeepLemmas.{one_forget, one_keep}
 use Rattle.mk_session.proofs.OneQueryLemmas.{HasQueryLaws, one_query_held}
 
 -- ---- the laws that are cited
@@ -234,8 +235,8 @@ one_effect laws look t (Some (variant.Match query molecules)) a b p q = one_matc
 one_effect laws look t (Some (variant.Load file)) a b p q = one_edited laws.sdfile laws.one_bad laws.fault laws.no_fault look t file Load (loaded_text t.next_record) a b p q
 one_effect laws look t (Some (variant.Replace number file)) a b p q = one_replace laws.sdfile laws.one_bad laws.fault laws.no_fault look t number file a b p q
 one_effect laws look t (Some (variant.Remove number)) a b p q = one_remove t number a b p q
-one_effect laws look t (Some (variant.Query name file)) a b p q = p ∙ sym q
-one_effect laws look t (Some (variant.Forget name)) a b p q = p ∙ sym q
+one_effect laws look t (Some (variant.Query name file)) a b p q = one_keep laws.queries look t name file a b p q
+one_effect laws look t (Some (variant.Forget name)) a b p q = one_forget t name a b p q
 one_effect laws look t (Some (variant.Search name limit)) a b p q = p ∙ sym q
 one_effect laws look t (Some (variant.Resume cursor limit)) a b p q = p ∙ sym q
 one_effect laws look t (Some (variant.Show number)) a b p q = one_show t number a b p q

@@ -4,8 +4,10 @@ use Rattle.std.specs.Prelude.{Result, Ok, Err}
 use Rattle.mk_outside.specs.declared.tables.Tables.{Tables}
 use Rattle.mk_session.specs.declared.stored_rows.BeginFail.{BeginFail}
 use Rattle.mk_session.specs.declared.stored_rows.BeginFail.TheVariants as begin
-use Rattle.mk_session.specs.StoredRows.{AllRead}
-use Rattle.mk_session.specs.Running.{Begins, IsLoaded, IsOpened, is_store}
+use Rattle.mk_library.specs.Library.{LibraryView}
+use Rattle.mk_session.specs.Saved.{SavedView}
+use Rattle.mk_session.specs.StoredRows.{AllRead, RecordsRead}
+use Rattle.mk_session.specs.Running.{Begins, IsLoaded, IsOpened, IsRestored, is_store, stands_for}
 
 -- tables that are opened are those that the keeper holds
 pub begins_by : (sound : Type 0) (told told' : Option Tables) (t : Tables) (r : Result Tables BeginFail) → IsLoaded sound told told' t → IsOpened t r → Begins sound told told' r
@@ -20,3 +22,14 @@ no_store t (Ok s) is = refl
 no_store t (Err begin.Store) is = absurd is
 no_store t (Err (begin.BadStore kind number)) is = refl
 no_store t (Err begin.Memory) is = refl
+
+-- what doesn't read is what is said of opening, where the records read
+pub opened_fail : (t : Tables) (fail : BeginFail) → RecordsRead t → IsRestored t (Err fail) → IsOpened t (Err fail)
+opened_fail t begin.Store records is = is
+opened_fail t (begin.BadStore kind number) records is = is records
+opened_fail t begin.Memory records is = is
+
+-- the library, the queries and the saved searches of tables stand for them
+pub opened_tables : (t : Tables) (library : LibraryView) (saved : SavedView) → library.records ≡ t.records → library.next_record ≡ t.next_record
+    → saved.queries ≡ t.queries → saved.cursors ≡ t.cursors → saved.next_cursor ≡ t.next_cursor → stands_for library saved ≡ t
+opened_tables t library saved records next queries cursors next_cursor = rw (records, next, queries, cursors, next_cursor) refl

@@ -1,8 +1,8 @@
 -- Stored rows that read, and the first that doesn't.
 --     reads_not_bad       where each row reads there is no first that doesn't
 --     one_first_bad       there is at most one
---     judged_rows         what the first rows of each kind say
-use Rattle.std.proofs.Common.{◌≡◌, ℕ, suc, inl, inr, List, [], ◌∷◌, ◌++◌, append_assoc, refl, sym, ap, ◌∙◌, subst, arith}
+--     read_none, read_more, bad_at    rows that read, one after another, and one that doesn't
+use Rattle.std.proofs.Common.{◌≡◌, ℕ, suc, ◌⊎◌, inl, inr, List, [], ◌∷◌, ◌++◌, append_assoc, refl, sym, ap, ◌∙◌, subst, arith}
 use Rattle.std.specs.Prelude.{Contains, Some, slice_get}
 use Rattle.std.proofs.lemmas.Bool.Decides.{leb_tells}
 use Rattle.std.proofs.lemmas.List.{append-nil}
@@ -13,8 +13,7 @@ use Rattle.mk_outside.specs.declared.tables.RecordRow.{RecordRow}
 use Rattle.mk_library.specs.StoredRows as library
 use Rattle.mk_session.specs.declared.stored_rows.RowKind.{RowKind}
 use Rattle.mk_session.specs.declared.stored_rows.RowKind.TheVariants.{Queries, Cursors}
-use Rattle.mk_session.specs.Running.{IsFirstOf}
-use Rattle.mk_session.specs.StoredRows.{AllRead, EachReads, IsFirstBad, IsFirstBadRow, IsNamed, ReadsCursor, ReadsQuery, RecordsRead, BadRecord, BadQuery, BadCursor}
+use Rattle.mk_session.specs.StoredRows.{AllRead, EachReads, IsFirstBad, IsFirstBadRow, ReadsCursor, ReadsQuery, RecordsRead, BadRecord, BadQuery, BadCursor}
 
 -- ---- rows of any kind
 
@@ -22,18 +21,31 @@ module _ {R : Type 0} (Reads : List R → R → Type 0) where
   each_not_bad : (rows : List R) (row : R) → EachReads Reads rows → IsFirstBadRow Reads rows row → ⊥
   each_not_bad rows row each bad = bad.bad (each bad.front row bad.others bad.whole)
 
-  -- no rows read
-  none_read : (rows : List R) → rows ≡ [] → EachReads Reads rows
-  none_read rows is [] row others whole = let h = sym is ∙ whole in absurd cc
-  none_read rows is (x ∷ front) row others whole = let h = sym is ∙ whole in absurd cc
+  none_read : EachReads Reads []
+  none_read [] row others whole = absurd cc
+  none_read (x ∷ front) row others whole = absurd cc
 
-  -- the first row doesn't read
-  pub first_bad_row : (number : R → ℕ) (rows : List R) (n : ℕ) → ((row : R) → Reads [] row → ⊥) → (first : IsFirstOf number rows n) → IsFirstBadRow Reads rows first.row
-  first_bad_row number rows n bad first =
-      record { front = []; others = first.others; whole = first.whole; before = none_read [] refl; bad = bad first.row }
+  -- the last of some rows, or one before it
+  last_or_before : (rows front : List R) (last row : R) (others : List R) → rows ++ last ∷ [] ≡ front ++ row ∷ others
+      → ((front ≡ rows) × (row ≡ last)) ⊎ ((later : List R) × (rows ≡ front ++ row ∷ later))
+  last_or_before [] [] last row others same = inl (refl, cc)
+  last_or_before [] (y ∷ []) last row others same = absurd cc
+  last_or_before [] (y ∷ z ∷ front) last row others same = absurd cc
+  last_or_before (x ∷ rows) [] last row others same = inr (rows, let here : x ≡ row = cc in ap (λ (r : R). r ∷ rows) here)
+  last_or_before (x ∷ rows) (y ∷ front) last row others same =
+      let here : x ≡ y = cc in
+      let rest : rows ++ last ∷ [] ≡ front ++ row ∷ others = cc in
+      elim (last_or_before rows front last row others rest) [
+        | inl is ↦ inl ((λ j. sym here j ∷ is.0 j), is.1)
+        | inr before ↦ inr (before.0, (λ j. here j ∷ before.1 j))
+      ]
 
-  pub no_rows : (rows : List R) → rows ≡ [] → EachReads Reads rows
-  no_rows rows is = none_read rows is
+  -- one more row that reads
+  pub read_more : (rows : List R) (last : R) → EachReads Reads rows → Reads rows last → EachReads Reads (rows ++ last ∷ [])
+  read_more rows last each reads front row others whole = elim (last_or_before rows front last row others whole) [
+    | inl is ↦ subst (λ (r : R). Reads front r) (sym is.1) (subst (λ (f : List R). Reads f last) (sym is.0) reads)
+    | inr before ↦ each front row before.0 before.1
+  ]
 
 -- ---- at most one
 
@@ -96,30 +108,11 @@ one_first_bad t kind other n m (BadQuery records row p k is) (BadCursor records'
 one_first_bad t kind other n m (BadCursor records queries row p k is) (BadRecord q o) = absurd (read_not_bad t.next_record t.records m records q)
 one_first_bad t kind other n m (BadCursor records queries row p k is) (BadQuery records' bad q o is') = absurd (each_not_bad ReadsQuery t.queries bad queries q)
 one_first_bad t kind other n m (BadCursor records queries row p k is) (BadCursor records' queries' bad q o is') =
-    numbered (ReadsCursor t) cursor_number t.cursors row bad kind other Cursors n m p q k o is is'
+    numbered (ReadsCursor t.queries t.next_cursor) cursor_number t.cursors row bad kind other Cursors n m p q k o is is'
 
 -- ---- tables
 
 pub reads_not_bad : (t : Tables) (kind : RowKind) (number : ℕ) → AllRead t → IsFirstBad t kind number → ⊥
 reads_not_bad t kind number all (BadRecord bad is) = read_not_bad t.next_record t.records number all.records bad
 reads_not_bad t kind number all (BadQuery records row bad is same) = each_not_bad ReadsQuery t.queries row all.queries bad
-reads_not_bad t kind number all (BadCursor records queries row bad is same) = each_not_bad (ReadsCursor t) t.cursors row all.cursors bad
-
--- ---- what the first rows say
-
-module _ (t : Tables) where
-  pub of_query : (n : ℕ) → RecordsRead t → IsFirstOf query_number t.queries n → IsFirstBad t Queries n
-  of_query n records first = BadQuery records first.row (first_bad_row ReadsQuery query_number t.queries n (λ _ never. never) first) refl first.is
-
-  -- no name is held
-  unnamed : (name : List ℕ) → t.queries ≡ [] → IsNamed t name → ⊥
-  unnamed name none is = let h = subst (λ (rows : List QueryRow). Contains rows is.row) none is.held in omega (arith, h.1)
-
-  pub of_cursor : (n : ℕ) → RecordsRead t → t.queries ≡ [] → IsFirstOf cursor_number t.cursors n → IsFirstBad t Cursors n
-  of_cursor n records queries first =
-      BadCursor records (no_rows ReadsQuery t.queries queries) first.row
-      (first_bad_row (ReadsCursor t) cursor_number t.cursors n (λ row reads. unnamed row.name queries reads.name) first) refl first.is
-
-  pub of_none : RecordsRead t → t.queries ≡ [] → t.cursors ≡ [] → AllRead t
-  of_none records queries cursors =
-      record { records = records; queries = no_rows ReadsQuery t.queries queries; cursors = no_rows (ReadsCursor t) t.cursors cursors }
+reads_not_bad t kind number all (BadCursor records queries row bad is same) = each_not_bad (ReadsCursor t.queries t.next_cursor) t.cursors row all.cursors bad

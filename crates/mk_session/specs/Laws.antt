@@ -2,6 +2,7 @@
 --     TwoScripts        two scripts one after the other are one script
 --     OneEffect         over told files an order comes to at most one effect
 --     OneRun            so a run over told files has at most one outcome
+--     OneSaid           one thing is said of a text as a query file
 use Rattle.std.specs.Prelude.{◌≡◌, ℕ, ◌≤◌, List, [], ◌∷◌, ◌++◌, length, Option, Some}
 use Rattle.mk_outside.specs.declared.tables.Tables.{Tables}
 use Rattle.mk_session.specs.declared.status.Status.{Status}
@@ -9,6 +10,8 @@ use Rattle.mk_session.specs.declared.status.Status.TheVariants as status
 use Rattle.mk_session.specs.Effects.{Effect}
 use Rattle.mk_session.specs.Files.{Look}
 use Rattle.mk_session.specs.Headline.{IsAllDone}
+use Rattle.mk_session.specs.declared.query_text.QueryText.{QueryText}
+use Rattle.mk_session.specs.QueryText.{IsTextSaid}
 use Rattle.mk_session.specs.Orders.{Asked, Order, asked_of_script, script_bytes}
 use Rattle.mk_session.specs.Run.{IsRun}
 use Rattle.mk_session.specs.Step.{Comes}
@@ -36,3 +39,7 @@ OneEffect = (look : Look) (t : Tables) (order : Order) (a b : Effect) → Comes 
 abbrev pub OneRun : Type 0
 OneRun = (look : Look) (t : Tables) (asked : Asked) (a b : List ℕ) (left other : Tables) (ends ends' : Status)
     → IsRun (Some look) t asked a left ends → IsRun (Some look) t asked b other ends' → (a ≡ b) × (left ≡ other) × (ends ≡ ends')
+
+-- one thing is said of a text as a query file: its query, its first bad line, or the first check that it fails
+abbrev pub OneSaid : Type 0
+OneSaid = (text : List ℕ) (a b : QueryText) → IsTextSaid text a → IsTextSaid text b → a ≡ b

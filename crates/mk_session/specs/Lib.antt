@@ -6,11 +6,14 @@ pub mod Commands
 pub mod Orders
 pub mod Files
 pub mod QueryText
+pub mod Saved
+pub mod SavedPending
 pub mod StoredRows
 pub mod Effects
 pub mod Match
 pub mod Matching
 pub mod Records
+pub mod Queries
 pub mod Loading
 pub mod Step
 pub mod Run

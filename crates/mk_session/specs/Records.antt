@@ -47,8 +47,11 @@ record_line row = numbered_line (codes "record ") row.number
 abbrev pub row_line : Numbered Molecule → List ℕ
 row_line row = numbered_line (codes "record ") row.number
 
+abbrev pub name_line : List ℕ → List ℕ
+name_line name = codes "query " ++ (name ++ codes "\n")
+
 abbrev pub query_line : QueryRow → List ℕ
-query_line row = codes "query " ++ (row.name ++ codes "\n")
+query_line row = name_line row.name
 
 abbrev pub cursor_line : CursorRow → List ℕ
 cursor_line row = codes "cursor " ++ (decimal row.number ++ (codes " " ++ (row.name ++ codes "\n")))

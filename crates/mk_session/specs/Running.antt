@@ -23,10 +23,11 @@ use Rattle.mk_session.specs.declared.effect.StepFail.{StepFail}
 use Rattle.mk_session.specs.declared.effect.StepFail.TheVariants as fail
 use Rattle.mk_session.specs.declared.effect.Edit.{Edit}
 use Rattle.mk_session.specs.declared.effect.Edit.TheVariants as edit
+use Rattle.mk_model.specs.Queries.{QueryView}
 use Rattle.mk_library.specs.Library.{LibraryView}
 use Rattle.mk_library.specs.Pending.{PendingFits}
-use Rattle.mk_session.specs.declared.saved.Saved.{Saved}
-use Rattle.mk_session.specs.declared.stored_rows.BadRow.{BadRow}
+use Rattle.mk_session.specs.Saved.{HasMeaning, IsMeant, SavedView}
+use Rattle.mk_session.specs.SavedPending.{SavedFits}
 use Rattle.mk_session.specs.declared.stored_rows.BeginFail.{BeginFail}
 use Rattle.mk_session.specs.declared.stored_rows.BeginFail.TheVariants as begin
 use Rattle.mk_session.specs.declared.stored_rows.RowKind.{RowKind}
@@ -45,7 +46,7 @@ use Rattle.mk_session.specs.Headline.{Agrees}
 use Rattle.mk_session.specs.Orders.{Asked, Nothing, Order, Orders, TooMuch, asked, orders_asked, orders_of, script_bytes}
 use Rattle.mk_session.specs.Run.{Does, Misses}
 use Rattle.mk_session.specs.Step.{Comes, Reaches}
-use Rattle.mk_session.specs.StoredRows.{AllRead, IsFirstBad, RecordsRead}
+use Rattle.mk_session.specs.StoredRows.{AllRead, EachReads, IsFirstBad, IsFirstBadRow, RecordsRead}
 
 -- ---- one command
 
@@ -53,6 +54,7 @@ use Rattle.mk_session.specs.StoredRows.{AllRead, IsFirstBad, RecordsRead}
 abbrev pub changes_of : Edit → List Change
 changes_of edit.Nothing = []
 changes_of (edit.OfRecords pending) = pending.changes
+changes_of (edit.OfSaved pending) = pending.changes
 
 -- what was found, as the effect that it is
 abbrev pub effect_of : Found → Effect
@@ -60,7 +62,7 @@ effect_of (found.Refused line) = Refuses line
 effect_of (found.Answered change text) = Answers (changes_of change) text
 
 -- the tables of a library, of queries and of saved searches
-abbrev pub stands_for : LibraryView → Saved → Tables
+abbrev pub stands_for : LibraryView → SavedView → Tables
 stands_for library saved = record {
   records = library.records;
   queries = saved.queries;
@@ -69,14 +71,15 @@ stands_for library saved = record {
   next_cursor = saved.next_cursor;
 }
 
--- the library can make the edit without memory
-abbrev pub EditFits : LibraryView → Edit → Type 0
-EditFits library edit.Nothing = ⊤
-EditFits library (edit.OfRecords pending) = PendingFits library pending
+-- the session can make the edit without memory
+abbrev pub EditFits : LibraryView → SavedView → Edit → Type 0
+EditFits library saved edit.Nothing = ⊤
+EditFits library saved (edit.OfRecords pending) = PendingFits library pending
+EditFits library saved (edit.OfSaved pending) = SavedFits saved pending
 
-abbrev pub FoundFits : LibraryView → Found → Type 0
-FoundFits library (found.Refused line) = ⊤
-FoundFits library (found.Answered change text) = EditFits library change
+abbrev pub FoundFits : LibraryView → SavedView → Found → Type 0
+FoundFits library saved (found.Refused line) = ⊤
+FoundFits library saved (found.Answered change text) = EditFits library saved change
 
 -- it is some file's turn
 pub record IsReached (Turn : List ℕ → Type 0) : Type 0 where
@@ -164,10 +167,30 @@ Turns files t t' orders so_far so_far' old new (Err ends) = IsHalted files t t' 
 
 -- ---- the rows of tables
 
--- where the record rows read, the first row that doesn't, where there is one
-abbrev pub IsJudgedRows : Tables → Option BadRow → Type 0
-IsJudgedRows t None = RecordsRead t → AllRead t
-IsJudgedRows t (Some row) = RecordsRead t → IsFirstBad t row.kind row.number
+-- this is the number of the first row that doesn't read
+pub record IsFirstBadOf {R : Type 0} (Reads : List R → R → Type 0) (number_of : R → ℕ) (rows : List R) (n : ℕ) : Type 0 where
+  pub row : R
+  pub bad : IsFirstBadRow Reads rows row
+  pub is : n ≡ number_of row
+
+-- the rows of a kind read, or the first that doesn't is named
+abbrev pub ReadsRows : {R A : Type 0} → (List R → R → Type 0) → (R → ℕ) → RowKind → List R → Result A BeginFail → Type 0
+ReadsRows Reads number_of kind rows (Ok done) = EachReads Reads rows
+ReadsRows Reads number_of kind rows (Err begin.Store) = ⊥
+ReadsRows Reads number_of kind rows (Err (begin.BadStore bad n)) = (bad ≡ kind) × IsFirstBadOf Reads number_of rows n
+ReadsRows Reads number_of kind rows (Err begin.Memory) = ⊤
+
+-- what a stored text means, or none where it isn't that of a query row
+abbrev pub IsMeantBy : List ℕ → Option QueryView → Type 0
+IsMeantBy text (Some query) = IsMeant text query
+IsMeantBy text None = ¬ (HasMeaning text)
+
+-- the queries and saved searches of the tables, or, where the record rows read, the first row of theirs that doesn't
+abbrev pub IsRestored : Tables → Result SavedView BeginFail → Type 0
+IsRestored t (Ok saved) = (saved.queries ≡ t.queries) × (saved.cursors ≡ t.cursors) × (saved.next_cursor ≡ t.next_cursor) × (RecordsRead t → AllRead t)
+IsRestored t (Err begin.Store) = ⊥
+IsRestored t (Err (begin.BadStore kind number)) = RecordsRead t → IsFirstBad t kind number
+IsRestored t (Err begin.Memory) = ⊤
 
 -- ---- a session from a keeper
 
@@ -286,20 +309,6 @@ pub record Says (so_far so_far' : Option (List ℕ)) (old new : ℕ) (line : Lis
   pub part : List ℕ
   pub written : IfSome so_far (λ s. so_far' ≡ Some (s ++ part))
   pub said : IsSaid old new line part would ends
-
--- ---- rows
-
--- this is the number of the first row
-pub record IsFirstOf {R : Type 0} (number : R → ℕ) (rows : List R) (n : ℕ) : Type 0 where
-  pub row : R
-  pub others : List R
-  pub whole : rows ≡ row ∷ others
-  pub is : n ≡ number row
-
--- there is no row, or this is the number of the first
-abbrev pub IsFirstNumber : {R : Type 0} → (R → ℕ) → List R → Option ℕ → Type 0
-IsFirstNumber number rows None = rows ≡ []
-IsFirstNumber number rows (Some n) = IsFirstOf number rows n
 
 -- ---- outputs
 

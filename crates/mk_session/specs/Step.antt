@@ -9,6 +9,7 @@ use Rattle.mk_session.specs.Files.{Look}
 use Rattle.mk_session.specs.Loading.{IsLoad, IsReplace, IsTurnOfReplace}
 use Rattle.mk_session.specs.Match.{IsMatch, IsTurnOfMatch}
 use Rattle.mk_session.specs.Orders.{Order}
+use Rattle.mk_session.specs.Queries.{IsForget, IsKeep, IsTurnOfKeep}
 use Rattle.mk_session.specs.Records.{IsRemove, IsShow, list_text}
 
 abbrev pub no_command_text : List ℕ
@@ -21,8 +22,8 @@ Comes files t (Some (variant.Match query molecules)) effect = IsMatch files quer
 Comes files t (Some (variant.Load file)) effect = IsLoad files t file effect
 Comes files t (Some (variant.Replace number file)) effect = IsReplace files t number file effect
 Comes files t (Some (variant.Remove number)) effect = IsRemove t number effect
-Comes files t (Some (variant.Query name file)) effect = effect ≡ Refuses no_command_text
-Comes files t (Some (variant.Forget name)) effect = effect ≡ Refuses no_command_text
+Comes files t (Some (variant.Query name file)) effect = IsKeep files t name file effect
+Comes files t (Some (variant.Forget name)) effect = IsForget t name effect
 Comes files t (Some (variant.Search name limit)) effect = effect ≡ Refuses no_command_text
 Comes files t (Some (variant.Resume cursor limit)) effect = effect ≡ Refuses no_command_text
 Comes files t (Some (variant.Show number)) effect = IsShow t number effect
@@ -34,4 +35,5 @@ abbrev pub Reaches : Option Look → Tables → Order → List ℕ → Type 0
 Reaches files t (Some (variant.Match query molecules)) name = IsTurnOfMatch files query molecules name
 Reaches files t (Some (variant.Load file)) name = name ≡ file
 Reaches files t (Some (variant.Replace number file)) name = IsTurnOfReplace t number file name
+Reaches files t (Some (variant.Query name file)) n = IsTurnOfKeep t name file n
 Reaches files t _ name = ⊥

@@ -4,14 +4,16 @@
 --     AllRead t                     each row of the tables reads
 --     IsFirstBad t kind number      the first row that doesn't: among the records, then the queries, then the saved searches
 --     RecordsRead t                 the record rows are those of a library, by mk_library
-use Rattle.std.specs.Prelude.{◌≡◌, ℕ, ◌<◌, ◌≤◌, List, ◌∷◌, ◌++◌, length, All, Contains}
+use Rattle.std.specs.Prelude.{◌≡◌, ℕ, ◌+◌, ◌<◌, ◌≤◌, true, false, List, ◌∷◌, ◌++◌, length}
+use Rattle.std.specs.List.{AllByRecursion}
 use Rattle.mk_outside.specs.declared.tables.QueryRow.{QueryRow}
 use Rattle.mk_outside.specs.declared.tables.CursorRow.{CursorRow}
 use Rattle.mk_outside.specs.declared.tables.Tables.{Tables}
 use Rattle.mk_session.specs.declared.stored_rows.RowKind.{RowKind}
 use Rattle.mk_session.specs.declared.stored_rows.RowKind.TheVariants.{Records, Queries, Cursors}
 use Rattle.mk_library.specs.StoredRows as library
-use Rattle.mk_session.specs.Commands.{IsHeldNumber}
+use Rattle.mk_session.specs.Commands.{IsHeldNumber, IsName}
+use Rattle.mk_session.specs.Saved.{HasMeaning, bytes_of_texts, is_named, longest_place, most_queries, most_query_bytes, most_searches, most_text_bytes}
 
 -- ---- rows of any kind
 
@@ -28,27 +30,33 @@ module _ {R : Type 0} (Reads : List R → R → Type 0) where
     pub before : EachReads front
     pub bad : Reads front row → ⊥
 
--- ---- the three kinds
+-- ---- queries and saved searches
 
--- So far no query row reads, since no command keeps one.
-abbrev pub ReadsQuery : List QueryRow → QueryRow → Type 0
-ReadsQuery front row = ⊥
+-- A query has a number above those before it, and a name that none of them has. It is among the first 1,000, and few bytes of text
+-- stand before it and in it.
+pub record HasQueryPlace (front : List QueryRow) (row : QueryRow) : Type 0 where
+  pub number : 1 ≤ row.number
+  pub above : AllByRecursion (λ (before : QueryRow). before.number < row.number) front
+  pub name : IsName row.name
+  pub new : is_named row.name front ≡ false
+  pub few : length front < most_queries
+  pub bytes : bytes_of_texts front + length row.text ≤ most_text_bytes
+  pub short : length row.text ≤ most_query_bytes
 
--- a query of the name is held
-pub record IsNamed (t : Tables) (name : List ℕ) : Type 0 where
-  pub row : QueryRow
-  pub held : Contains t.queries row
-  pub is : row.name ≡ name
+-- it may stand there, and its text means a query
+pub record ReadsQuery (front : List QueryRow) (row : QueryRow) : Type 0 where
+  pub place : HasQueryPlace front row
+  pub text : HasMeaning row.text
 
 -- A saved search has a number above those before it and below the next, and the name of a query that is held. It is among the
 -- first 1,000, and its place is no longer than a place can be.
-pub record ReadsCursor (t : Tables) (front : List CursorRow) (row : CursorRow) : Type 0 where
+pub record ReadsCursor (queries : List QueryRow) (next : ℕ) (front : List CursorRow) (row : CursorRow) : Type 0 where
   pub number : IsHeldNumber row.number
-  pub above : All (λ (before : CursorRow). before.number < row.number) front
-  pub below : row.number < t.next_cursor
-  pub name : IsNamed t row.name
-  pub few : length front < 1000
-  pub short : length row.place ≤ 514
+  pub above : AllByRecursion (λ (before : CursorRow). before.number < row.number) front
+  pub below : row.number < next
+  pub name : is_named row.name queries ≡ true
+  pub few : length front < most_searches
+  pub short : length row.place ≤ longest_place
 
 -- ---- tables
 
@@ -60,12 +68,12 @@ RecordsRead t = library.AllRead t.next_record t.records
 pub record AllRead (t : Tables) : Type 0 where
   pub records : RecordsRead t
   pub queries : EachReads ReadsQuery t.queries
-  pub cursors : EachReads (ReadsCursor t) t.cursors
+  pub cursors : EachReads (ReadsCursor t.queries t.next_cursor) t.cursors
 
 -- the first row that doesn't read: records come first, then queries, then saved searches
 pub data IsFirstBad (t : Tables) (kind : RowKind) (number : ℕ) : Type 0 where
   BadRecord : library.IsFirstBad t.next_record t.records number → kind ≡ Records → IsFirstBad t kind number
   BadQuery : RecordsRead t → (row : QueryRow) → IsFirstBadRow ReadsQuery t.queries row
       → kind ≡ Queries → number ≡ row.number → IsFirstBad t kind number
-  BadCursor : RecordsRead t → EachReads ReadsQuery t.queries → (row : CursorRow) → IsFirstBadRow (ReadsCursor t) t.cursors row
+  BadCursor : RecordsRead t → EachReads ReadsQuery t.queries → (row : CursorRow) → IsFirstBadRow (ReadsCursor t.queries t.next_cursor) t.cursors row
       → kind ≡ Cursors → number ≡ row.number → IsFirstBad t kind number

@@ -30,7 +30,8 @@ pub fn name_in(alloc: Global, word: &[u8]) -> Result<Option<Text>, Memory>
     file_in(alloc, word)
 }
 
-fn is_name(word: &[u8]) -> bool
+/// Whether the word is the name of a query.
+pub fn is_name(word: &[u8]) -> bool
     ensures { result ≡ is_name word.now }
 {
     if word.is_empty() || word.len() > 64 {

@@ -31,6 +31,8 @@ fn is_built(command: &Command) -> bool
         Command::Load { .. } => true,
         Command::Replace { .. } => true,
         Command::Remove { .. } => true,
+        Command::Query { .. } => true,
+        Command::Forget { .. } => true,
         Command::Show { .. } => true,
         Command::List => true,
         _ => false,

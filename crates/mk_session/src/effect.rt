@@ -3,6 +3,7 @@ ghost use Rattle.std.specs.Prelude.{◌≡◌};
 ghost use Rattle.mk_session.specs.declared.effect.StepFail.TheVariants as step_fail;
 ghost use Rattle.mk_session.specs.Fails.{IsStepFailOf, IsStepFailOfKeep};
 
+use crate::saved_pending::SavedPending;
 use mk_library::Pending;
 use mk_outside::{Bytes, FileFail, KeepFail, Memory};
 
@@ -12,6 +13,8 @@ pub enum Edit {
     Nothing,
     /// Records, by a change that is made ready.
     OfRecords(Pending),
+    /// Queries and saved searches, by a change that is made ready.
+    OfSaved(SavedPending),
 }
 
 /// What a command comes to, found before anything is changed.

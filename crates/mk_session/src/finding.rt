@@ -3,11 +3,13 @@ ghost use Rattle.std.specs.Prelude.{◌≡◌, IfOk, Some};
 ghost use Rattle.mk_session.specs.Commands.{CanAsk};
 ghost use Rattle.mk_library.specs.Library.{IsSame};
 ghost use Rattle.mk_session.specs.declared.effect.Found.TheVariants as found;
+ghost use Rattle.mk_session.specs.Saved.{IsSameSaved};
 ghost use Rattle.mk_session.specs.Step.{Reaches, no_command_text};
 ghost use Rattle.mk_session.specs.Running.{FoundFits, MissesAt, Seeks, stands_for};
 
 use crate::loading::{load_found, replace_found};
 use crate::matching::match_found;
+use crate::queries::{forget_found, keep_found};
 use crate::records::{list_found, remove_found, show_found};
 use crate::saved::Saved;
 use crate::{Command, Found, StepFail};
@@ -21,17 +23,18 @@ use std::sync::ledger::Ledger;
 pub fn found_of<F: Files, L: Ledger>(
     alloc: Global,
     library: &mut Library,
-    saved: &Saved,
+    saved: &mut Saved,
     files: &mut F,
     command: &Command,
     steps: &mut Steps<L>,
 ) -> Result<Found, StepFail>
     requires { CanAsk command.now }
-    ensures sought { Seeks (F.look_up files.old) (stands_for library.old saved.now) (Some command.now) (F.faults files.old) (F.faults files.new) result }
-    ensures fits { IfOk result (FoundFits library.new) }
+    ensures sought { Seeks (F.look_up files.old) (stands_for library.old saved.old) (Some command.now) (F.faults files.old) (F.faults files.new) result }
+    ensures fits { IfOk result (FoundFits library.new saved.new) }
     ensures same { IsSame library.old library.new }
+    ensures same_saved { IsSameSaved saved.old saved.new }
     ensures same_files { F.look_up files.new ≡ F.look_up files.old }
-    ensures missed { MissesAt (F.look_up files.old) (Reaches (F.look_up files.old) (stands_for library.old saved.now) (Some command.now)) (F.absences files.old) (F.absences files.new) }
+    ensures missed { MissesAt (F.look_up files.old) (Reaches (F.look_up files.old) (stands_for library.old saved.old) (Some command.now)) (F.absences files.old) (F.absences files.new) }
 {
     match command {
         Command::Match { query, molecules } => {
@@ -44,8 +47,10 @@ pub fn found_of<F: Files, L: Ledger>(
         Command::Remove { number } => Ok(remove_found(alloc, library, saved, *number)?),
         Command::Show { number } => Ok(show_found(alloc, library, saved, *number)?),
         Command::List => Ok(list_found(alloc, library, saved)?),
-        Command::Query { .. } => Ok(no_command(alloc)?),
-        Command::Forget { .. } => Ok(no_command(alloc)?),
+        Command::Query { name, file } => {
+            keep_found(alloc, library, saved, files, name.as_str(), file.as_str())
+        }
+        Command::Forget { name } => Ok(forget_found(alloc, library, saved, name.as_str())?),
         Command::Search { .. } => Ok(no_command(alloc)?),
         Command::Resume { .. } => Ok(no_command(alloc)?),
         Command::Drill { .. } => Ok(no_command(alloc)?),

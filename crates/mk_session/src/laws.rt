@@ -1,6 +1,6 @@
 // Laws over the definitions alone, each carried by a function that does nothing.
 ghost use Rattle.mk_session.specs.Commands.{CommandsAreRead, OneReading};
-ghost use Rattle.mk_session.specs.Laws.{OneEffect, OneRun, TwoScripts};
+ghost use Rattle.mk_session.specs.Laws.{OneEffect, OneRun, OneSaid, TwoScripts};
 
 use mk_mol::{one_filled_molecule, one_first_fault};
 use mk_query::{fault_or_query, one_first_fault as one_first_query_fault, one_query};
@@ -17,6 +17,16 @@ pub fn commands_are_read()
 pub fn two_scripts()
     ensures { TwoScripts }
 {}
+
+/// One thing is said of a text as a query file.
+pub(crate) fn one_said()
+    ensures { OneSaid }
+{
+    query_file_is_exact();
+    one_query();
+    one_first_query_fault();
+    fault_or_query();
+}
 
 /// Over told files a command comes to at most one effect, and a run has at most one outcome: the bytes that it adds, the
 /// tables that it leaves, and its status.

@@ -7,8 +7,8 @@
 //! rows read in `specs/StoredRows.antt`. What a hit is stands in mk_model, the records of an SDfile in mk_sdfile, and the
 //! molecule of a table in mk_mol.
 //!
-//! So far `match`, `load`, `replace`, `remove`, `show` and `list` are built, and no command keeps a query. Only this crate
-//! knows what a command is. It reads no columns: see `mk_ctab`.
+//! So far all commands but `search`, `resume` and `drill` are built. Only this crate knows what a command is. It reads no
+//! columns: see `mk_ctab`.
 #![tactic(auto)]
 
 mod answers;
@@ -33,11 +33,15 @@ mod loading;
 mod match_tests;
 mod matching;
 mod ordering;
+mod queries;
+#[cfg(test)]
+mod query_tests;
 mod query_text;
 mod reading;
 mod records;
 mod running;
 mod saved;
+mod saved_pending;
 #[cfg(test)]
 mod script_tests;
 mod session;

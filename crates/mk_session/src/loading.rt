@@ -29,7 +29,7 @@ pub fn load_found<F: Files>(
     name: &str,
 ) -> Result<Found, StepFail>
     ensures sought { SeeksSo (IsLoad (F.look_up files.old) (stands_for library.old saved.now) name.now) (IsTurnOf name.now) (F.faults files.old) (F.faults files.new) result }
-    ensures fits { IfOk result (FoundFits library.new) }
+    ensures fits { IfOk result (FoundFits library.new saved.now) }
     ensures same { IsSame library.old library.new }
     ensures same_files { F.look_up files.new ≡ F.look_up files.old }
     ensures missed { MissesAt (F.look_up files.old) (IsTurnOf name.now) (F.absences files.old) (F.absences files.new) }
@@ -49,7 +49,7 @@ fn load_text(
     bytes: Option<Bytes>,
 ) -> Result<Found, Memory>
     ensures comes { (files : Option Look) (name : List ℕ) → IsFoundAs files molecule_bytes name bytes → IfOk result (λ found. IsLoad files (stands_for library.old saved.now) name (effect_of found)) }
-    ensures fits { IfOk result (FoundFits library.new) }
+    ensures fits { IfOk result (FoundFits library.new saved.now) }
     ensures same { IsSame library.old library.new }
 {
     let Some(text) = bytes else {
@@ -89,7 +89,7 @@ pub fn replace_found<F: Files>(
     name: &str,
 ) -> Result<Found, StepFail>
     ensures sought { SeeksSo (IsReplace (F.look_up files.old) (stands_for library.old saved.now) number name.now) (IsTurnOfReplace (stands_for library.old saved.now) number name.now) (F.faults files.old) (F.faults files.new) result }
-    ensures fits { IfOk result (FoundFits library.new) }
+    ensures fits { IfOk result (FoundFits library.new saved.now) }
     ensures same { IsSame library.old library.new }
     ensures same_files { F.look_up files.new ≡ F.look_up files.old }
     ensures missed { MissesAt (F.look_up files.old) (IsTurnOfReplace (stands_for library.old saved.now) number name.now) (F.absences files.old) (F.absences files.new) }
@@ -123,7 +123,7 @@ fn replace_text(
 ) -> Result<Found, Memory>
     requires { is_held number library.old.records ≡ true }
     ensures comes { (files : Option Look) (name : List ℕ) → IsFoundAs files molecule_bytes name bytes → IfOk result (λ found. IsReplace files (stands_for library.old saved.now) number name (effect_of found)) }
-    ensures fits { IfOk result (FoundFits library.new) }
+    ensures fits { IfOk result (FoundFits library.new saved.now) }
     ensures same { IsSame library.old library.new }
 {
     let Some(text) = bytes else {

@@ -4,15 +4,17 @@ ghost use Rattle.std.specs.List.{flat_map};
 ghost use Rattle.mk_library.specs.Library.{IsSame};
 ghost use Rattle.mk_session.specs.declared.effect.Found.TheVariants as found;
 ghost use Rattle.mk_session.specs.Effects.{Answers};
-ghost use Rattle.mk_session.specs.Records.{IsRemove, IsShow, cursor_line, list_text, next_line, no_record_text, numbered_line, query_line, record_line, record_text, row_line};
+ghost use Rattle.mk_session.specs.Records.{IsRemove, IsShow, cursor_line, list_text, name_line, next_line, no_record_text, numbered_line, query_line, record_line, record_text, row_line};
 ghost use Rattle.mk_session.specs.Running.{FoundFits, effect_of, stands_for};
+ghost use Rattle.mk_session.specs.Saved.{cursor_row, cursors_of, rows_of};
 
-use crate::saved::Saved;
+use crate::saved::{Kept, Saved, SavedSearch};
 use crate::{Edit, Found};
+use indexmap::IndexMap;
 use mk_index::Numbered;
 use mk_library::{Library, LoadRefusal};
 use mk_model::Mol;
-use mk_outside::{Bytes, CursorRow, Memory, QueryRow};
+use mk_outside::{Bytes, Memory};
 use mk_text::{lines, put_number};
 use std::alloc::Global;
 
@@ -24,7 +26,7 @@ pub fn show_found(
     number: u32,
 ) -> Result<Found, Memory>
     ensures comes { IfOk result (λ found. IsShow (stands_for library.now saved.now) number (effect_of found)) }
-    ensures fits { IfOk result (FoundFits library.now) }
+    ensures fits { IfOk result (FoundFits library.now saved.now) }
 {
     match library.text(number) {
         None => no_record(alloc, number),
@@ -54,7 +56,7 @@ pub fn remove_found(
     number: u32,
 ) -> Result<Found, Memory>
     ensures comes { IfOk result (λ found. IsRemove (stands_for library.old saved.now) number (effect_of found)) }
-    ensures fits { IfOk result (FoundFits library.new) }
+    ensures fits { IfOk result (FoundFits library.new saved.now) }
     ensures same { IsSame library.old library.new }
 {
     match library.remove(alloc, number) {
@@ -80,13 +82,13 @@ pub fn no_record(alloc: Global, number: u32) -> Result<Found, Memory>
 /// What `list` comes to.
 pub fn list_found(alloc: Global, library: &Library, saved: &Saved) -> Result<Found, Memory>
     ensures comes { IfOk result (λ found. effect_of found ≡ Answers [] (list_text (stands_for library.now saved.now))) }
-    ensures fits { IfOk result (FoundFits library.now) }
+    ensures fits { IfOk result (FoundFits library.now saved.now) }
 {
     let mut text = Vec::new(alloc);
     put_records(alloc, &mut text, library)?;
-    put_queries(alloc, &mut text, saved.queries.as_slice())?;
-    put_cursors(alloc, &mut text, saved.cursors.as_slice())?;
-    put_next(alloc, &mut text, library.next_number(), saved.next_cursor)?;
+    put_queries(alloc, &mut text, saved.queries())?;
+    put_cursors(alloc, &mut text, saved.cursors())?;
+    put_next(alloc, &mut text, library.next_number(), saved.next_cursor())?;
     Ok(Found::Answered(Edit::Nothing, Bytes::of(text)))
 }
 
@@ -107,26 +109,34 @@ fn put_rows(alloc: Global, text: &mut Vec<u8>, rows: &[Numbered<Mol>]) -> Result
     Ok(())
 }
 
-fn put_queries(alloc: Global, text: &mut Vec<u8>, rows: &[QueryRow]) -> Result<(), Memory>
-    ensures { OnOk result (text.new.items ≡ text.old.items ++ (numbered_line (codes "queries ") (length rows.now) ++ flat_map query_line rows.now)) }
+fn put_queries(
+    alloc: Global,
+    text: &mut Vec<u8>,
+    queries: &IndexMap<Vec<u8>, Kept>,
+) -> Result<(), Memory>
+    ensures { OnOk result (text.new.items ≡ text.old.items ++ (numbered_line (codes "queries ") (length (rows_of queries.now.entries)) ++ flat_map query_line (rows_of queries.now.entries))) }
 {
-    put_numbered(alloc, text, b"queries ", rows.len() as u64)?;
-    for row in rows {
-        put_query(text, row)?;
+    put_numbered(alloc, text, b"queries ", queries.len() as u64)?;
+    for (name, _) in queries {
+        put_name(text, name)?;
     }
     Ok(())
 }
 
-fn put_query(text: &mut Vec<u8>, row: &QueryRow) -> Result<(), Memory>
-    ensures { OnOk result (text.new.items ≡ text.old.items ++ query_line row.now) }
+fn put_name(text: &mut Vec<u8>, name: &[u8]) -> Result<(), Memory>
+    ensures { OnOk result (text.new.items ≡ text.old.items ++ name_line name.now) }
 {
     text.extend_from_slice(b"query ")?;
-    text.extend_from_slice(row.name.as_slice())?;
+    text.extend_from_slice(name)?;
     text.extend_from_slice(b"\n")
 }
 
-fn put_cursors(alloc: Global, text: &mut Vec<u8>, rows: &[CursorRow]) -> Result<(), Memory>
-    ensures { OnOk result (text.new.items ≡ text.old.items ++ (numbered_line (codes "cursors ") (length rows.now) ++ flat_map cursor_line rows.now)) }
+fn put_cursors(
+    alloc: Global,
+    text: &mut Vec<u8>,
+    rows: &[Numbered<SavedSearch>],
+) -> Result<(), Memory>
+    ensures { OnOk result (text.new.items ≡ text.old.items ++ (numbered_line (codes "cursors ") (length (cursors_of rows.now)) ++ flat_map cursor_line (cursors_of rows.now))) }
 {
     put_numbered(alloc, text, b"cursors ", rows.len() as u64)?;
     for row in rows {
@@ -135,13 +145,13 @@ fn put_cursors(alloc: Global, text: &mut Vec<u8>, rows: &[CursorRow]) -> Result<
     Ok(())
 }
 
-fn put_cursor(alloc: Global, text: &mut Vec<u8>, row: &CursorRow) -> Result<(), Memory>
-    ensures { OnOk result (text.new.items ≡ text.old.items ++ cursor_line row.now) }
+fn put_cursor(alloc: Global, text: &mut Vec<u8>, row: &Numbered<SavedSearch>) -> Result<(), Memory>
+    ensures { OnOk result (text.new.items ≡ text.old.items ++ cursor_line (cursor_row row.now)) }
 {
     text.extend_from_slice(b"cursor ")?;
     put_number(alloc, text, u64::from(row.number))?;
     text.extend_from_slice(b" ")?;
-    text.extend_from_slice(row.name.as_slice())?;
+    text.extend_from_slice(row.item.name.as_slice())?;
     text.extend_from_slice(b"\n")
 }
 

@@ -12,7 +12,7 @@ static OTHER_WORDS: [&[&str]; 8] = [
     &["Match", "q", "m"],
     &["match", "q", "m", "m"],
     &["--store", "s"],
-    &["query", "n", "q"],
+    &["search", "q", "1"],
     &["show", "0"],
     &["show", "1234567890"],
 ];
@@ -38,7 +38,7 @@ fn other_words_are_not_understood(rt: HostRuntime) -> Result<(), Fail> {
 }
 
 // Each line of a script, and its answer.
-static LINES: [(&str, &str, Status); 19] = [
+static LINES: [(&str, &str, Status); 18] = [
     ("", "", Status::Done),
     ("   \n\n  \r\n", "", Status::Done),
     (
@@ -78,7 +78,6 @@ static LINES: [(&str, &str, Status); 19] = [
         "loaded 1 first 1\nloaded 1 first 2\nremoved 1\nrecords 1\nrecord 2\nqueries 0\ncursors 0\nnext 3 1\n",
         Status::Done,
     ),
-    ("query q q", "refused 1 command\n", Status::Refused),
     ("search q 1", "refused 1 command\n", Status::Refused),
     ("drill 1 1", "refused 1 command\n", Status::Refused),
     ("--store s", "refused 1 command\n", Status::Refused),

@@ -5,7 +5,7 @@ ghost use Rattle.mk_session.specs.Running.{Begins, IsOpened, is_store};
 
 use crate::BeginFail;
 use crate::saved::Saved;
-use crate::stored_rows::{BadRow, RowKind, first_bad_row};
+use crate::stored_rows::{RowKind, saved_of};
 use mk_library::{Library, RestoreFault};
 use mk_outside::{KeepFail, Keeper, Tables};
 use std::alloc::Global;
@@ -46,31 +46,19 @@ impl Session {
 fn opened(alloc: Global, tables: Tables) -> Result<Session, BeginFail>
     ensures { IsOpened tables result }
 {
-    match Library::restore(alloc, tables.records.as_slice(), tables.next_record) {
-        Err(RestoreFault::Memory) => Err(BeginFail::Memory),
-        Err(RestoreFault::Bad { number }) => Err(BeginFail::BadStore {
-            kind: RowKind::Records,
-            number,
-        }),
-        Ok(library) => match first_bad_row(&tables) {
-            Some(BadRow { kind, number }) => Err(BeginFail::BadStore { kind, number }),
-            None => Ok(session_of(library, tables)),
-        },
-    }
-}
-
-// The library in place of the record rows.
-fn session_of(library: Library, tables: Tables) -> Session
-    requires records { library.records ≡ tables.records }
-    requires next { library.next_record ≡ tables.next_record }
-    ensures { result ≡ tables }
-{
-    Session {
-        library,
-        saved: Saved {
-            queries: tables.queries,
-            cursors: tables.cursors,
-            next_cursor: tables.next_cursor,
-        },
-    }
+    let library = match Library::restore(alloc, tables.records.as_slice(), tables.next_record) {
+        Ok(library) => library,
+        Err(RestoreFault::Memory) => return Err(BeginFail::Memory),
+        Err(RestoreFault::Bad { number }) => {
+            return Err(BeginFail::BadStore {
+                kind: RowKind::Records,
+                number,
+            });
+        }
+    };
+    let saved = match saved_of(alloc, &tables) {
+        Ok(saved) => saved,
+        Err(fail) => return Err(fail),
+    };
+    Ok(Session { library, saved })
 }

@@ -1,13 +1,17 @@
 // One command on a session.
 ghost use Rattle.std.specs.Prelude.{◌≡◌, ◌++◌, Some, OnErr, OnOk};
 ghost use Rattle.mk_outside.specs.Told.{committed};
+ghost use Rattle.mk_library.specs.Library.{LibraryView};
 ghost use Rattle.mk_library.specs.Pending.{PendingFits};
-ghost use Rattle.mk_session.specs.declared.saved.Saved.{Saved};
+ghost use Rattle.mk_session.specs.Saved.{SavedView};
+ghost use Rattle.mk_session.specs.SavedPending.{SavedFits};
 ghost use Rattle.mk_session.specs.Commands.{CanAsk};
 ghost use Rattle.mk_session.specs.Step.{Reaches};
 ghost use Rattle.mk_session.specs.Running.{ChangeCounts, EditFits, MissesAt, IsStepped, StepCounts, changes_of, stands_for};
 
 use crate::finding::found_of;
+use crate::saved::Saved;
+use crate::saved_pending::SavedPending;
 use crate::session::Session;
 use crate::{Command, Edit, Ended, Found, StepFail};
 use mk_library::{Library, Pending, records_change_alone};
@@ -35,13 +39,28 @@ impl Session {
         ensures same_files { F.look_up files.new ≡ F.look_up files.old }
         ensures missed { MissesAt (F.look_up files.old) (Reaches (F.look_up files.old) self.old (Some command.now)) (F.absences files.old) (F.absences files.new) }
     {
-        match found_of(alloc, &mut self.library, &self.saved, files, command, steps)? {
+        match found_of(
+            alloc,
+            &mut self.library,
+            &mut self.saved,
+            files,
+            command,
+            steps,
+        )? {
             Found::Refused(line) => {
                 answer.extend_from_slice(line.as_slice())?;
                 Ok(Ended::Refused)
             }
             Found::Answered(edit, text) => {
-                fulfil(alloc, &mut self.library, keeper, edit, &text, answer)?;
+                fulfil(
+                    alloc,
+                    &mut self.library,
+                    &mut self.saved,
+                    keeper,
+                    edit,
+                    &text,
+                    answer,
+                )?;
                 Ok(Ended::Done)
             }
         }
@@ -52,22 +71,23 @@ impl Session {
 fn fulfil<K: Keeper>(
     alloc: Global,
     library: &mut Library,
+    saved: &mut Saved,
     keeper: &mut K,
     edit: Edit,
     text: &Bytes,
     answer: &mut Vec<u8>,
 ) -> Result<(), KeepFail>
-    requires { EditFits library.old edit }
-    ensures tables { (saved : Saved) → stands_for library.new saved ≡ committed (changes_of edit) (stands_for library.old saved) result }
+    requires { EditFits library.old saved.old edit }
+    ensures tables { stands_for library.new saved.new ≡ committed (changes_of edit) (stands_for library.old saved.old) result }
     ensures answer_ok { OnOk result (answer.new.items ≡ answer.old.items ++ text.now) }
     ensures answer_err { OnErr result (answer.new.items ≡ answer.old.items) }
-    ensures kept { K.sound keeper.new → (saved : Saved) → K.tables keeper.old ≡ Some (stands_for library.old saved) → K.tables keeper.new ≡ Some (stands_for library.new saved) }
+    ensures kept { K.sound keeper.new → K.tables keeper.old ≡ Some (stands_for library.old saved.old) → K.tables keeper.new ≡ Some (stands_for library.new saved.new) }
     ensures sound { K.sound keeper.new → K.sound keeper.old }
     ensures counted { ChangeCounts (changes_of edit) (K.faults keeper.old) (K.faults keeper.new) result }
 {
     let before = answer.len();
     answer.extend_from_slice(text.as_slice())?;
-    let changed = change(alloc, library, keeper, edit);
+    let changed = change(alloc, library, saved, keeper, edit);
     if changed.is_err() {
         answer.truncate(before);
     }
@@ -78,31 +98,33 @@ fn fulfil<K: Keeper>(
 fn change<K: Keeper>(
     alloc: Global,
     library: &mut Library,
+    saved: &mut Saved,
     keeper: &mut K,
     edit: Edit,
 ) -> Result<(), KeepFail>
-    requires { EditFits library.old edit }
-    ensures tables { (saved : Saved) → stands_for library.new saved ≡ committed (changes_of edit) (stands_for library.old saved) result }
-    ensures kept { K.sound keeper.new → (saved : Saved) → K.tables keeper.old ≡ Some (stands_for library.old saved) → K.tables keeper.new ≡ Some (stands_for library.new saved) }
+    requires { EditFits library.old saved.old edit }
+    ensures tables { stands_for library.new saved.new ≡ committed (changes_of edit) (stands_for library.old saved.old) result }
+    ensures kept { K.sound keeper.new → K.tables keeper.old ≡ Some (stands_for library.old saved.old) → K.tables keeper.new ≡ Some (stands_for library.new saved.new) }
     ensures sound { K.sound keeper.new → K.sound keeper.old }
     ensures counted { ChangeCounts (changes_of edit) (K.faults keeper.old) (K.faults keeper.new) result }
 {
     match edit {
         Edit::Nothing => Ok(()),
-        Edit::OfRecords(pending) => keep(alloc, library, keeper, pending),
+        Edit::OfRecords(pending) => keep_records(alloc, library, keeper, pending),
+        Edit::OfSaved(pending) => keep_saved(alloc, saved, keeper, pending),
     }
 }
 
 // Commits the changes, where there are any, and makes them here. Nothing behind the commit takes memory.
-fn keep<K: Keeper>(
+fn keep_records<K: Keeper>(
     alloc: Global,
     library: &mut Library,
     keeper: &mut K,
     pending: Pending,
 ) -> Result<(), KeepFail>
     requires { PendingFits library.old pending }
-    ensures tables { (saved : Saved) → stands_for library.new saved ≡ committed pending.changes (stands_for library.old saved) result }
-    ensures kept { K.sound keeper.new → (saved : Saved) → K.tables keeper.old ≡ Some (stands_for library.old saved) → K.tables keeper.new ≡ Some (stands_for library.new saved) }
+    ensures tables { (saved : SavedView) → stands_for library.new saved ≡ committed pending.changes (stands_for library.old saved) result }
+    ensures kept { K.sound keeper.new → (saved : SavedView) → K.tables keeper.old ≡ Some (stands_for library.old saved) → K.tables keeper.new ≡ Some (stands_for library.new saved) }
     ensures sound { K.sound keeper.new → K.sound keeper.old }
     ensures counted { ChangeCounts pending.changes (K.faults keeper.old) (K.faults keeper.new) result }
 {
@@ -112,5 +134,27 @@ fn keep<K: Keeper>(
     keeper.commit(alloc, pending.changes())?;
     records_change_alone();
     library.install(pending);
+    Ok(())
+}
+
+// The same of queries and saved searches.
+fn keep_saved<K: Keeper>(
+    alloc: Global,
+    saved: &mut Saved,
+    keeper: &mut K,
+    pending: SavedPending,
+) -> Result<(), KeepFail>
+    requires { SavedFits saved.old pending }
+    ensures tables { (library : LibraryView) → stands_for library saved.new ≡ committed pending.changes (stands_for library saved.old) result }
+    ensures kept { K.sound keeper.new → (library : LibraryView) → K.tables keeper.old ≡ Some (stands_for library saved.old) → K.tables keeper.new ≡ Some (stands_for library saved.new) }
+    ensures sound { K.sound keeper.new → K.sound keeper.old }
+    ensures counted { ChangeCounts pending.changes (K.faults keeper.old) (K.faults keeper.new) result }
+{
+    let changes = pending.changes();
+    if changes.is_empty() {
+        return Ok(());
+    }
+    keeper.commit(alloc, changes)?;
+    saved.install(pending);
     Ok(())
 }

@@ -11,3 +11,6 @@ returns-in-Load-clause-sought g c = rw c.in-Load.is (rw c.as_str-in-Load.ensures
 
 pub returns-in-Replace-clause-sought : goal.returns-in-Replace-clause-sought
 returns-in-Replace-clause-sought g c = rw c.in-Replace.is (rw c.as_str-in-Replace.ensures at c.replace_found.ensures.sought)
+
+pub returns-in-Query-clause-sought : goal.returns-in-Query-clause-sought
+returns-in-Query-clause-sought g c = rw c.in-Query.is (rw (c.as_str-in-Query.ensures, c.as_str-in-Query-2.ensures) at c.keep_found.ensures.sought)

@@ -2,7 +2,9 @@ use Rattle.std.proofs.Common.{◌≡◌, ◌++◌, length, take}
 use Rattle.std.specs.Prelude.{codes}
 use Rattle.std.specs.List.{flat_map}
 use Rattle.mk_session.specs.Records.{cursor_line, numbered_line}
+use Rattle.mk_session.specs.Saved.{cursors_of}
 use Rattle.mk_session.proofs.records.put_cursors.Given as goal
 
 abbrev pub invariant-loop-row : goal.invariant-loop-row
-invariant-loop-row l = l.text.items ≡ l.fn.text.items ++ (numbered_line (codes "cursors ") (length l.rows) ++ flat_map cursor_line (take l.row-index l.rows))
+invariant-loop-row l =
+    l.text.items ≡ l.fn.text.items ++ (numbered_line (codes "cursors ") (length (cursors_of l.rows)) ++ flat_map cursor_line (cursors_of (take l.row-index l.rows)))

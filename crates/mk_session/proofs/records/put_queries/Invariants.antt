@@ -1,8 +1,11 @@
-use Rattle.std.proofs.Common.{◌≡◌, ◌++◌, length, take}
+use Rattle.std.proofs.Common.{◌≡◌, ◌++◌, length}
 use Rattle.std.specs.Prelude.{codes}
 use Rattle.std.specs.List.{flat_map}
 use Rattle.mk_session.specs.Records.{query_line, numbered_line}
+use Rattle.mk_session.specs.Saved.{rows_of}
 use Rattle.mk_session.proofs.records.put_queries.Given as goal
 
-abbrev pub invariant-loop-row : goal.invariant-loop-row
-invariant-loop-row l = l.text.items ≡ l.fn.text.items ++ (numbered_line (codes "queries ") (length l.rows) ++ flat_map query_line (take l.row-index l.rows))
+abbrev pub invariant-loop-name : goal.invariant-loop-name
+invariant-loop-name l =
+    l.text.items ++ flat_map query_line (rows_of l.name-iterator)
+    ≡ l.fn.text.items ++ (numbered_line (codes "queries ") (length (rows_of l.queries.entries)) ++ flat_map query_line (rows_of l.queries.entries))
