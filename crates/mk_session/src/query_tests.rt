@@ -1,7 +1,6 @@
 // Kept queries: the commands `query` and `forget`, and stores with queries and saved searches.
-use crate::test_files::{C, CO, Drawn, Held, Written, files, is_run};
+use crate::test_files::{C, CO, Drawn, Held, Written, bytes_of, files, is_run};
 use crate::{Status, top};
-use mk_fixtures::molfile_of_sketch;
 use mk_outside::{
     Bytes, CursorRow, Memory, Place, QueryRow, SureFiles, SureKeeper, SureSink, SureSource, Tables,
 };
@@ -123,19 +122,11 @@ fn queries_are_kept_and_forgotten(rt: HostRuntime) -> Result<(), Fail> {
     Ok(())
 }
 
-// What a query row holds as its text.
-fn text_of(alloc: Global, held: Held) -> Result<Bytes, Fail> {
-    Ok(Bytes::of(match held {
-        Drawn(sketch) => molfile_of_sketch(alloc, sketch)?,
-        Written(text) => text.as_bytes().to_vec(alloc)?,
-    }))
-}
-
 fn query_row(alloc: Global, number: u32, name: &str, text: Held) -> Result<QueryRow, Fail> {
     Ok(QueryRow {
         number,
         name: Bytes::of(name.as_bytes().to_vec(alloc)?),
-        text: text_of(alloc, text)?,
+        text: bytes_of(alloc, text)?,
     })
 }
 

@@ -57,15 +57,18 @@ pub const NOTHING: Held = Written("");
 // Two carbons that aren't bonded.
 pub const APART: Held = Drawn("C C |");
 
-pub fn file(alloc: Global, name: &str, held: Held) -> Result<FileRow, Fail> {
-    let bytes = match held {
+pub fn bytes_of(alloc: Global, held: Held) -> Result<Bytes, Fail> {
+    Ok(Bytes::of(match held {
         Drawn(sketch) => molfile_of_sketch(alloc, sketch)?,
         Grouped(root, groups) => rgfile_of_sketches(alloc, root, groups)?,
         Written(text) => text.as_bytes().to_vec(alloc)?,
-    };
+    }))
+}
+
+pub fn file(alloc: Global, name: &str, held: Held) -> Result<FileRow, Fail> {
     Ok(FileRow {
         name: Text::of(String::from_str(alloc, name)?),
-        bytes: Bytes::of(bytes),
+        bytes: bytes_of(alloc, held)?,
     })
 }
 
