@@ -39,7 +39,7 @@ group_keeps lines group h = record {
 }
 
 -- and a query what queries keep
-query_keeps : (lines : List Line) (query : RawQuery) → IsQueryFile lines query → IsRawQuery query
+pub query_keeps : (lines : List Line) (query : RawQuery) → IsQueryFile lines query → IsRawQuery query
 query_keeps lines query h = elim h [
   | inl h ↦ record {
     root = block_keeps h.root_lines query.root h.root;

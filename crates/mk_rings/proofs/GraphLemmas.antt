@@ -19,7 +19,7 @@ use Rattle.mk_model.specs.Graphs.{HasGraphMarks, IsBefore, IsGraph, IsUnmarked, 
 use Rattle.mk_model.proofs.ForCallers.{all_mapped, place_is, place_within}
 use Rattle.mk_rings.specs.Bare.{bare_bond, bare_bonds}
 use Rattle.mk_rings.specs.Marks.{Marks}
-use Rattle.mk_rings.proofs.ForCallers.{same_at, same_edges, same_length}
+use Rattle.mk_rings.proofs.BareLemmas.{same_at, same_edges, same_length}
 
 -- ---- putting the marks
 

@@ -1,3 +1,4 @@
+pub mod BareLemmas
 pub mod ForCallers
 pub mod WayLemmas
 pub mod ForestLemmas
