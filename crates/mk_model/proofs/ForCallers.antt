@@ -14,7 +14,8 @@
 --     no_longer, code_is_short    how long codes are
 --     allows_is .. allowed_same, some_passes .. passes_all      the logic of groups
 --     code_of_valid .. begins_no_key      keys as a number, a code and a hit
---     codes_listed                the plain program lists the structural codes
+--     codes_listed, valid_codes_listed    the plain program lists the structural codes, and the valid ones
+--     all_1 .. pairs_two          what each of a few items, or each two of them, keeps
 use Rattle.std.proofs.Common.{◌≡◌, ◌≤◌, ◌<◌, ◌+◌, ◌-◌, ℕ, zero, suc, Bool, true, false, cond, List, [], ◌∷◌, refl, length, get_or, take, arith}
 use Rattle.mk_model.specs.declared.edge.Edge.{Edge}
 use Rattle.mk_model.specs.Edges.{degree, numbers_from, numbers_at, touches}
@@ -29,7 +30,9 @@ pub use Rattle.mk_model.proofs.CodesLemmas.{AreOne, one_choice}
 pub use Rattle.mk_model.proofs.OpenSlotsLemmas.{IsCut, cut, walks, enough, is_code_of, chooses_of, standing_walks, standing_is}
 pub use Rattle.mk_model.proofs.CodeLengthLemmas.{most_numbers, no_longer, code_is_short}
 pub use Rattle.mk_model.proofs.LogicLemmas.{IsPassed, some_passes, passes_some, all_pass, passes_all, allows_is, is_allowed, allowed_same}
-pub use Rattle.mk_model.proofs.PlainCodesLemmas.{ChoosesWithin, codes_listed}
+pub use Rattle.mk_model.proofs.PlainCodesLemmas.{ChoosesWithin, codes_listed, law as valid_codes_listed}
+unfoldable pub use Rattle.mk_model.proofs.FewLemmas.{edge}
+pub use Rattle.mk_model.proofs.FewLemmas.{NoPair, all_1, all_2, all_3, all_same, once_by, pairs_none, pairs_one, pairs_two}
 pub use Rattle.mk_model.proofs.KeysLemmas.{code_of_valid, one_code, read_one_way, begins_no_occurrence, begins_no_key}
 
 -- among bonds that are numbered from j on, k numbers one of atom n

@@ -14,6 +14,7 @@ pub mod OpenSlotsLemmas
 pub mod LogicLemmas
 pub mod PlainCodesLemmas
 pub mod KeysLemmas
+pub mod NodesLemmas
 pub mod ForCallers
 pub mod FewLemmas
 pub mod OnLiterals

@@ -22,3 +22,4 @@ pub mod PlainCodes
 pub mod Pieces
 pub mod Expansions
 pub mod Keys
+pub mod Nodes

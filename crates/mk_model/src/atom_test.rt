@@ -1,5 +1,6 @@
 // What an atom of a query asks of an atom of a molecule.
 ghost use Rattle.std.specs.Prelude.{◌≡◌, IfOk};
+ghost use Rattle.mk_model.specs.Expansions.{anything};
 
 use crate::elements::Elements;
 use mk_text::Memory;
@@ -57,6 +58,21 @@ pub struct AtomTest {
 }
 
 impl AtomTest {
+    /// The test that asks for the kind alone.
+    pub fn of_kind(kind: Kind) -> AtomTest
+        ensures { result ≡ record anything { kind = kind } }
+    {
+        AtomTest {
+            kind,
+            charge: 0,
+            radical: 0,
+            hydrogens: 0,
+            ring_bonds: 0,
+            substitution: 0,
+            unsaturated: false,
+        }
+    }
+
     /// A copy, which takes memory for a long list alone.
     pub fn copied(&self, alloc: Global) -> Result<AtomTest, Memory>
         ensures { IfOk result (λ copy. copy ≡ self.now) }

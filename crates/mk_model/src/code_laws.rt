@@ -1,6 +1,7 @@
-// Laws of structural codes and of keys, each carried by a function that does nothing.
+// Laws of structural codes, of keys and of nodes, each carried by a function that does nothing.
 ghost use Rattle.mk_model.specs.Codes.{CodesAreReadOneWay, NoCodeBeginsAnother};
 ghost use Rattle.mk_model.specs.Keys.{NoKeyBeginsAnother, OccurrencesAreReadOneWay};
+ghost use Rattle.mk_model.specs.Nodes.{AheadAddsUp};
 ghost use Rattle.mk_model.specs.PlainCodes.{ValidCodesAreListed};
 
 /// No structural code is a proper prefix of another.
@@ -26,4 +27,9 @@ pub fn occurrences_are_read_one_way()
 /// No key is a proper prefix of another.
 pub fn no_key_begins_another()
     ensures { NoKeyBeginsAnother }
+{}
+
+/// What lies ahead from a place to a second, and from there to a third, adds up.
+pub fn ahead_adds_up()
+    ensures { AheadAddsUp }
 {}

@@ -27,7 +27,7 @@ mod tests;
 pub use atom_test::{AtomTest, Kind};
 pub use bond_order::put_in_order;
 pub use code_laws::{
-    codes_are_read_one_way, no_code_begins_another, no_key_begins_another,
+    ahead_adds_up, codes_are_read_one_way, no_code_begins_another, no_key_begins_another,
     occurrences_are_read_one_way, valid_codes_are_listed,
 };
 pub use edge::Edge;

@@ -141,15 +141,7 @@ fn any_atom() -> GraphAtom
     ensures { IsTestInRange result.test }
 {
     GraphAtom {
-        test: AtomTest {
-            kind: Kind::Anything,
-            charge: 0,
-            radical: 0,
-            hydrogens: 0,
-            ring_bonds: 0,
-            substitution: 0,
-            unsaturated: false,
-        },
+        test: AtomTest::of_kind(Kind::Anything),
         free: 0,
     }
 }

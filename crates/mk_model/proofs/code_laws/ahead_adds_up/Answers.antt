@@ -1,0 +1,5 @@
+use Rattle.mk_model.proofs.NodesLemmas.{ahead_adds_up}
+use Rattle.mk_model.proofs.code_laws.ahead_adds_up.Goals as goal
+
+pub returns : goal.returns
+returns c = ahead_adds_up

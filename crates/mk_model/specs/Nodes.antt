@@ -1,0 +1,61 @@
+-- Nodes: the steps of a search over all choices and all beginnings of maps, as lists in one order with its keys and its places. How
+-- many of them lie between two places measures how far a search has come.
+--     BeginsCode query numbers              a structural code of the root begins with the numbers
+--     IsPartialHit query mol numbers        a structural code, and behind it distinct atoms of the molecule, no more than its expansion has
+--     IsNode Held query node                a held molecule's number alone, or with one of these behind it
+--     Ahead Held query from to count        so many nodes lie above one place and not above another
+--     AheadAddsUp                           what lies between a place and a second, and that and a third, adds up
+-- `Held n mol` says that the molecule is held under the number n.
+use Rattle.std.specs.Prelude.{◌≡◌, ◌≢◌, ◌≤◌, ◌+◌, ◌⊎◌, ℕ, List, [], ◌∷◌, ◌++◌, length, All, AllPairs}
+use Rattle.mk_text.specs.Rising.{Holds, IsBelow, Rises}
+use Rattle.mk_model.specs.Codes.{IsCode}
+use Rattle.mk_model.specs.Expansions.{IsExpansion}
+use Rattle.mk_model.specs.Graphs.{GraphView}
+use Rattle.mk_model.specs.Keys.{IsAmong}
+use Rattle.mk_model.specs.Molecules.{Molecule}
+use Rattle.mk_model.specs.Queries.{QueryView}
+
+-- a structural code of the root begins with the numbers
+pub record BeginsCode (query : QueryView) (numbers : List ℕ) : Type 0 where
+  pub more : List ℕ
+  pub code : IsCode query 0 (numbers ++ more)
+
+-- a structural code of the root, and behind it distinct atoms of the molecule, no more than the expansion has
+pub record IsPartialHit (query : QueryView) (mol : Molecule) (numbers : List ℕ) : Type 0 where
+  pub code : List ℕ
+  pub atoms : List ℕ
+  pub graph : GraphView
+  pub chosen : IsCode query 0 code
+  pub expanded : IsExpansion query code graph
+  pub few : length atoms ≤ length graph.atoms
+  pub within : All (λ a. (1 ≤ a) × (a ≤ length mol.atoms)) atoms
+  pub distinct : AllPairs (λ a b. a ≢ b) atoms
+  pub whole : numbers ≡ code ++ atoms
+
+-- a held molecule's number alone, or behind it what a code begins with, or a code and some atoms
+pub record IsNode (Held : ℕ → Molecule → Type 0) (query : QueryView) (node : List ℕ) : Type 0 where
+  pub number : ℕ
+  pub mol : Molecule
+  pub numbers : List ℕ
+  pub held : Held number mol
+  pub reached : (numbers ≡ []) ⊎ (BeginsCode query numbers ⊎ IsPartialHit query mol numbers)
+  pub whole : node ≡ number ∷ numbers
+
+-- some rising nodes, so many, lie above the first place and not above the second
+pub record Ahead (Held : ℕ → Molecule → Type 0) (query : QueryView) (from to : List ℕ) (count : ℕ) : Type 0 where
+  pub nodes : List (List ℕ)
+  pub rise : Rises nodes
+  pub each : (node : List ℕ) → Holds nodes node → IsNode Held query node
+  pub above : (node : List ℕ) → Holds nodes node → IsBelow from node
+  pub not_above : (node : List ℕ) → Holds nodes node → IsBelow to node → ⊥
+  pub many : length nodes ≡ count
+
+-- ---- law
+
+-- what lies between a place and a second that isn't below it, and between that and a third, lies between the first and the third
+abbrev pub AheadAddsUp : Type 0
+AheadAddsUp =
+    (molecules : List (ℕ × Molecule)) (query : QueryView) (from through to : List ℕ) (j k : ℕ)
+    → (IsBelow through from → ⊥) → (IsBelow to through → ⊥)
+    → Ahead (IsAmong molecules) query from through j → Ahead (IsAmong molecules) query through to k
+    → Ahead (IsAmong molecules) query from to (j + k)
