@@ -14,7 +14,7 @@ use Rattle.mk_model.specs.Queries.{members_of}
 use Rattle.mk_model.specs.Sizes.{IsSizing, size_by}
 use Rattle.mk_model.specs.QueryFits.{AreApart, AreJoined, FitsPoints, HasClosedBlocks, HasFittingPoints, HasFreePoints, HasPairsOnce, HasRisingSlots, HasSitesApart, IsAtomOf, IsClosed, IsInRange, IsSlotOf, NamesItsNeighbours, NamesNeighbours, QueryFits}
 use Rattle.mk_model.proofs.ForCallers.{none_in_itself, ranked_by_size}
-use Rattle.mk_model.proofs.FewLemmas.{NoPair, all_1, all_2, all_3, all_same, edge, once_by, pairs_none, pairs_one, pairs_two}
+use Rattle.mk_model.proofs.ForCallers.{NoPair, all_1, all_2, all_3, all_same, edge, once_by, pairs_none, pairs_one, pairs_two}
 use Rattle.mk_model.proofs.OnLiterals.{atom, bond, group, plain_group, range, single, site_atom, then_query, two_sites}
 
 -- ---- no pair twice

@@ -21,5 +21,5 @@ pub use building::{graph_of, mol_of};
 pub use files::{molfile_of_sketch, put_block, rgfile_of_sketches, table_of_sketch};
 pub use queries::query_of_two_sites;
 pub use sketches::{
-    asked, asked_atoms, asked_bonds, bonds_of_sketch, elements_of, graph_of_sketch, mol_of_sketch,
+    asked_atoms, asked_bonds, bonds_of_sketch, elements_of, graph_of_sketch, mol_of_sketch,
 };

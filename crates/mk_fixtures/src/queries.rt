@@ -26,9 +26,9 @@ fn root(alloc: Global) -> Result<Template, Memory>
     ensures { IfOk result (λ template. template ≡ two_sites 1 2) }
 {
     let atoms = vec![in alloc;
-        atom(Kind::Element(6)),
-        atom(Kind::Anything),
-        atom(Kind::Anything),
+        AtomTest::of_kind(Kind::Element(6)),
+        AtomTest::of_kind(Kind::Anything),
+        AtomTest::of_kind(Kind::Anything),
     ]?;
     let bonds = vec![in alloc; bond(1, 2), bond(1, 3)]?;
     let slots = vec![in alloc; site(2, 1), site(3, 2)]?;
@@ -39,32 +39,10 @@ fn root(alloc: Global) -> Result<Template, Memory>
 fn single(alloc: Global, z: u8) -> Result<Template, Memory>
     ensures { IfOk result (λ template. template ≡ single z) }
 {
-    let atoms = vec![in alloc; atom(Kind::Element(z))]?;
+    let atoms = vec![in alloc; AtomTest::of_kind(Kind::Element(z))]?;
     let mut points = Numbers::new(alloc);
     points.push(1)?;
     Ok(Template::of(atoms, Vec::new(alloc), Vec::new(alloc), points))
-}
-
-fn atom(kind: Kind) -> AtomTest
-    ensures { result ≡ record {
-      kind = kind;
-      charge = pos 0;
-      radical = 0;
-      hydrogens = 0;
-      ring_bonds = pos 0;
-      substitution = pos 0;
-      unsaturated = false;
-    } }
-{
-    AtomTest {
-        kind,
-        charge: 0,
-        radical: 0,
-        hydrogens: 0,
-        ring_bonds: 0,
-        substitution: 0,
-        unsaturated: false,
-    }
 }
 
 fn bond(first: u32, second: u32) -> QueryBond

@@ -46,7 +46,7 @@ pub fn asked_atoms(alloc: Global, sketch: &str) -> Result<Vec<GraphAtom>, Fail> 
     let mut atoms = Vec::new(alloc);
     for word in parts_without_lines(sketch)?.atoms.split_whitespace() {
         atoms.push(GraphAtom {
-            test: asked(kind_of(word)?),
+            test: AtomTest::of_kind(kind_of(word)?),
             free: 0,
         })?;
     }
@@ -61,19 +61,6 @@ pub fn asked_bonds(alloc: Global, sketch: &str) -> Result<Vec<GraphBond>, Fail> 
     }
     put_in_order(&mut bonds);
     Ok(bonds)
-}
-
-/// The test that asks for the kind alone.
-pub fn asked(kind: Kind) -> AtomTest {
-    AtomTest {
-        kind,
-        charge: 0,
-        radical: 0,
-        hydrogens: 0,
-        ring_bonds: 0,
-        substitution: 0,
-        unsaturated: false,
-    }
 }
 
 /// A list of elements.

@@ -25,8 +25,9 @@ const RANGES: [(&str, &str, &[(u32, u32)]); 12] = [
 ];
 
 // Texts that are no range.
-const NO_RANGES: [&str; 14] = [
-    "1 2", "0001", "1-", "-1", ",", "1,", ",1", "3-2", ">", "<", "> >1", "1-2-3", "+1", "a",
+const NO_RANGES: [&str; 16] = [
+    "1 2", "0001", "1-", "-1", ",", "1,", ",1", "1,,2", "3-2", "7-3", ">", "<", "> >1", "1-2-3",
+    "+1", "a",
 ];
 
 #[test]
@@ -64,7 +65,12 @@ fn has_intervals(range: &Range, want: &[(u32, u32)]) -> bool {
 }
 
 // A text, a number, and whether the number is in the range.
-const HELD: [(&str, u32, bool); 8] = [
+const HELD: [(&str, u32, bool); 14] = [
+    (" 1, 3-7 ,9,>11", 0, false),
+    (" 1, 3-7 ,9,>11", 2, false),
+    (" 1, 3-7 ,9,>11", 3, true),
+    (" 1, 3-7 ,9,>11", 11, false),
+    (" 1, 3-7 ,9,>11", 12, true),
     ("2-3,5", 2, true),
     ("2-3,5", 4, false),
     ("2-3,5", 5, true),
@@ -72,6 +78,7 @@ const HELD: [(&str, u32, bool); 8] = [
     (">32", 33, true),
     ("<0", 0, false),
     ("", 0, false),
+    ("", 1, true),
     ("0", 0, true),
 ];
 

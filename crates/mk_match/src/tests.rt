@@ -4,9 +4,11 @@ ghost use Rattle.std.specs.Prelude.{◌≡◌, ◌<◌, length};
 
 use crate::{Maps, cannot_hold, counts_asked, counts_there, least_map};
 use mk_fixtures::{
-    asked, asked_atoms, asked_bonds, elements_of, graph_of, graph_of_sketch, mol_of, mol_of_sketch,
+    asked_atoms, asked_bonds, elements_of, graph_of, graph_of_sketch, mol_of, mol_of_sketch,
 };
-use mk_model::{Atom, Edge, Graph, GraphAtom, GraphBond, Kind, Map, Memory, Mol, Place, Steps};
+use mk_model::{
+    Atom, AtomTest, Edge, Graph, GraphAtom, GraphBond, Kind, Map, Memory, Mol, Place, Steps,
+};
 use mk_tests::{atom_fits, bond_fits};
 use std::alloc::Global;
 use std::marker::Brand;
@@ -447,7 +449,7 @@ fn edge(first: u32, second: u32, kind: u8) -> Edge {
 }
 
 fn asked_atom(kind: Kind, ring_bonds: i8) -> GraphAtom {
-    let mut test = asked(kind);
+    let mut test = AtomTest::of_kind(kind);
     test.ring_bonds = ring_bonds;
     GraphAtom { test, free: 0 }
 }

@@ -2,7 +2,7 @@
 // docs/TESTING.md, "Tables of tests".
 use crate::{atom_fits, bond_fits};
 use mk_fixtures::{
-    asked, asked_atoms, asked_bonds, elements_of, graph_of, graph_of_sketch, mol_of, mol_of_sketch,
+    asked_atoms, asked_bonds, elements_of, graph_of, graph_of_sketch, mol_of, mol_of_sketch,
 };
 use mk_model::{Atom, AtomTest, Graph, GraphAtom, Kind, Memory, Mol};
 use std::alloc::Global;
@@ -179,7 +179,7 @@ const ALONE: [((i8, u8), (i8, u8), bool); 11] = [
 #[test]
 fn charges_and_radicals(rt: HostRuntime) -> Result<(), Fail> {
     for (row, (columns, has, want)) in ALONE.iter().enumerate() {
-        let mut test = asked(Kind::Anything);
+        let mut test = AtomTest::of_kind(Kind::Anything);
         test.charge = columns.0;
         test.radical = columns.1;
         let graph = query_of(rt.alloc(), GraphAtom { test, free: 0 }, C)?;
@@ -217,7 +217,7 @@ const KINDS: [(Asked, [bool; 4]); 6] = [
 #[test]
 fn kinds(rt: HostRuntime) -> Result<(), Fail> {
     for (row, (name, want)) in KINDS.iter().enumerate() {
-        let test = asked(kind_of(rt.alloc(), *name)?);
+        let test = AtomTest::of_kind(kind_of(rt.alloc(), *name)?);
         let graph = query_of(rt.alloc(), GraphAtom { test, free: 0 }, C)?;
         for (element, takes) in [1u8, 6, 7, 8].iter().zip(want) {
             let atom = Atom {
@@ -328,7 +328,7 @@ fn asked_bond(alloc: Global, kind: u8, topology: u8) -> Result<Graph, Fail> {
 }
 
 fn with_column(column: Column, value: i8) -> AtomTest {
-    let mut test = asked(Kind::Anything);
+    let mut test = AtomTest::of_kind(Kind::Anything);
     match column {
         Column::Hydrogens => test.hydrogens = value.unsigned_abs(),
         Column::RingBonds => test.ring_bonds = value,
