@@ -7,7 +7,7 @@ use Rattle.mk_text.proofs.ForCallers.{below_after, below_or_not, below_through, 
 use Rattle.mk_model.specs.PlainCodes.{valid_codes}
 use Rattle.mk_model.specs.QueryFits.{QueryFits}
 use Rattle.mk_model.specs.Queries.{QueryView}
-use Rattle.mk_model.proofs.PlainCodesLemmas.{law as valid_codes_are_listed}
+use Rattle.mk_model.proofs.ForCallers.{valid_codes_listed as valid_codes_are_listed}
 use Rattle.mk_choice.specs.Codes.{CodesLeft, IsNext}
 
 -- one more where it isn't below

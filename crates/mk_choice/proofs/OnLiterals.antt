@@ -4,7 +4,7 @@ use Rattle.std.proofs.Common.{◌≡◌, ℕ, inl, inr, List, [], ◌∷◌, Non
 use Rattle.mk_text.specs.Rising.{Holds, IsBelow, IsLeast, IsLeastFrom, IsRisingListOfAll}
 use Rattle.mk_model.specs.Logic.{IsValid}
 use Rattle.mk_model.specs.PlainCodes.{is_allowed_code, valid_codes}
-use Rattle.mk_model.proofs.PlainCodesLemmas.{law}
+use Rattle.mk_model.proofs.ForCallers.{valid_codes_listed as law}
 use Rattle.mk_model.proofs.OnLiterals.{group, plain_group, range, single, then_query, two_sites}
 use Rattle.mk_choice.specs.Fronts.{rest_after}
 use Rattle.mk_fixtures.proofs.ExampleFits.{fits}

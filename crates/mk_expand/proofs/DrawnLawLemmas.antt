@@ -216,10 +216,10 @@ module _ (atoms : List AtomTest) (bonds : List QueryBond) (points : List ℕ) (a
   abbrev template : TemplateView
   template = one_site atoms bonds points (Site atom group first second)
 
-  stands : (1 ≤ atom) × (atom ≤ length atoms)
+  pub stands : (1 ≤ atom) × (atom ≤ length atoms)
   stands = slots_stand (one_site atoms bonds points (Site atom group first second)) kept 0 (Site atom group first second) (omega arith)
 
-  taker_of : (x : ℕ) → taker template x ≡ cond (eqb atom x || false) 1 0
+  pub taker_of : (x : ℕ) → taker template x ≡ cond (eqb atom x || false) 1 0
   unfolding taker
   taker_of x = refl
 
@@ -229,12 +229,22 @@ module _ (atoms : List AtomTest) (bonds : List QueryBond) (points : List ℕ) (a
   piece_elsewhere : (x : ℕ) → eqb atom x ≡ false → piece template (p ∷ []) x ≡ Copies 1
   piece_elsewhere x e = rw (taker_of x, e) refl
 
-  piece_is : (x : ℕ) → piece template (p ∷ []) x ≡ cond (eqb atom x) p (Copies 1)
+  pub piece_is : (x : ℕ) → piece template (p ∷ []) x ≡ cond (eqb atom x) p (Copies 1)
   piece_is x = by (eqb atom x) refl
     where
       by : (b : Bool) → eqb atom x ≡ b → piece template (p ∷ []) x ≡ cond b p (Copies 1)
       by true e = piece_at_site x e
       by false e = piece_elsewhere x e
+
+  -- no bond is inside a block
+  pub never_inside : (bond : QueryBond) → IsWithin template bond → is_inside template bond ≡ true → ⊥
+  never_inside bond within inside = by (eqb atom bond.first) (eqb atom bond.second) refl refl (rw (taker_of bond.first, taker_of bond.second) at inside)
+    where
+      by : (a b : Bool) → eqb atom bond.first ≡ a → eqb atom bond.second ≡ b → (not (eqb (cond (a || false) 1 0) 0) && eqb (cond (a || false) 1 0) (cond (b || false) 1 0)) ≡ true → ⊥
+      by true true e f is = within.differ (grind (arith, nat_tests))
+      by true false e f is = absurd cc
+      by false true e f is = absurd cc
+      by false false e f is = absurd cc
 
   module _ (wide : width p ≡ 1) (ends : (x y : ℕ) → 1 ≤ y → end_of p (eqb atom x && eqb second y) ≡ 1) (some : is_nothing p ≡ false) where
     one : (x : ℕ) → width (piece template (p ∷ []) x) ≡ 1
@@ -263,16 +273,6 @@ module _ (atoms : List AtomTest) (bonds : List QueryBond) (points : List ℕ) (a
         by : (b : Bool) → is_nothing (cond b p (Copies 1)) ≡ false
         by true = some
         by false = refl
-
-    -- no bond is inside a block
-    never_inside : (bond : QueryBond) → IsWithin template bond → is_inside template bond ≡ true → ⊥
-    never_inside bond within inside = by (eqb atom bond.first) (eqb atom bond.second) refl refl (rw (taker_of bond.first, taker_of bond.second) at inside)
-      where
-        by : (a b : Bool) → eqb atom bond.first ≡ a → eqb atom bond.second ≡ b → (not (eqb (cond (a || false) 1 0) 0) && eqb (cond (a || false) 1 0) (cond (b || false) 1 0)) ≡ true → ⊥
-        by true true e f is = within.differ (grind (arith, nat_tests))
-        by true false e f is = absurd cc
-        by false true e f is = absurd cc
-        by false false e f is = absurd cc
 
     -- the site has an atom of this test in its place
     module _ (test : AtomTest) (own : atoms_of_piece template (p ∷ []) atom p ≡ plain test ∷ []) (within_site : bonds_within bonds (before template (p ∷ []) atom) (Site atom group first second) p ≡ [])
@@ -343,7 +343,7 @@ one_hydrogen_drawn atoms bonds points atom group first kept =
         by false false = refl
 
 -- a template is the one of its parts
-by_slots : (template : TemplateView) (site : Slot) → template.slots ≡ site ∷ [] → template ≡ one_site template.atoms template.bonds template.points site
+pub by_slots : (template : TemplateView) (site : Slot) → template.slots ≡ site ∷ [] → template ≡ one_site template.atoms template.bonds template.points site
 by_slots template site is = ap (λ (slots : List Slot). record { atoms = template.atoms; bonds = template.bonds; slots = slots; points = template.points }) is
 
 pub one_hydrogen : HydrogenForSite

@@ -24,4 +24,5 @@ pub mod GraphLemmas
 pub mod OneExpansionLemmas
 pub mod DrawnLawLemmas
 pub mod EachAtomLemmas
+pub mod TwoHydrogenLemmas
 pub mod ForCallers

@@ -2,6 +2,7 @@
 --     as_drawn template             the template as it is drawn
 --     with_atom x test template     the template with an atom of this test in the place of atom x
 --     with_hydrogen x template      the template with a hydrogen in the place of atom x
+--     with_two_hydrogens x far template      the template with two hydrogens in its place, the second at its neighbour far
 --     with_atoms query slots choice tests    the tests of its atoms, with each member's atom in the place of its site
 --     EachIsOneAtom query slots choice       each slot becomes one atom: a single link, or a member of one atom
 --     WithoutSlots                  a template without slots is its own expansion
@@ -9,7 +10,8 @@
 --     FilledByOneAtom               a site that a member of one atom fills is that atom, in its place
 --     OneAtomAtEachSlot             slots that become one atom each are those atoms, in their places
 --     HydrogenForSite               an open site with RestH on is a hydrogen, in its place
-use Rattle.std.specs.Prelude.{◌≡◌, ◌≤◌, ◌-◌, ◌==◌, ◌||◌, ℕ, List, [], ◌∷◌, Some, IsTrue, length, map, set, slice_get, slice_index_or, if◌then◌else◌}
+--     HydrogensForSite              between two neighbours it is two hydrogens, one at each
+use Rattle.std.specs.Prelude.{◌≡◌, ◌≤◌, ◌<◌, ◌+◌, ◌-◌, ◌==◌, ◌&&◌, ◌||◌, nat_lt, ℕ, List, [], ◌∷◌, ◌++◌, Some, IsTrue, drop, length, map, set, slice_get, slice_index_or, take, if◌then◌else◌}
 use Rattle.mk_model.specs.declared.atom_test.AtomTest.{AtomTest}
 use Rattle.mk_model.specs.declared.template.QueryBond.{QueryBond}
 use Rattle.mk_model.specs.declared.template.Slot.{Slot}
@@ -43,6 +45,28 @@ single_at x bond = if (x == bond.first) || (x == bond.second) then record bond {
 abbrev pub with_hydrogen : ℕ → TemplateView → TemplateView
 with_hydrogen x template =
     record template { atoms = set template.atoms (x - 1) hydrogen.test; bonds = map (single_at x) template.bonds }
+
+-- the number of atom y where two atoms stand in the place of atom x: those behind it are one further
+abbrev pub beside_two : ℕ → ℕ → ℕ
+beside_two x y = if nat_lt x y then y + 1 else y
+
+-- where the bond of atom y to atom z ends at y then: that of atom x to its neighbour `far` ends at the second of the two
+abbrev pub end_beside_two : ℕ → ℕ → ℕ → ℕ → ℕ
+end_beside_two x far y z = if (x == y) && (far == z) then y + 1 else beside_two x y
+
+-- a bond with its ends there
+abbrev pub moved_beside_two : ℕ → ℕ → QueryBond → QueryBond
+moved_beside_two x far bond =
+    record bond { first = end_beside_two x far bond.first bond.second; second = end_beside_two x far bond.second bond.first }
+
+-- the template with two hydrogens in the place of atom x, the second of them at its neighbour `far`, joined by single bonds
+abbrev pub with_two_hydrogens : ℕ → ℕ → TemplateView → TemplateView
+with_two_hydrogens x far template =
+    record template {
+      atoms = take (x - 1) template.atoms ++ hydrogen.test ∷ hydrogen.test ∷ drop x template.atoms;
+      bonds = map (λ bond. moved_beside_two x far (single_at x bond)) template.bonds;
+      points = map (beside_two x) template.points;
+    }
 
 -- each slot stands once
 abbrev pub once_each : List Slot → Choice
@@ -112,3 +136,11 @@ HydrogenForSite = (query : QueryView) (t : ℕ) (template : TemplateView) (atom 
     → QueryFits query → slice_get query.templates t ≡ Some template → template.slots ≡ Site atom group first 0 ∷ []
     → IsTrue (draws_rest_hydrogens query (Site atom group first 0))
     → expansion query t (unfilled n done) ≡ as_drawn (with_hydrogen atom template)
+
+-- where the one slot of a template is a site between two neighbours with RestH on, and it isn't filled, the template is drawn
+-- with two hydrogens in its place, one at each neighbour
+abbrev pub HydrogensForSite : Type 0
+HydrogensForSite = (query : QueryView) (t : ℕ) (template : TemplateView) (atom group first second n : ℕ)
+    → QueryFits query → slice_get query.templates t ≡ Some template → template.slots ≡ Site atom group first second ∷ []
+    → 0 < second → IsTrue (draws_rest_hydrogens query (Site atom group first second))
+    → expansion query t (unfilled n done) ≡ as_drawn (with_two_hydrogens atom second template)

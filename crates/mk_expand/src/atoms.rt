@@ -125,15 +125,7 @@ fn hydrogen() -> GraphAtom
     ensures { result ≡ hydrogen }
 {
     GraphAtom {
-        test: AtomTest {
-            kind: Kind::Element(1),
-            charge: 0,
-            radical: 0,
-            hydrogens: 0,
-            ring_bonds: 0,
-            substitution: 0,
-            unsaturated: false,
-        },
+        test: AtomTest::of_kind(Kind::Element(1)),
         free: 0,
     }
 }

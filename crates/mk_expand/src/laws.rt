@@ -1,5 +1,5 @@
 // Laws over the definitions alone, each carried by a function that does nothing.
-ghost use Rattle.mk_expand.specs.Drawn.{FilledByOneAtom, HydrogenForSite, LinksThatStandOnce, OneAtomAtEachSlot, WithoutSlots};
+ghost use Rattle.mk_expand.specs.Drawn.{FilledByOneAtom, HydrogenForSite, HydrogensForSite, LinksThatStandOnce, OneAtomAtEachSlot, WithoutSlots};
 ghost use Rattle.mk_expand.specs.Laws.{CodeAndHitAreShort, OneExpansion};
 
 use mk_rings::marks_determine_bonds;
@@ -29,6 +29,11 @@ pub fn single_links_stay_as_drawn()
 /// An open site with one neighbour is a hydrogen in its place, where its label says so.
 pub fn open_site_is_a_hydrogen()
     ensures { HydrogenForSite }
+{}
+
+/// An open site between two neighbours is two hydrogens, one at each, where its label says so.
+pub fn open_site_is_two_hydrogens()
+    ensures { HydrogensForSite }
 {}
 
 /// A site that a member of one atom fills is that atom, in its place.

@@ -27,6 +27,7 @@ mod tests;
 
 pub use expanding::expand;
 pub use laws::{
-    code_and_hit_are_short, one_expansion, open_site_is_a_hydrogen, single_links_stay_as_drawn,
-    site_filled_by_one_atom, slots_become_their_atoms, template_is_its_own_expansion,
+    code_and_hit_are_short, one_expansion, open_site_is_a_hydrogen, open_site_is_two_hydrogens,
+    single_links_stay_as_drawn, site_filled_by_one_atom, slots_become_their_atoms,
+    template_is_its_own_expansion,
 };

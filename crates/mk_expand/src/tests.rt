@@ -59,10 +59,10 @@ fn root(alloc: Global) -> Result<Template, Memory>
     ensures { IfOk result (λ template. template ≡ root) }
 {
     let atoms = vec![in alloc;
-        test(Kind::Element(6)),
-        test(Kind::Element(6)),
-        test(Kind::Element(6)),
-        test(Kind::Anything),
+        AtomTest::of_kind(Kind::Element(6)),
+        AtomTest::of_kind(Kind::Element(6)),
+        AtomTest::of_kind(Kind::Element(6)),
+        AtomTest::of_kind(Kind::Anything),
     ]?;
     let bonds = vec![in alloc; bond(1, 2), bond(2, 3), bond(3, 4)]?;
     let link = Slot::Link {
@@ -85,23 +85,9 @@ fn root(alloc: Global) -> Result<Template, Memory>
 fn member(alloc: Global) -> Result<Template, Memory>
     ensures { IfOk result (λ template. template ≡ single 9) }
 {
-    let atoms = vec![in alloc; test(Kind::Element(9))]?;
+    let atoms = vec![in alloc; AtomTest::of_kind(Kind::Element(9))]?;
     let points = Numbers::of(vec![in alloc; 1u32]?);
     Ok(Template::of(atoms, Vec::new(alloc), Vec::new(alloc), points))
-}
-
-fn test(kind: Kind) -> AtomTest
-    ensures { result ≡ record { kind = kind; charge = pos 0; radical = 0; hydrogens = 0; ring_bonds = pos 0; substitution = pos 0; unsaturated = false } }
-{
-    AtomTest {
-        kind,
-        charge: 0,
-        radical: 0,
-        hydrogens: 0,
-        ring_bonds: 0,
-        substitution: 0,
-        unsaturated: false,
-    }
 }
 
 fn bond(first: u32, second: u32) -> QueryBond

@@ -4,4 +4,4 @@ use Rattle.mk_expand.proofs.tests.member.Goals as goal
 
 pub returns : goal.returns
 unfolding single atom
-returns c = rw (c.of.ensures, c.in_ok-atoms.ensures.items, c.test.ensures, c.of-points.ensures, c.in_ok-vec.ensures.items, c.new.ensures.items, c.new-2.ensures.items) refl
+returns c = rw (c.of.ensures, c.in_ok-atoms.ensures.items, c.of_kind.ensures, c.of-points.ensures, c.in_ok-vec.ensures.items, c.new.ensures.items, c.new-2.ensures.items) refl
