@@ -3,11 +3,13 @@
 --     OneFirstFault              and at most one first fault
 --     FaultOrQuery               a raw query that is read has a first fault, or a query that passes every check
 --     NoFaultWhereAllPass        and not both
+--     PassedQueriesFit           a query that passes every check keeps what every query keeps
 --     KeptTextIsTheQuery         the kept lines of a query file that passes are a query file with the same raw query
 use Rattle.std.specs.Prelude.{◌≡◌, ◌⊎◌, ℕ, List}
 use Rattle.mk_text.specs.KeptLines.{kept_lines}
 use Rattle.mk_text.specs.Lines.{lines_of}
 use Rattle.mk_model.specs.Queries.{QueryView}
+use Rattle.mk_model.specs.QueryFits.{QueryFits}
 use Rattle.mk_rgfile.specs.declared.raw_query.RawQuery.{RawQuery}
 use Rattle.mk_rgfile.specs.QueryFacts.{IsRawQuery}
 use Rattle.mk_rgfile.specs.QueryFile.{IsQueryFile}
@@ -30,6 +32,10 @@ FaultOrQuery = (raw : RawQuery) → IsRawQuery raw → ((fault : FaultAt) × IsF
 -- a raw query whose query passes every check has no first fault
 abbrev pub NoFaultWhereAllPass : Type 0
 NoFaultWhereAllPass = (raw : RawQuery) (query : QueryView) (fault : FaultAt) → IsQueryOf raw query → PassChecks raw query → ¬ (IsFirstCompileFault raw fault)
+
+-- the query of a raw query such as is read keeps what every query keeps, where it passes every check
+abbrev pub PassedQueriesFit : Type 0
+PassedQueriesFit = (raw : RawQuery) (query : QueryView) → IsRawQuery raw → IsQueryOf raw query → PassChecks raw query → QueryFits query
 
 -- The kept lines of a query file of which every table passes its own checks are a query file too, with the same raw query.
 abbrev pub KeptTextIsTheQuery : Type 0

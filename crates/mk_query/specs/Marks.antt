@@ -8,15 +8,17 @@
 --     IsLabels labels mark        the note on an atom with these labels
 --     lists_for x lists           those of some lists that name atom x
 --     IsListMark lists mark       the note on an atom that these lists name
-use Rattle.std.specs.Prelude.{◌≡◌, ◌≢◌, ◌≤◌, ◌<◌, ◌+◌, ◌-◌, ◌==◌, ◌&&◌, ◌↔◌, not, ℕ, ℤ, Bool, false, List, [], ◌∷◌, ◌++◌, All, IsTrue, length, slice_index_or}
+--     AreServed groups served     the notes on the numbers of groups: which have a member
+use Rattle.std.specs.Prelude.{◌≡◌, ◌≢◌, ◌≤◌, ◌<◌, ◌+◌, ◌-◌, ◌==◌, ◌&&◌, ◌↔◌, not, ℕ, ℤ, pos, Bool, false, List, [], ◌∷◌, ◌++◌, All, IsTrue, length, slice_index_or}
 use Rattle.std.specs.List.{filter}
+use Rattle.mk_rgfile.specs.declared.raw_query.RawGroup.{RawGroup}
 use Rattle.mk_query.specs.declared.marks.Labels.{Labels}
 use Rattle.mk_query.specs.declared.marks.Labels.TheVariants as labels
 use Rattle.mk_query.specs.declared.marks.ListMark.{ListMark}
 use Rattle.mk_query.specs.declared.marks.Near.{Near}
 use Rattle.mk_query.specs.declared.marks.Near.TheVariants as near
 use Rattle.mk_query.specs.Drawn.{ElementList, listed_atom}
-use Rattle.mk_query.specs.SiteChecks.{HasKnownMembers}
+use Rattle.mk_query.specs.SiteChecks.{HasKnownMembers, HasMember}
 
 -- ---- notes
 
@@ -59,6 +61,15 @@ abbrev pub IsLabels : List ℤ → Labels → Type 0
 IsLabels those labels.Nothing = those ≡ []
 IsLabels those (labels.One label) = those ≡ label ∷ []
 IsLabels those labels.More = 2 ≤ length those
+
+-- what is noted of the number that a label is
+abbrev pub is_served : List Bool → ℤ → Bool
+is_served served (pos g) = slice_index_or served g false
+is_served served other = false
+
+-- noted are the numbers of the groups that have a member
+abbrev pub AreServed : List RawGroup → List Bool → Type 0
+AreServed groups served = (label : ℤ) → IsTrue (is_served served label) ↔ HasMember groups label
 
 -- ---- lists
 

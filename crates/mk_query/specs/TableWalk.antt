@@ -2,6 +2,7 @@
 --     HaveFewProperties raw              each table has fewer than 2^32 properties
 --     PassNested raw                     the root passes its checks, and so does each member
 --     FindsInMembers groups members t found    the first fault of some members, which count from t on
+--     FindsInRoot raw found              the first fault of the root
 --     FindsInTables raw found            the first fault of the tables
 --     FindsAcross raw query found        the first fault of the whole
 use Rattle.std.specs.Prelude.{◌≡◌, ◌<◌, ◌+◌, ◌^◌, ℕ, false, true, List, Option, Some, None, All, length, slice_get}
@@ -40,6 +41,11 @@ pub record IsFirstInMembers (groups : List RawGroup) (members : List RawTable) (
 abbrev pub FindsInMembers : List RawGroup → List RawTable → ℕ → Option FaultAt → Type 0
 FindsInMembers groups members t None = All (PassesAll groups false) members
 FindsInMembers groups members t (Some fault) = IsFirstInMembers groups members t fault
+
+-- the root's first fault, or none where it passes
+abbrev pub FindsInRoot : RawQuery → Option FaultAt → Type 0
+FindsInRoot raw None = PassesAll raw.groups true raw.root
+FindsInRoot raw (Some fault) = IsFirstInTables raw fault
 
 -- the first fault of a table, or none where all pass
 abbrev pub FindsInTables : RawQuery → Option FaultAt → Type 0

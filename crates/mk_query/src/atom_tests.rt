@@ -80,15 +80,7 @@ fn test_at(alloc: Global, table: &RawTable, notes: &AtomNotes, i: usize) -> Resu
 fn no_test() -> AtomTest
     ensures { result ≡ no_test }
 {
-    AtomTest {
-        kind: Kind::Anything,
-        charge: 0,
-        radical: 0,
-        hydrogens: 0,
-        ring_bonds: 0,
-        substitution: 0,
-        unsaturated: false,
-    }
+    AtomTest::of_kind(Kind::Anything)
 }
 
 fn hydrogens_of(line: &RawAtom) -> u8

@@ -3,6 +3,7 @@ ghost use Rattle.std.specs.Prelude.{◌≤◌, ◌<◌, ◌^◌, ℕ, Bool, List
 ghost use Rattle.mk_rgfile.specs.declared.raw_query.RawGroup.{RawGroup};
 ghost use Rattle.mk_query.specs.Checks.{IsQueryBond};
 ghost use Rattle.mk_query.specs.FirstFault.{FindsBelow, FindsFirst, PassesBelow};
+ghost use Rattle.mk_query.specs.Marks.{AreServed};
 
 use crate::atom_checks::first_unknown_atom;
 use crate::bond_checks::first_unknown_bond;
@@ -12,7 +13,7 @@ use crate::logic_lines::first_unknown_logic;
 use crate::orders::first_disordered_site;
 use crate::points::first_misplaced_point;
 use crate::property_checks::first_unknown_property;
-use crate::sites::{first_misplaced_site, first_unlabelled_atom};
+use crate::sites::{first_misplaced_site, first_unlabelled_atom, served_numbers};
 use crate::table_faults::Fault;
 use mk_ctab::RawTable;
 use mk_rgfile::RawGroup;
@@ -31,10 +32,26 @@ pub fn first_fault(
     requires few_properties { length table.now.props < 2 ^ 32 }
     ensures { IfOk result (FindsFirst groups.now is_root table.now) }
 {
+    let served = served_numbers(alloc, groups)?;
+    fault_by(alloc, &served, is_root, table)
+}
+
+/// The first of the checks, where these numbers of groups have members.
+pub fn fault_by(
+    alloc: Global,
+    served: &[bool],
+    is_root: bool,
+    table: &RawTable,
+) -> Result<Option<Fault>, Memory>
+    requires few_atoms { length table.now.atoms ≤ 999 }
+    requires few_bonds { length table.now.bonds ≤ 999 }
+    requires few_properties { length table.now.props < 2 ^ 32 }
+    ensures { IfOk result (λ found. (groups : List RawGroup) → AreServed groups served.now → FindsFirst groups is_root table.now found) }
+{
     if let Some(fault) = fault_of_lines(alloc, table)? {
         return Ok(Some(fault));
     }
-    if let Some(fault) = fault_of_sites(alloc, groups, table)? {
+    if let Some(fault) = fault_of_sites(alloc, served, table)? {
         return Ok(Some(fault));
     }
     fault_of_slots(alloc, is_root, table)
@@ -63,19 +80,16 @@ fn fault_of_lines(alloc: Global, table: &RawTable) -> Result<Option<Fault>, Memo
 }
 
 // The first of the checks of lists, labels and sites, Q4 to Q7.
-fn fault_of_sites(
-    alloc: Global,
-    groups: &[RawGroup],
-    table: &RawTable,
-) -> Result<Option<Fault>, Memory>
+fn fault_of_sites(alloc: Global, served: &[bool], table: &RawTable) -> Result<Option<Fault>, Memory>
     requires few_atoms { length table.now.atoms ≤ 999 }
     requires few_properties { length table.now.props < 2 ^ 32 }
-    ensures { IfOk result (λ found. (is_root : Bool) → PassesBelow groups.now is_root table.now 4 → FindsBelow groups.now is_root table.now 8 found) }
+    ensures { IfOk result (λ found. (groups : List RawGroup) (is_root : Bool) → AreServed groups served.now
+        → PassesBelow groups is_root table.now 4 → FindsBelow groups is_root table.now 8 found) }
 {
     if let Some(item) = first_unlisted_atom(alloc, table)? {
         return Ok(Some(Fault { check: 4, item }));
     }
-    if let Some(item) = first_unlabelled_atom(alloc, groups, table)? {
+    if let Some(item) = first_unlabelled_atom(alloc, served, table)? {
         return Ok(Some(Fault { check: 5, item }));
     }
     if let Some(item) = first_misplaced_site(alloc, table)? {

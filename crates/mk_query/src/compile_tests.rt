@@ -1,18 +1,28 @@
 // Queries that fail a check, and queries that pass. The shorthand is that of docs/TESTING.md, "Tables of tests".
-use crate::{CompileFault, compile};
-use mk_fixtures::table_of_sketch;
+ghost use Rattle.std.specs.Prelude.{◌+◌, ◌<◌, ◌^◌};
+ghost use Rattle.mk_rgfile.specs.QueryFacts.{IsRawQuery, member_count};
+ghost use Rattle.mk_query.specs.TableWalk.{HaveFewProperties};
+
+use crate::{CompileFault, Fault, compile, first_fault};
+use mk_fixtures::rgfile_of_sketches;
 use mk_model::Query;
-use mk_rgfile::read_rgfile;
-use mk_text::put_number;
+use mk_rgfile::{RawQuery, read_rgfile};
 use std::alloc::Global;
 use std::test::Fail;
 
-// The groups of a query, by number and member.
-type Groups = &'static [(u64, &'static [&'static str])];
+/// The groups of a query, by number and member.
+pub type Groups = &'static [(u64, &'static [&'static str])];
 
-const FLUORINE: &str = "F | {M  APO  1   1   1}";
+/// A member of one atom, which bears point 1.
+pub const FLUORINE: &str = "F | {M  APO  1   1   1}";
 
 const ONE: Groups = &[(1, &[FLUORINE])];
+
+// An atom that bears both points.
+const BOTH: &str = "O | {M  APO  1   1   3}";
+
+// A member with a site of group 1.
+const OF_ONE: &str = "O R# | 1-2 {M  RGP  1   2   1}{M  APO  1   1   1}";
 
 // A site of each group in the other's member.
 const ROUND: Groups = &[
@@ -21,7 +31,7 @@ const ROUND: Groups = &[
 ];
 
 // A name, a root, its groups, and the check, the table and the item that are named; check 0 where none fails.
-static ROWS: [(&str, &str, Groups, (u8, u32, u32)); 24] = [
+static ROWS: [(&str, &str, Groups, (u8, u32, u32)); 32] = [
     ("a symbol", "Xx |", ONE, (1, 0, 1)),
     ("a pair twice", "C C | 1-2 2-1", ONE, (2, 0, 2)),
     (
@@ -83,30 +93,38 @@ static ROWS: [(&str, &str, Groups, (u8, u32, u32)); 24] = [
     ),
     ("an empty root", "|", ONE, (14, 0, 0)),
     (
-        "a number twice",
+        "an empty root before a number twice",
+        "|",
+        &[(2, &[FLUORINE]), (2, &[FLUORINE])],
+        (14, 0, 0),
+    ),
+    (
+        "the lesser of two numbers that stand twice",
         "C |",
-        &[(2, &[FLUORINE]), (3, &[FLUORINE]), (2, &[FLUORINE])],
+        &[
+            (3, &[FLUORINE]),
+            (2, &[FLUORINE]),
+            (3, &[FLUORINE]),
+            (2, &[FLUORINE]),
+        ],
         (14, 0, 2),
     ),
     (
-        "a bad symbol of the third member",
-        "|",
-        &[(1, &[FLUORINE, FLUORINE]), (2, &["Xx |"])],
-        (1, 3, 1),
+        "the root before a member",
+        "C | {M  LOG  1   1   0   2}",
+        &[(1, &["Xx |"])],
+        (10, 0, 1),
     ),
     (
-        "a bad symbol before a ring",
-        "C R# | 1-2 {M  RGP  1   2   1}",
-        &[(
-            1,
-            &["O R# | 1-2 {M  RGP  1   2   1}{M  APO  1   1   1}", "Xx |"],
-        )],
-        (1, 2, 1),
+        "a bad symbol of the third member before a ring and an empty root",
+        "|",
+        &[(1, &[OF_ONE, FLUORINE]), (2, &["Xx |"])],
+        (1, 3, 1),
     ),
     (
         "a ring before points",
         "C R# C | 1-2 2-3 {M  RGP  1   2   1}",
-        &[(1, &["O R# | 1-2 {M  RGP  1   2   1}{M  APO  1   1   1}"])],
+        &[(1, &[OF_ONE])],
         (11, 1, 0),
     ),
     (
@@ -116,6 +134,54 @@ static ROWS: [(&str, &str, Groups, (u8, u32, u32)); 24] = [
         (12, 0, 2),
     ),
     (
+        "a size before a number twice",
+        "C C C | 1-2 2-3 {M  LIN  1   2 510   1   3}",
+        &[(2, &[FLUORINE]), (2, &[FLUORINE])],
+        (13, 0, 0),
+    ),
+    (
+        "a member of the first of two parts",
+        "C R# | 1-2 {M  RGP  1   2   2}",
+        &[(2, &[BOTH]), (2, &[FLUORINE])],
+        (12, 0, 2),
+    ),
+    (
+        "a member of the last of two parts",
+        "C R# | 1-2 {M  RGP  1   2   2}",
+        &[(2, &[FLUORINE]), (2, &[BOTH])],
+        (12, 0, 2),
+    ),
+    (
+        "a ring through the last of two parts",
+        "C |",
+        &[(1, &[FLUORINE]), (2, &[FLUORINE]), (1, &[OF_ONE])],
+        (11, 3, 0),
+    ),
+    (
+        "the lesser of two sites of a member",
+        "C R# | 1-2 {M  RGP  1   2   1}",
+        &[
+            (
+                1,
+                &["O R# C R# N | 1-2 2-3 3-4 4-5 {M  RGP  2   2   2   4   2}{M  APO  1   1   1}"],
+            ),
+            (2, &[FLUORINE]),
+        ],
+        (12, 1, 2),
+    ),
+    (
+        "a site's neighbours in a size of 512",
+        "C R# C C C | 1-2 2-3 3-4 4-5 {M  RGP  1   2   1}{M  LIN  1   4 505   3   5}",
+        &[(1, &[BOTH])],
+        (0, 0, 0),
+    ),
+    (
+        "a site's neighbours in a size of 513",
+        "C R# C C C | 1-2 2-3 3-4 4-5 {M  RGP  1   2   1}{M  LIN  1   4 506   3   5}",
+        &[(1, &[BOTH])],
+        (13, 0, 0),
+    ),
+    (
         "a member's size counts once",
         "C R# C R# | 1-2 2-3 3-4 {M  RGP  2   2   1   4   2}",
         &[
@@ -123,7 +189,7 @@ static ROWS: [(&str, &str, Groups, (u8, u32, u32)); 24] = [
                 1,
                 &[
                     "C C C | 1-2 2-3 {M  LIN  1   2 250   1   3}{M  APO  2   1   1   3   2}",
-                    "F | {M  APO  1   1   3}",
+                    BOTH,
                 ],
             ),
             (
@@ -145,108 +211,58 @@ static ROWS: [(&str, &str, Groups, (u8, u32, u32)); 24] = [
 fn names_the_first_fault_of_a_query(rt: HostRuntime) -> Result<(), Fail> {
     let alloc = rt.alloc();
     for (name, root, groups, fault) in ROWS.iter() {
-        let text = rgfile(alloc, root, groups)?;
+        let text = rgfile_of_sketches(alloc, root, groups)?;
         assert!(rt; fault_of(alloc, &text)? == *fault, "{name}");
     }
     Ok(())
 }
 
+// The first ten rows, of which each fails a check of the root alone.
 #[test]
-fn counts_4096_members(rt: HostRuntime) -> Result<(), Fail> {
+fn names_the_first_fault_of_a_root(rt: HostRuntime) -> Result<(), Fail> {
     let alloc = rt.alloc();
-    assert!(rt; fault_of(alloc, &many_members(alloc, 4096)?)? == (0, 0, 0));
-    assert!(rt; fault_of(alloc, &many_members(alloc, 4097)?)? == (14, 0, 4097));
+    for (name, root, groups, (check, _, item)) in ROWS.iter().take(10) {
+        let text = rgfile_of_sketches(alloc, root, groups)?;
+        let want = Some(Fault {
+            check: *check,
+            item: *item,
+        });
+        assert!(rt; fault_of_root(alloc, &text)? == want, "{name}");
+    }
     Ok(())
 }
 
-// A root of one atom, and so many members of group 1.
-fn many_members(alloc: Global, count: usize) -> Result<Vec<u8>, Fail> {
-    let mut out = Vec::from_slice(alloc, b"$MDL\n$MOL\n$HDR\n\n\n\n$END HDR\n")?;
-    put_table(alloc, &mut out, "C |")?;
-    out.extend_from_slice(b"$RGP\n1\n")?;
-    let mut member = Vec::new(alloc);
-    put_table(alloc, &mut member, FLUORINE)?;
-    for _ in 0..count {
-        out.extend_from_slice(&member)?;
-    }
-    out.extend_from_slice(b"$END RGP\n$END MOL\n")?;
-    Ok(out)
+/// The check, the table and the item that are named, and zeros where the query passes.
+pub fn fault_of(alloc: Global, text: &[u8]) -> Result<(u8, u32, u32), Fail> {
+    fault_in(query_of(alloc, text)?)
 }
 
-// The text of a chain of 999 atoms, in which each but the ends is a link.
-fn many_links(alloc: Global) -> Result<Vec<u8>, Fail> {
-    let mut out = Vec::from_slice(alloc, b"$MDL\n$MOL\n$HDR\n\n\n\n$END HDR\n$CTAB\n999998\n")?;
-    for _ in 0..999 {
-        out.extend_from_slice(b"    0.0000    0.0000    0.0000 C\n")?;
-    }
-    for i in 1..999 {
-        put_padded(alloc, &mut out, i)?;
-        put_padded(alloc, &mut out, i + 1)?;
-        out.extend_from_slice(b"  1\n")?;
-    }
-    for i in 1..998 {
-        out.extend_from_slice(b"M  LIN  1 ")?;
-        put_padded(alloc, &mut out, i + 1)?;
-        out.extend_from_slice(b"   2 ")?;
-        put_padded(alloc, &mut out, i)?;
-        out.extend_from_slice(b" ")?;
-        put_padded(alloc, &mut out, i + 2)?;
-        out.extend_from_slice(b"\n")?;
-    }
-    out.extend_from_slice(b"M  END\n$END CTAB\n$END MOL\n")?;
-    Ok(out)
+/// The same of a raw query.
+pub fn fault_of_raw(alloc: Global, raw: &RawQuery) -> Result<(u8, u32, u32), Fail>
+    requires raw { IsRawQuery raw.now }
+    requires few_members { member_count raw.now + 1 < 2 ^ 32 }
+    requires few_properties { HaveFewProperties raw.now }
+{
+    fault_in(compile(alloc, raw))
 }
 
-fn put_padded(alloc: Global, out: &mut Vec<u8>, n: u64) -> Result<(), Fail> {
-    if n < 100 {
-        out.extend_from_slice(b" ")?;
-    }
-    if n < 10 {
-        out.extend_from_slice(b" ")?;
-    }
-    put_number(alloc, out, n)?;
-    Ok(())
-}
-
-// 999 links side by side, each of which is looked at.
-#[test]
-fn looks_at_999_links(rt: HostRuntime) -> Result<(), Fail> {
-    let alloc = rt.alloc();
-    assert!(rt; fault_of(alloc, &many_links(alloc)?)? == (13, 0, 0));
-    Ok(())
-}
-
-// The text of an RGfile.
-fn rgfile(alloc: Global, root: &str, groups: &[(u64, &[&str])]) -> Result<Vec<u8>, Fail> {
-    let mut out = Vec::from_slice(alloc, b"$MDL\n$MOL\n$HDR\n\n\n\n$END HDR\n")?;
-    put_table(alloc, &mut out, root)?;
-    for (number, members) in groups {
-        out.extend_from_slice(b"$RGP\n")?;
-        put_number(alloc, &mut out, *number)?;
-        out.push(b'\n')?;
-        for member in *members {
-            put_table(alloc, &mut out, member)?;
-        }
-        out.extend_from_slice(b"$END RGP\n")?;
-    }
-    out.extend_from_slice(b"$END MOL\n")?;
-    Ok(out)
-}
-
-fn put_table(alloc: Global, out: &mut Vec<u8>, sketch: &str) -> Result<(), Fail> {
-    out.extend_from_slice(b"$CTAB\n")?;
-    let table = table_of_sketch(alloc, sketch)?;
-    out.extend_from_slice(&table)?;
-    out.extend_from_slice(b"$END CTAB\n")?;
-    Ok(())
-}
-
-// The check, the table and the item that are named, and zeros where the query passes.
-fn fault_of(alloc: Global, text: &[u8]) -> Result<(u8, u32, u32), Fail> {
-    match query_of(alloc, text)? {
+fn fault_in(found: Result<Query, CompileFault>) -> Result<(u8, u32, u32), Fail> {
+    match found {
         Ok(_) => Ok((0, 0, 0)),
         Err(CompileFault::Check { check, table, item }) => Ok((check, table, item)),
         Err(CompileFault::Memory) => Err(Fail::from("no memory")),
+    }
+}
+
+fn fault_of_root(alloc: Global, text: &[u8]) -> Result<Option<Fault>, Fail> {
+    match read_rgfile(alloc, text) {
+        Ok(raw) if raw.root.props.as_slice().len() < 100 => Ok(first_fault(
+            alloc,
+            raw.groups.as_slice(),
+            true,
+            &raw.root,
+        )?),
+        _ => Err(Fail::from("no query file")),
     }
 }
 

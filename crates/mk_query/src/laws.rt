@@ -1,5 +1,5 @@
 // Laws over the definitions alone, each carried by a function that does nothing but cite the laws that it rests on.
-ghost use Rattle.mk_query.specs.Laws.{FaultOrQuery, KeptTextIsTheQuery, NoFaultWhereAllPass, OneFirstFault, OneQuery};
+ghost use Rattle.mk_query.specs.Laws.{FaultOrQuery, KeptTextIsTheQuery, NoFaultWhereAllPass, OneFirstFault, OneQuery, PassedQueriesFit};
 
 use mk_logic::one_range;
 use mk_rgfile::kept_lines_are_the_query;
@@ -26,6 +26,11 @@ pub fn fault_or_query()
 {
     one_query();
 }
+
+/// The query of a raw query such as is read keeps what every query keeps, where it passes every check.
+pub fn passed_queries_fit()
+    ensures { PassedQueriesFit }
+{}
 
 /// The kept lines of a query file of which every table passes its own checks are a query file too, with the same raw query: no
 /// symbol and no range text that passes ends with CR.

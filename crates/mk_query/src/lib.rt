@@ -22,6 +22,8 @@ mod compiling;
 mod drawn;
 mod drawn_bonds;
 mod element_kinds;
+#[cfg(test)]
+mod large_tests;
 mod laws;
 mod link_ends;
 #[cfg(test)]
@@ -47,6 +49,8 @@ mod site_orders;
 #[cfg(test)]
 mod site_tests;
 mod sites;
+#[cfg(test)]
+mod size_tests;
 mod standing;
 mod standing_atoms;
 mod table_faults;
@@ -64,7 +68,9 @@ mod whole_checks;
 pub use checking::first_fault;
 pub use compile_fault::CompileFault;
 pub use compiling::compile;
-pub use laws::{fault_or_query, kept_text_is_the_query, one_first_fault, one_query};
+pub use laws::{
+    fault_or_query, kept_text_is_the_query, one_first_fault, one_query, passed_queries_fit,
+};
 pub use mk_text::Memory;
 pub use point_fits::{SitePlace, first_misfit};
 pub use recursion::first_recursive;

@@ -18,7 +18,7 @@ macro_rules! drawn {
 }
 
 // A name, the lines of a table, and the check and the item that are named; check 0 where it passes all.
-static ROWS: [(&str, &str, u8, u32); 22] = [
+static ROWS: [(&str, &str, u8, u32); 24] = [
     (
         "a list for an L",
         drawn!("  1  0  1", ["L"], "  1 F    2   7   8\n"),
@@ -172,6 +172,26 @@ static ROWS: [(&str, &str, u8, u32); 22] = [
             "  3  2",
             ["C", "R#", "N"],
             "  1  2  1\n  2  3  1\nM  RGP  1   2   1\nM  AAL   2  2   3   1   1   1\n"
+        ),
+        7,
+        2,
+    ),
+    (
+        "an order of one neighbour of two",
+        drawn!(
+            "  3  2",
+            ["C", "R#", "N"],
+            "  1  2  1\n  2  3  1\nM  RGP  1   2   1\nM  AAL   2  1   1   1\n"
+        ),
+        7,
+        2,
+    ),
+    (
+        "a neighbour twice",
+        drawn!(
+            "  3  2",
+            ["C", "R#", "N"],
+            "  1  2  1\n  2  3  1\nM  RGP  1   2   1\nM  AAL   2  2   1   1   1   2\n"
         ),
         7,
         2,

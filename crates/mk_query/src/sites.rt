@@ -1,9 +1,10 @@
 // What is demanded of the labels and the neighbours of sites.
-ghost use Rattle.std.specs.Prelude.{◌≡◌, ◌≤◌, ◌↔◌, ◌||◌, not, ℤ, pos, List, IfOk, IsTrue, length};
+ghost use Rattle.std.specs.Prelude.{◌≡◌, ◌≤◌, ◌↔◌, ◌&&◌, ◌||◌, not, ℤ, List, IfOk, IsTrue, length};
 ghost use Rattle.mk_text.specs.Items.{FindsLeast};
+ghost use Rattle.mk_rgfile.specs.declared.raw_query.RawGroup.{RawGroup};
 ghost use Rattle.mk_query.specs.Drawn.{is_site};
-ghost use Rattle.mk_query.specs.Marks.{are_apart, IsLabels, site_mark};
-ghost use Rattle.mk_query.specs.SiteChecks.{HasLabel, HasMember, HasSitePlace, IsLabelled};
+ghost use Rattle.mk_query.specs.Marks.{are_apart, AreServed, IsLabels, is_served, site_mark};
+ghost use Rattle.mk_query.specs.SiteChecks.{HasLabel, HasSitePlace, IsLabelled};
 
 use crate::drawn::{is_site, labels_of, neighbours_of, sites_of};
 use crate::marks::{Labels, Near};
@@ -12,58 +13,64 @@ use mk_rgfile::RawGroup;
 use mk_text::Memory;
 use std::alloc::Global;
 
+// How many numbers a byte tells.
+const NUMBERS: usize = 256;
+
+/// For each number whether a group that bears it has a member.
+pub fn served_numbers(alloc: Global, groups: &[RawGroup]) -> Result<Vec<bool>, Memory>
+    ensures { IfOk result (λ served. AreServed groups.now served.items) }
+{
+    let mut served = vec![in alloc; false; NUMBERS]?;
+    for group in groups {
+        if group.members.as_slice().is_empty() {
+            continue;
+        }
+        served[group.number as usize] = true;
+    }
+    Ok(served)
+}
+
 /// The first atom that is a site without a label, has a label and is none, or whose label isn't the only one or names no members.
 pub fn first_unlabelled_atom(
     alloc: Global,
-    groups: &[RawGroup],
+    served: &[bool],
     table: &RawTable,
 ) -> Result<Option<u32>, Memory>
     requires { length table.now.atoms ≤ 999 }
-    ensures { IfOk result (FindsLeast (HasLabel groups.now table.now)) }
+    ensures { IfOk result (λ found. (groups : List RawGroup) → AreServed groups served.now → FindsLeast (HasLabel groups table.now) found) }
 {
     let atoms = table.atoms.as_slice();
     let labels = labels_of(alloc, atoms.len() as u32, table.props.as_slice())?;
     for (i, atom) in atoms.iter().enumerate() {
-        if !is_labelled(groups, atom, labels[i]) {
+        if !is_labelled(served, atom, labels[i]) {
             return Ok(Some(i as u32 + 1));
         }
     }
     Ok(None)
 }
 
-fn is_labelled(groups: &[RawGroup], atom: &RawAtom, labels: Labels) -> bool
-    ensures { (those : List ℤ) → IsLabels those labels → (IsTrue result ↔ IsLabelled groups.now those atom.now) }
+fn is_labelled(served: &[bool], atom: &RawAtom, labels: Labels) -> bool
+    ensures { (groups : List RawGroup) (those : List ℤ) → AreServed groups served.now → IsLabels those labels
+        → (IsTrue result ↔ IsLabelled groups those atom.now) }
 {
     match labels {
         Labels::Nothing => !is_site(atom),
-        Labels::One(label) => is_site_of(groups, atom, label),
+        Labels::One(label) => is_site_of(served, atom, label),
         Labels::More => false,
     }
 }
 
-fn is_site_of(groups: &[RawGroup], atom: &RawAtom, label: i32) -> bool
-    ensures { IsTrue result ↔ (IsTrue (is_site atom.now) × HasMember groups.now label) }
+fn is_site_of(served: &[bool], atom: &RawAtom, label: i32) -> bool
+    ensures { result ≡ (is_site atom.now && is_served served.now label) }
 {
-    is_site(atom) && has_member(groups, label)
+    is_site(atom) && is_served(served, label)
 }
 
-// Whether a group of this number has a member.
-fn has_member(groups: &[RawGroup], label: i32) -> bool
-    ensures { IsTrue result ↔ HasMember groups.now label }
+// What is noted of the number that a label is.
+fn is_served(served: &[bool], label: i32) -> bool
+    ensures { result ≡ is_served served.now label }
 {
-    for group in groups {
-        if serves(group, label) {
-            return true;
-        }
-    }
-    false
-}
-
-// Whether the group has this number, and a member.
-fn serves(group: &RawGroup, label: i32) -> bool
-    ensures { IsTrue result ↔ ((pos group.now.number ≡ label) × (1 ≤ length group.now.members)) }
-{
-    group.number as i32 == label && group.members.as_slice().len() >= 1
+    label >= 0 && served.get(label as usize).copied().unwrap_or(false)
 }
 
 /// The first site that hasn't one or two neighbours, or has one that is a site.

@@ -1,14 +1,17 @@
 // The tables of a raw query: the first that fails a check of its own, and their templates.
-ghost use Rattle.std.specs.Prelude.{◌≡◌, ◌≤◌, ◌<◌, ◌+◌, ◌++◌, ◌^◌, false, All, IfOk, List, OnOk, length};
+ghost use Rattle.std.specs.Prelude.{◌≡◌, ◌≤◌, ◌<◌, ◌+◌, ◌++◌, ◌^◌, false, true, All, IfOk, List, OnOk, length};
 ghost use Rattle.mk_ctab.specs.declared.raw.RawTable.{RawTable as Table};
 ghost use Rattle.mk_ctab.specs.TableFacts.{IsRawTable};
+ghost use Rattle.mk_rgfile.specs.declared.raw_query.RawGroup.{RawGroup as Group};
 ghost use Rattle.mk_rgfile.specs.QueryFacts.{IsRawQuery, member_count};
 ghost use Rattle.mk_query.specs.Compiled.{AreTemplatesOf, tables_of};
 ghost use Rattle.mk_query.specs.FirstFault.{PassesAll};
-ghost use Rattle.mk_query.specs.TableWalk.{FindsInMembers, FindsInTables, HasFewProperties, HaveFewProperties, PassNested};
+ghost use Rattle.mk_query.specs.Marks.{AreServed};
+ghost use Rattle.mk_query.specs.TableWalk.{FindsInMembers, FindsInRoot, FindsInTables, HasFewProperties, HaveFewProperties, PassNested};
 
-use crate::checking::first_fault;
+use crate::checking::fault_by;
 use crate::compile_fault::FaultAt;
+use crate::sites::served_numbers;
 use crate::table_faults::Fault;
 use crate::templates::template_of;
 use mk_ctab::RawTable;
@@ -24,14 +27,44 @@ pub fn first_in_tables(alloc: Global, raw: &RawQuery) -> Result<Option<FaultAt>,
     requires few_properties { HaveFewProperties raw.now }
     ensures { IfOk result (FindsInTables raw.now) }
 {
-    let groups = raw.groups.as_slice();
-    if let Some(fault) = first_fault(alloc, groups, true, &raw.root)? {
+    let served = served_numbers(alloc, raw.groups.as_slice())?;
+    if let Some(fault) = fault_of_root(alloc, &served, raw)? {
+        return Ok(Some(fault));
+    }
+    first_in_groups(alloc, &served, raw)
+}
+
+// The first fault of the root.
+fn fault_of_root(alloc: Global, served: &[bool], raw: &RawQuery) -> Result<Option<FaultAt>, Memory>
+    requires raw { IsRawQuery raw.now }
+    requires few_properties { HaveFewProperties raw.now }
+    requires served { AreServed raw.now.groups served.now }
+    ensures { IfOk result (FindsInRoot raw.now) }
+{
+    if let Some(fault) = fault_by(alloc, served, true, &raw.root)? {
         return Ok(Some(fault_at(0, fault)));
     }
+    Ok(None)
+}
+
+// The first fault of the members, where the root passes.
+fn first_in_groups(
+    alloc: Global,
+    served: &[bool],
+    raw: &RawQuery,
+) -> Result<Option<FaultAt>, Memory>
+    requires raw { IsRawQuery raw.now }
+    requires few_members { member_count raw.now + 1 < 2 ^ 32 }
+    requires few_properties { HaveFewProperties raw.now }
+    requires served { AreServed raw.now.groups served.now }
+    requires root { PassesAll raw.now.groups true raw.now.root }
+    ensures { IfOk result (FindsInTables raw.now) }
+{
+    let groups = raw.groups.as_slice();
     let mut t = 1;
     for i in 0..groups.len() {
         let members = groups[i].members.as_slice();
-        if let Some(fault) = first_in_members(alloc, groups, members, t)? {
+        if let Some(fault) = first_in_members(alloc, served, members, t)? {
             return Ok(Some(fault));
         }
         t += members.len() as u32;
@@ -42,17 +75,17 @@ pub fn first_in_tables(alloc: Global, raw: &RawQuery) -> Result<Option<FaultAt>,
 // The first fault of the first of these members that fails a check, where they count from t on.
 fn first_in_members(
     alloc: Global,
-    groups: &[RawGroup],
+    served: &[bool],
     members: &[RawTable],
     t: u32,
 ) -> Result<Option<FaultAt>, Memory>
     requires raw { All IsRawTable members.now }
     requires few { t + length members.now < 2 ^ 32 }
     requires few_properties { All HasFewProperties members.now }
-    ensures { IfOk result (FindsInMembers groups.now members.now t) }
+    ensures { IfOk result (λ found. (groups : List Group) → AreServed groups served.now → FindsInMembers groups members.now t found) }
 {
     for k in 0..members.len() {
-        if let Some(fault) = first_fault(alloc, groups, false, &members[k])? {
+        if let Some(fault) = fault_by(alloc, served, false, &members[k])? {
             return Ok(Some(fault_at(t + k as u32, fault)));
         }
     }

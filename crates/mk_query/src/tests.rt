@@ -18,7 +18,7 @@ macro_rules! bonded {
 }
 
 // A name, the lines of a table, and the check and the item that are named; check 0 where it passes all.
-const ROWS: [(&str, &str, u8, u32); 26] = [
+const ROWS: [(&str, &str, u8, u32); 28] = [
     (
         "an unknown symbol",
         "  2  0\n                               C\n                               Xx\nM  END\n",
@@ -109,6 +109,14 @@ const ROWS: [(&str, &str, u8, u32); 26] = [
         2,
         1,
     ),
+    (
+        "the least and the greatest values",
+        bonded!(
+            "M  CHG  2   1 -15   2  15\nM  RAD  2   1   0   2   3\nM  RBC  2   1  -2   2   4\nM  SUB  2   1  -2   2   6\nM  UNS  2   1   0   2   1\n"
+        ),
+        0,
+        0,
+    ),
     ("a charge of -16", bonded!("M  CHG  1   1 -16\n"), 3, 1),
     (
         "the second property",
@@ -117,7 +125,6 @@ const ROWS: [(&str, &str, u8, u32); 26] = [
         2,
     ),
     ("ring bonds 1", bonded!("M  RBC  1   1   1\n"), 3, 1),
-    ("ring bonds -2", bonded!("M  RBC  1   1  -2\n"), 0, 0),
     ("substitution 7", bonded!("M  SUB  1   1   7\n"), 3, 1),
     ("unsaturation 2", bonded!("M  UNS  1   1   2\n"), 3, 1),
     ("label 33", bonded!("M  RGP  1   1  33\n"), 3, 1),
@@ -125,6 +132,13 @@ const ROWS: [(&str, &str, u8, u32); 26] = [
     (
         "an isotope of no atom",
         bonded!("M  ISO  1   3  13\n"),
+        3,
+        1,
+    ),
+    ("a list of no atom", bonded!("M  ALS   3  1 F C   \n"), 3, 1),
+    (
+        "an order of no atom",
+        bonded!("M  AAL   3  1   1   1\n"),
         3,
         1,
     ),
