@@ -1,5 +1,5 @@
 -- One change of a library: what it keeps, and which tables it leaves.
-use Rattle.std.proofs.Common.{[], ◌∷◌, ◌≡◌, ℕ, ◌+◌, ◌-◌, ◌<◌, ◌≤◌, ◌⊎◌, inl, inr, max, true, false, List, length, Some, arith, refl, sym, ap, ◌∙◌, subst}
+use Rattle.std.proofs.Common.{[], ◌∷◌, ◌≡◌, ℕ, ◌+◌, ◌-◌, ◌<◌, ◌≤◌, inl, inr, true, false, List, length, Some, arith, refl, sym, ap, ◌∙◌, subst}
 use Rattle.std.specs.List.{AllByRecursion}
 use Rattle.std.proofs.lemmas.Bool.{true≢false}
 use Rattle.std.proofs.lemmas.List.{length-map}
@@ -11,7 +11,7 @@ use Rattle.mk_model.specs.Molecules.{Molecule}
 use Rattle.mk_outside.specs.declared.tables.RecordRow.{RecordRow}
 use Rattle.mk_outside.specs.declared.tables.Change.TheVariants.{PutRecord, DropRecord}
 use Rattle.mk_outside.specs.Tables.{after_change}
-use Rattle.mk_library.specs.Records.{IsMoleculeOf, is_held, records_of, text_bytes}
+use Rattle.mk_library.specs.Records.{IsMoleculeOf, records_of, text_bytes}
 use Rattle.mk_library.specs.Limits.{IsWithinLimits, most_bytes, most_number}
 use Rattle.mk_library.specs.Library.{IsKept, record_tables}
 use Rattle.mk_library.specs.Pending.{IsNumbered, KeepsLimits}

@@ -1,8 +1,8 @@
 -- The answers of edits: each refusal is the first, and what isn't refused is allowed.
-use Rattle.std.proofs.Common.{[], ◌∷◌, ◌++◌, ◌≡◌, ◌≢◌, ℕ, ◌+◌, ◌<◌, ◌≤◌, true, false, not, List, length, nat_eq, get_or, All, Err, arith, refl, sym, ap, ◌∙◌, subst, inl, ◌⊎◌}
+use Rattle.std.proofs.Common.{[], ◌∷◌, ◌++◌, ◌≡◌, ◌≢◌, ℕ, ◌<◌, ◌≤◌, true, false, not, List, length, nat_eq, get_or, All, Err, arith, refl, sym, ap, ◌∙◌, subst}
 use Rattle.std.specs.List.{AllByRecursion}
 use Rattle.std.proofs.lemmas.Bool.{cond_both, eqb-true, true≢false}
-use Rattle.std.proofs.lemmas.List.Elements.{All-cons, All-head, All-tail}
+use Rattle.std.proofs.lemmas.List.Elements.{All-head, All-tail}
 use Rattle.std.proofs.lemmas.Grind.{common_steps}
 use Rattle.mk_text.specs.Lines.{lines_of}
 use Rattle.mk_outside.specs.declared.tables.RecordRow.{RecordRow}
@@ -12,19 +12,18 @@ use Rattle.mk_outside.specs.Tables.{after_batch, record_number}
 use Rattle.mk_outside.specs.Rows as outside
 use Rattle.mk_sdfile.specs.declared.raw_record.RawRecord.{RawRecord}
 use Rattle.mk_sdfile.specs.Sdfile.{IsBadSdfileLine, IsSdfile}
-use Rattle.mk_sdfile.proofs.SdfileLemmas.{bad_where_none, one}
+use Rattle.mk_sdfile.proofs.ForCallers.{bad_where_none, one}
 use Rattle.mk_mol.proofs.ForCallers.{no_fault}
 use Rattle.mk_library.specs.declared.refusal.LoadRefusal.{LoadRefusal}
 use Rattle.mk_library.specs.declared.refusal.LoadRefusal.TheVariants as refusal
 use Rattle.mk_library.specs.Records.{is_held, text_bytes}
 use Rattle.mk_library.specs.Limits.{HasKnownNumber, IsWithinLimits, file_bytes, most_number}
-use Rattle.mk_library.specs.Library.{IsLibrary, LibraryView, record_tables}
+use Rattle.mk_library.specs.Library.{record_tables}
 use Rattle.mk_library.specs.Edits.{AreChanges, Edit, Load, Remove, Replace, puts_from, texts_of}
 use Rattle.mk_library.specs.FirstRefusal.{Demand, Demands, IfRefused, IsAllowed, IsFirstFailing, IsFirstRefusal, IsMoleculeRecord, held_number, kept_limits, molecules, one_record, order, sdfile, short_file}
 use Rattle.mk_library.specs.Pending.{KeepsLimits}
-use Rattle.mk_library.specs.Steps.{AreMolecules, ArePreparedOf, IsFileRefused, LoadKeeps}
+use Rattle.mk_library.specs.Steps.{ArePreparedOf, IsFileRefused, LoadKeeps}
 use Rattle.mk_library.proofs.LoadLemmas.{load_within, within_keeps}
-use Rattle.mk_library.proofs.StepsLemmas.{all_pass}
 
 -- ---- demands below a number
 

@@ -1,5 +1,5 @@
 -- A molecules' file has no more records than lines.
-use Rattle.std.proofs.Common.{[], ◌∷◌, ◌++◌, ◌≡◌, ℕ, ◌+◌, ◌<◌, ◌≤◌, List, length, arith, refl, sym, ap, ◌∙◌, length-append}
+use Rattle.std.proofs.Common.{[], ◌∷◌, ◌≤◌, List, length, arith, length-append}
 use Rattle.std.specs.Prelude.{Option, Some, None, MatchOption, option_to_list, true}
 use Rattle.mk_form.specs.ToEnd.{EachIs}
 use Rattle.mk_text.specs.Columns.{are_blank}

@@ -7,3 +7,7 @@ pub mod LoadLemmas
 pub mod EditLemmas
 pub mod StoredLemmas
 pub mod RebuiltLemmas
+pub mod TextLengthLemmas
+pub mod GoodRowsLemmas
+pub mod EditedRowsLemmas
+pub mod ForCallers

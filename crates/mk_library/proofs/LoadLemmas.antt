@@ -1,24 +1,23 @@
 -- Records added under the numbers from the next one on.
-use Rattle.std.proofs.Common.{[], ◌∷◌, ◌++◌, ◌≡◌, ℕ, zero, suc, ◌+◌, ◌-◌, ◌<◌, ◌≤◌, max, false, List, length, map, nat_eq, nat_lt, All, arith, refl, sym, ap, ◌∙◌, subst, length-append, inr}
+use Rattle.std.proofs.Common.{[], ◌∷◌, ◌++◌, ◌≡◌, ℕ, zero, suc, ◌+◌, ◌<◌, ◌≤◌, max, false, List, length, nat_eq, All, arith, refl, sym, ap, ◌∙◌, subst, length-append, inr}
 use Rattle.std.specs.List.{AllByRecursion, list_any}
 use Rattle.std.proofs.lemmas.List.{append-nil, append_assoc, length-map}
 use Rattle.std.proofs.lemmas.List.Elements.{All-head, All-tail}
 use Rattle.std.proofs.lemmas.Grind.{common_steps}
 use Rattle.mk_model.specs.Molecules.{IsMolecule, Molecule}
 use Rattle.mk_outside.specs.declared.tables.RecordRow.{RecordRow}
-use Rattle.mk_outside.specs.declared.tables.Change.{Change}
 use Rattle.mk_outside.specs.declared.tables.Change.TheVariants.{PutRecord}
 use Rattle.mk_outside.specs.Rows.{put, in_order}
 use Rattle.mk_outside.specs.Store.{record_puts}
 use Rattle.mk_outside.specs.Tables.{after_batch, after_change, record_number}
 use Rattle.mk_sdfile.specs.declared.raw_record.RawRecord.{RawRecord}
 use Rattle.mk_sdfile.specs.Sdfile.{IsSdfile}
-use Rattle.mk_sdfile.proofs.SdfileTextLemmas.{text_is_its_record}
+use Rattle.mk_sdfile.proofs.ForCallers.{text_is_its_record}
 use Rattle.mk_text.specs.Lines.{lines_of}
 use Rattle.mk_ctab.specs.KeptTables.{KeepsItsText}
 use Rattle.mk_mol.specs.FirstFault.{PassesAll, known_atoms, known_properties}
 use Rattle.mk_mol.specs.Filled.{IsFilled}
-use Rattle.mk_mol.proofs.LawLemmas.{keeps_text}
+use Rattle.mk_mol.proofs.ForCallers.{keeps_text}
 use Rattle.mk_library.specs.Records.{IsMoleculeOf, text_bytes}
 use Rattle.mk_library.specs.Limits.{HasKnownNumber, IsWithinLimits, most_number, most_records}
 use Rattle.mk_library.specs.Library.{record_tables}
@@ -45,14 +44,14 @@ unfolding put
 put_behind row records below = rw (none_there row.number records below) (behind_all row records below)
 
 -- the tables behind a record that is put under the next number
-change_behind : (n : ℕ) (text : List ℕ) (records : List RecordRow) → AllByRecursion (λ (x : RecordRow). x.number < n) records
+pub change_behind : (n : ℕ) (text : List ℕ) (records : List RecordRow) → AllByRecursion (λ (x : RecordRow). x.number < n) records
     → after_change (PutRecord n text) (record_tables records n) ≡ record_tables (records ++ record { number = n; text = text } ∷ []) (n + 1)
 change_behind n text records below =
     let next : max n (n + 1) ≡ n + 1 = omega arith in
     ap (λ (xs : List RecordRow). record_tables xs (max n (n + 1))) (put_behind (record { number = n; text = text }) records below)
     ∙ ap (λ m. record_tables (records ++ record { number = n; text = text } ∷ []) m) next
 
-below_behind : (n : ℕ) (text : List ℕ) (records : List RecordRow) → AllByRecursion (λ (x : RecordRow). x.number < n) records
+pub below_behind : (n : ℕ) (text : List ℕ) (records : List RecordRow) → AllByRecursion (λ (x : RecordRow). x.number < n) records
     → AllByRecursion (λ (x : RecordRow). x.number < n + 1) (records ++ record { number = n; text = text } ∷ [])
 below_behind n text [] below = (omega arith, tt)
 below_behind n text (x ∷ records) below = (omega (arith, below.0), below_behind n text records below.1)
@@ -88,7 +87,7 @@ first_known records texts n text limits keeps = record {
   numbers = let known = keeps.numbers 0 (omega arith) in known_behind (record { number = n; text = text }) records (omega (arith, known)) limits.numbers;
 }
 
-others_keep : (records : List RecordRow) (texts : List (List ℕ)) (n : ℕ) (text : List ℕ) → LoadKeeps records n (text ∷ texts)
+pub others_keep : (records : List RecordRow) (texts : List (List ℕ)) (n : ℕ) (text : List ℕ) → LoadKeeps records n (text ∷ texts)
     → LoadKeeps (records ++ record { number = n; text = text } ∷ []) (n + 1) texts
 others_keep records texts n text keeps = record {
   few = rw length-append (omega (arith, keeps.few));

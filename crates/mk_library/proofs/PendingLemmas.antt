@@ -1,11 +1,10 @@
 -- Pending changes: what they keep, and how they are made one after another.
-use Rattle.std.proofs.Common.{[], ◌∷◌, ◌≡◌, ℕ, ◌+◌, ◌≤◌, List, length, All, arith, refl, sym, ap, ◌∙◌, subst}
+use Rattle.std.proofs.Common.{[], ◌∷◌, List, All, arith, refl}
 use Rattle.std.proofs.lemmas.List.Elements.{All-cons, All-head, All-tail}
 use Rattle.mk_model.specs.Molecules.{Molecule}
 use Rattle.mk_outside.specs.declared.tables.Change.{Change}
 use Rattle.mk_outside.specs.declared.tables.Change.TheVariants.{PutRecord, DropRecord, PutQuery, DropQuery, PutCursor, DropCursor}
-use Rattle.mk_outside.specs.declared.tables.Tables.{Tables}
-use Rattle.mk_outside.specs.Tables.{after_batch, after_change, CanKeep}
+use Rattle.mk_outside.specs.Tables.{after_change, CanKeep}
 use Rattle.mk_library.specs.Pending.{ArePrepared, IsOfRecords, RecordsChangeAlone}
 
 none_left : (P : Change → Type 0) → All P []

@@ -12,7 +12,7 @@ use Rattle.mk_sdfile.specs.declared.raw_record.RawRecord.{RawRecord}
 use Rattle.mk_mol.specs.Filled.{IsFilled}
 use Rattle.mk_mol.specs.Laws.{OneFilledMolecule}
 use Rattle.mk_library.specs.Records.{AreHeld, AreRising, IsMoleculeOf, IsRecordText, record_of, records_of, text_bytes}
-use Rattle.mk_library.specs.Limits.{HasKnownNumber, IsWithinLimits, most_bytes, most_number, most_records}
+use Rattle.mk_library.specs.Limits.{HasKnownNumber, most_bytes}
 use Rattle.mk_library.specs.Library.{IsLibrary, LibraryView}
 use Rattle.mk_library.specs.Steps.{GoesBehind}
 use Rattle.mk_library.proofs.StoredLemmas.{same_raw}

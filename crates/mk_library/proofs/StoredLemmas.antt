@@ -1,9 +1,9 @@
 -- Stored rows, one after another.
-use Rattle.std.proofs.Common.{[], ◌∷◌, ◌++◌, ◌≡◌, ◌≢◌, ℕ, zero, suc, ◌+◌, ◌-◌, ◌<◌, ◌≤◌, true, false, List, length, take, nat_eq, Some, get_or, add-one, inl, inr, arith, refl, sym, ap, ◌∙◌, subst}
+use Rattle.std.proofs.Common.{[], ◌∷◌, ◌++◌, ◌≡◌, ◌≢◌, ℕ, zero, suc, ◌+◌, ◌<◌, ◌≤◌, true, false, List, length, take, Some, get_or, add-one, inl, inr, arith, refl, sym, ap, ◌∙◌, subst}
 use Rattle.std.specs.Prelude.{slice_get}
 use Rattle.std.specs.List.{AllByRecursion}
-use Rattle.std.proofs.lemmas.Bool.{cases_lt, eqb-true, true≢false}
-use Rattle.std.proofs.lemmas.List.{length-append, length-map}
+use Rattle.std.proofs.lemmas.Bool.{cases_lt, true≢false}
+use Rattle.std.proofs.lemmas.List.{length-append}
 use Rattle.std.proofs.lemmas.Grind.{common_steps}
 use Rattle.mk_text.specs.Lines.{lines_of}
 use Rattle.mk_index.specs.declared.by_number.Numbered.{Numbered}
@@ -11,17 +11,16 @@ use Rattle.mk_index.specs.Rows.{holds, IsLeastFrom, NoneFrom, put_in_order}
 use Rattle.mk_index.proofs.ForCallers.{none_of, put_rising}
 use Rattle.mk_model.specs.Molecules.{Molecule}
 use Rattle.mk_outside.specs.declared.tables.RecordRow.{RecordRow}
-use Rattle.mk_outside.specs.Tables.{record_number}
 use Rattle.mk_sdfile.specs.declared.raw_record.RawRecord.{RawRecord}
 use Rattle.mk_sdfile.specs.Sdfile.{IsBadSdfileLine, IsSdfile}
-use Rattle.mk_sdfile.proofs.SdfileLemmas.{bad_where_none, one}
+use Rattle.mk_sdfile.proofs.ForCallers.{bad_where_none, one}
 use Rattle.mk_mol.specs.FirstFault.{IsFirstFault}
 use Rattle.mk_mol.proofs.ForCallers.{no_fault}
 use Rattle.mk_library.specs.Records.{IsMoleculeOf, IsRecordText, records_of, text_bytes}
-use Rattle.mk_library.specs.Limits.{IsWithinLimits, most_number}
+use Rattle.mk_library.specs.Limits.{IsWithinLimits}
 use Rattle.mk_library.specs.Library.{IsKept}
 use Rattle.mk_library.specs.Steps.{GoesBehind}
-use Rattle.mk_library.specs.StoredRows.{AllRead, HasPlace, ReadBefore, Reads}
+use Rattle.mk_library.specs.StoredRows.{AllRead, ReadBefore, Reads}
 use Rattle.std.proofs.lemmas.Option.{slice_get_within}
 use Rattle.mk_library.proofs.EditLemmas.{single}
 use Rattle.mk_library.proofs.LoadLemmas.{behind_all, bytes_behind, known_behind}

@@ -5,4 +5,5 @@ pub mod Edits
 pub mod Pending
 pub mod FirstRefusal
 pub mod StoredRows
+pub mod EditedRows
 pub mod Steps

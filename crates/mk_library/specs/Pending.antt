@@ -4,7 +4,7 @@
 --     PendingFits library pending  the library can make the change without memory
 --     IsOfRecords change           it puts or drops a record
 --     RecordsChangeAlone           such changes rest on the records and their next number alone, and change nothing else
-use Rattle.std.specs.Prelude.{◌≡◌, ℕ, ◌≤◌, true, List, [], ◌∷◌, All, ◌⊎◌, ⊤}
+use Rattle.std.specs.Prelude.{◌≡◌, ◌≤◌, true, List, [], ◌∷◌, All, ◌⊎◌, ⊤}
 use Rattle.mk_model.specs.Molecules.{Molecule}
 use Rattle.mk_outside.specs.declared.tables.Change.{Change}
 use Rattle.mk_outside.specs.declared.tables.Change.TheVariants.{PutRecord, DropRecord, PutQuery, DropQuery, PutCursor, DropCursor}

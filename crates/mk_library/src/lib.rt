@@ -14,6 +14,8 @@ mod editing;
 mod installing;
 mod laws;
 mod library;
+#[cfg(test)]
+mod limit_tests;
 mod molecules;
 mod pending;
 mod rebuilding;
@@ -22,7 +24,7 @@ mod restoring;
 #[cfg(test)]
 mod tests;
 
-pub use laws::records_change_alone;
+pub use laws::{edits_keep_reading, records_change_alone};
 pub use library::Library;
 pub use mk_index::Shelf;
 pub use mk_outside::{Bytes, Change, Memory, RecordRow};

@@ -2,3 +2,4 @@ pub mod SdfileLemmas
 pub mod SdfileStepsLemmas
 pub mod SdfileFactLemmas
 pub mod SdfileTextLemmas
+pub mod ForCallers

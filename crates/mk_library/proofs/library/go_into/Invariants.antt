@@ -1,4 +1,4 @@
-use Rattle.std.proofs.Common.{◌≡◌, ◌≤◌, ◌+◌, drop}
+use Rattle.std.proofs.Common.{◌≡◌, ◌+◌, drop}
 use Rattle.mk_library.specs.Steps.{bytes_of}
 use Rattle.mk_library.proofs.library.go_into.Given as goal
 

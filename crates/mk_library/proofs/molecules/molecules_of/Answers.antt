@@ -1,5 +1,4 @@
-use Rattle.std.proofs.Common.{◌≡◌, ◌+◌, ◌∙◌, ◌<◌, ◌≤◌, ◌^◌, length, arith, subst, sym, All}
-use Rattle.mk_sdfile.specs.declared.raw_record.RawRecord.{RawRecord}
+use Rattle.std.proofs.Common.{◌≡◌, ◌+◌, ◌∙◌, ◌<◌, ◌^◌, length, subst}
 use Rattle.mk_ctab.specs.TableFacts.{IsRawTable}
 use Rattle.mk_library.specs.FirstRefusal.{IsFirstFailing}
 use Rattle.mk_library.proofs.StepsLemmas.{of_next, part-fails, part-more}

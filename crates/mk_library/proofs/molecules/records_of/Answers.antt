@@ -1,4 +1,4 @@
-use Rattle.std.proofs.Common.{◌<◌, length, arith}
+use Rattle.std.proofs.Common.{arith}
 use Rattle.mk_text.specs.Lines.{lines_of}
 use Rattle.mk_text.proofs.ForCallers.{lines_few}
 use Rattle.mk_library.proofs.FileLemmas.{records_few}

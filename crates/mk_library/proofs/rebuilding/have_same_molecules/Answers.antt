@@ -1,5 +1,3 @@
-use Rattle.std.proofs.Common.{◌≡◌, ◌∙◌, sym, subst}
-use Rattle.mk_library.specs.Records.{AreHeld}
 use Rattle.mk_library.proofs.RebuiltLemmas.{same_rows}
 use Rattle.mk_library.proofs.rebuilding.have_same_molecules.Goals as goal
 

@@ -1,10 +1,9 @@
-use Rattle.std.proofs.Common.{◌≡◌, ◌∙◌, ◌<◌, ◌≤◌, ◌-◌, length, true, arith, sym, ap, subst, rules}
+use Rattle.std.proofs.Common.{◌<◌, ◌≤◌, ◌-◌, length, arith, sym, ap, subst}
 use Rattle.std.specs.List.{AllByRecursion}
 use Rattle.std.proofs.lemmas.List.{length-map}
 use Rattle.std.proofs.lemmas.Bool.{leb-true}
 use Rattle.mk_outside.specs.declared.tables.RecordRow.{RecordRow}
 use Rattle.mk_library.specs.Library.{LibraryView}
-use Rattle.mk_library.specs.Records.{records_of}
 use Rattle.mk_library.specs.StoredRows.{HasPlace}
 use Rattle.mk_library.proofs.StoredLemmas.{all_under, not_under}
 use Rattle.mk_library.proofs.library.Library.has_place.Goals as goal

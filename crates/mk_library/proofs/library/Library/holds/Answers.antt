@@ -1,4 +1,4 @@
-use Rattle.std.proofs.Common.{◌≡◌, ◌∙◌, ap, subst}
+use Rattle.std.proofs.Common.{◌∙◌, ap, subst}
 use Rattle.mk_library.specs.Library.{IsLibrary}
 use Rattle.mk_library.specs.Records.{is_held}
 use Rattle.mk_library.proofs.RecordsLemmas.{held_of, is_library}

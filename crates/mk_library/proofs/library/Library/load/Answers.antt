@@ -1,7 +1,6 @@
-use Rattle.std.proofs.Common.{◌≡◌, ◌∙◌, ◌≤◌, length, sym, ap, subst, arith, List, ℕ}
-use Rattle.mk_library.specs.Edits.{puts_from, texts_of}
-use Rattle.mk_library.specs.Library.{LibraryView, tables_of}
-use Rattle.mk_library.specs.Pending.{PendingView, ArePrepared, InTurn, IsNumbered, KeepsLimits}
+use Rattle.std.proofs.Common.{◌∙◌, arith}
+use Rattle.mk_library.specs.Edits.{texts_of}
+use Rattle.mk_library.specs.Pending.{PendingView}
 use Rattle.mk_library.specs.Steps.{LoadKeeps}
 use Rattle.mk_library.proofs.EditLemmas.{load_allowed, load_file, load_full, load_meaning}
 use Rattle.mk_library.proofs.LoadLemmas.{file_prepared, load_limits, load_numbered, puts_counted}

@@ -1,7 +1,5 @@
-use Rattle.std.proofs.Common.{◌≡◌, ◌≤◌, ◌∙◌, length, true, false, arith, sym, ap, subst, Some}
-use Rattle.mk_index.specs.Rows.{holds}
+use Rattle.std.proofs.Common.{◌∙◌, length, arith, sym, ap, subst}
 use Rattle.mk_outside.specs.declared.tables.Change.TheVariants.{PutRecord}
-use Rattle.mk_outside.specs.Tables.{after_change}
 use Rattle.mk_library.specs.Library.{LibraryView, tables_of}
 use Rattle.mk_library.specs.Pending.{IsNumbered, KeepsLimits}
 use Rattle.mk_library.proofs.ChangeLemmas.{former_within, held_kept, held_tables, new_kept, new_known, new_tables}

@@ -1,4 +1,4 @@
-use Rattle.std.proofs.Common.{◌≡◌, ◌∙◌, sym, ap, subst}
+use Rattle.std.proofs.Common.{◌∙◌, sym, subst}
 use Rattle.mk_library.specs.Library.{LibraryView}
 use Rattle.mk_library.specs.Steps.{GoesBehind}
 use Rattle.mk_library.proofs.RecordsLemmas.{holds_beside}

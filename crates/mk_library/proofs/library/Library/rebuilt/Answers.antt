@@ -1,6 +1,4 @@
-use Rattle.std.proofs.Common.{◌≡◌, ◌∙◌, ◌<◌, Some, length, refl, ap, subst, arith, rules, sym}
-use Rattle.std.specs.Prelude.{slice_get}
-use Rattle.std.proofs.lemmas.Option.{slice_get_read}
+use Rattle.std.proofs.Common.{◌∙◌, length, ap, arith, rules}
 use Rattle.mk_library.specs.Records.{record_of}
 use Rattle.mk_library.proofs.RebuiltLemmas.{again_behind, all_again, row_at, text_again, text_short}
 use Rattle.mk_library.proofs.StoredLemmas.{records_more}

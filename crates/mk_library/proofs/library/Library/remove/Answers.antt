@@ -1,6 +1,4 @@
-use Rattle.std.proofs.Common.{◌≡◌, ◌∙◌, sym, ap, subst, List, arith}
-use Rattle.mk_outside.specs.declared.tables.Change.{Change}
-use Rattle.mk_outside.specs.declared.tables.Change.TheVariants.{DropRecord}
+use Rattle.std.proofs.Common.{◌∙◌, sym, arith}
 use Rattle.mk_library.proofs.EditLemmas.{no_record_to_remove, remove_allowed, remove_keeps}
 use Rattle.mk_library.proofs.library.Library.remove.Goals as goal
 

@@ -1,11 +1,11 @@
-use Rattle.std.proofs.Common.{◌≡◌, ◌∙◌, ◌+◌, ◌<◌, ◌≤◌, length, sym, ap, subst, arith, List, [], ◌∷◌, ℕ, inl, All}
+use Rattle.std.proofs.Common.{◌≡◌, ◌∙◌, length, sym, ap, subst, arith, List, [], ◌∷◌, ℕ, inl, All}
 use Rattle.mk_outside.specs.declared.tables.Change.TheVariants.{PutRecord}
 use Rattle.mk_sdfile.specs.Sdfile.{IsSdfile}
 use Rattle.mk_text.specs.Lines.{lines_of}
 use Rattle.mk_library.specs.FirstRefusal.{IsMoleculeRecord}
 use Rattle.mk_library.specs.Library.{tables_of}
-use Rattle.mk_library.specs.Pending.{PendingView, IsNumbered, KeepsLimits}
-use Rattle.mk_library.specs.Edits.{puts_from, texts_of}
+use Rattle.mk_library.specs.Pending.{PendingView, KeepsLimits}
+use Rattle.mk_library.specs.Edits.{texts_of}
 use Rattle.mk_library.proofs.EditLemmas.{held_known, no_record_to_replace, not_one, only_text, replace_allowed, replace_file, replace_full, replace_meaning, single}
 use Rattle.mk_library.proofs.LoadLemmas.{file_prepared}
 use Rattle.mk_library.proofs.StepsLemmas.{all_pass}

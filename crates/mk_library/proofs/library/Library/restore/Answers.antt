@@ -1,8 +1,7 @@
-use Rattle.std.proofs.Common.{◌≡◌, ◌∙◌, ◌≤◌, List, take, Some, length, sym, ap, subst, refl, arith, rules}
+use Rattle.std.proofs.Common.{◌≡◌, ◌∙◌, take, Some, length, refl, rules}
 use Rattle.std.specs.Prelude.{slice_get}
 use Rattle.std.proofs.lemmas.Option.{slice_get_read}
-use Rattle.mk_outside.specs.declared.tables.RecordRow.{RecordRow}
-use Rattle.mk_library.specs.StoredRows.{HasPlace, Reads}
+use Rattle.mk_library.specs.StoredRows.{HasPlace}
 use Rattle.mk_library.proofs.StoredLemmas.{read_all, read_more, records_more}
 use Rattle.mk_library.proofs.library.Library.restore.Goals as goal
 

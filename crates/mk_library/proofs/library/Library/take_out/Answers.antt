@@ -1,4 +1,4 @@
-use Rattle.std.proofs.Common.{◌≡◌, ◌≤◌, ◌∙◌, length, true, arith, sym, ap}
+use Rattle.std.proofs.Common.{◌≡◌, ◌∙◌, length, true, arith, sym, ap}
 use Rattle.mk_index.specs.Rows.{holds}
 use Rattle.mk_library.specs.Records.{is_held}
 use Rattle.mk_library.proofs.ChangeLemmas.{former_within, out_kept, out_tables}

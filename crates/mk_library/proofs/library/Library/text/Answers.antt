@@ -1,4 +1,4 @@
-use Rattle.std.proofs.Common.{◌≡◌, ◌∙◌, ap, sym, Some}
+use Rattle.std.proofs.Common.{◌∙◌, ap, sym, Some}
 use Rattle.mk_library.specs.Records.{is_held, text_of}
 use Rattle.mk_library.proofs.RecordsLemmas.{held_of, text_there}
 use Rattle.mk_library.proofs.library.Library.text.Goals as goal
