@@ -8,8 +8,7 @@ use Rattle.std.proofs.Common.{◌≡◌, ℕ, ◌+◌, ◌-◌, ◌<◌, ◌≤�
 use Rattle.std.specs.Prelude.{option_to_list}
 use Rattle.std.proofs.lemmas.List.{append-nil, length-append, length-map}
 use Rattle.mk_text.specs.Rising.{AreFirst, Each, Holds, IsBelow, IsFrom, IsLeast, IsLeastFrom, IsRisingListOfAll, Rises}
-use Rattle.mk_text.proofs.ForCallers.{below_after, below_behind, below_joined, below_or_not, below_through, below_what_isnt, between_none, each_append, each_holds, each_mapped, holds_append, holds_before_map, holds_each, holds_either, holds_mapped, not_below_after, not_below_itself}
-use Rattle.mk_text.proofs.RisingLemmas.{rises_append, rises_mapped}
+use Rattle.mk_text.proofs.ForCallers.{below_after, below_behind, below_joined, below_or_not, below_through, below_what_isnt, between_none, each_append, each_holds, each_mapped, holds_append, holds_before_map, holds_each, holds_either, holds_mapped, not_below_after, not_below_itself, rises_append, rises_mapped}
 
 -- ---- the first so many
 
