@@ -1,0 +1,5 @@
+pub mod Draws
+pub mod DrillQuery
+pub mod Drill
+pub mod DrilledRecords
+pub mod Listing
