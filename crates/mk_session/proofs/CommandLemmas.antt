@@ -16,13 +16,13 @@ use Rattle.mk_session.specs.declared.command.LineKind.{LineKind}
 use Rattle.mk_session.specs.declared.command.LineKind.TheVariants as line_kind
 use Rattle.mk_session.specs.declared.command.WordsKind.{WordsKind}
 use Rattle.mk_session.specs.declared.command.WordsKind.TheVariants as words_kind
-use Rattle.mk_session.specs.Commands.{CanAsk, CanAskLine, CanAskWords, CommandsAreRead, IsName, IsRow, OneReading, command_in, file_in, held_number, is_built, is_name, kind_of_line, kind_of_order, kind_of_words, kind_of_words_order, limit_in, name_in, number_in, row_of, row_of_one, row_of_three, row_of_two, where_built, with_one, with_two, within}
+use Rattle.mk_session.specs.Commands.{CanAsk, CanAskLine, CanAskWords, CommandsAreRead, IsName, IsRow, OneReading, behind_store, command_in, file_in, held_number, is_name, kind_behind_store, kind_of_line, kind_of_order, kind_of_words, kind_of_words_order, limit_in, name_in, number_in, row_of_one, row_of_three, row_of_two, with_one, with_two, within}
 use Rattle.mk_session.specs.Commands.{MatchRow, LoadRow, ReplaceRow, RemoveRow, QueryRow, ForgetRow, SearchRow, ResumeRow, ShowRow, ListRow, DrillRow}
 
 -- ---- from a row to what computes it
 
-of_words : (words others : List (List ℕ)) (command : Command) → words ≡ others → row_of others ≡ Some command → row_of words ≡ Some command
-of_words words others command same is = subst (λ (ws : List (List ℕ)). row_of ws ≡ Some command) (sym same) is
+of_words : (words others : List (List ℕ)) (command : Command) → words ≡ others → command_in others ≡ Some command → command_in words ≡ Some command
+of_words words others command same is = subst (λ (ws : List (List ℕ)). command_in ws ≡ Some command) (sym same) is
 
 one_is : {A : Type 0} (make : A → Command) (o : Option A) (a : A) (command : Command) → o ≡ Some a → command ≡ make a → with_one make o ≡ Some command
 one_is make o a command is same = ap (with_one make) is ∙ ap Some (sym same)
@@ -30,7 +30,7 @@ one_is make o a command is same = ap (with_one make) is ∙ ap Some (sym same)
 two_is : {A B : Type 0} (make : A → B → Command) (o : Option A) (p : Option B) (a : A) (b : B) (command : Command) → o ≡ Some a → p ≡ Some b → command ≡ make a b → with_two make o p ≡ Some command
 two_is make o p a b command is is' same = ap (λ x. with_two make x p) is ∙ ap (λ y. with_two make (Some a) y) is' ∙ ap Some (sym same)
 
-row_is : (words : List (List ℕ)) (command : Command) → IsRow words command → row_of words ≡ Some command
+row_is : (words : List (List ℕ)) (command : Command) → IsRow words command → command_in words ≡ Some command
 row_is words command (MatchRow a b query molecules same is is' made) = of_words words _ command same (two_is variant.Match (file_in a) (file_in b) query molecules command is is' made)
 row_is words command (LoadRow a file same is made) = of_words words _ command same (one_is variant.Load (file_in a) file command is made)
 row_is words command (ReplaceRow a b number file same is is' made) = of_words words _ command same (two_is variant.Replace (held_number a) (file_in b) number file command is is' made)
@@ -114,31 +114,15 @@ row_three word a b command is =
     (λ same is. let h = has_two variant.Drill (number_in 0 999999999 a) (limit_in b) command is in DrillRow a b h.a h.b (as_word word _ _ same) h.is h.is' h.made)
     (λ is. absurd cc))))))
 
-is_row : (words : List (List ℕ)) (command : Command) → row_of words ≡ Some command → IsRow words command
+is_row : (words : List (List ℕ)) (command : Command) → command_in words ≡ Some command → IsRow words command
 is_row [] command is = absurd cc
 is_row (a ∷ []) command is = row_one a command is
 is_row (a ∷ b ∷ []) command is = row_two a b command is
 is_row (a ∷ b ∷ c ∷ []) command is = row_three a b c command is
 is_row (a ∷ b ∷ c ∷ d ∷ words) command is = absurd cc
 
--- ---- the commands that are built
-
-built_is : (o : Option Command) (command : Command) → o ≡ Some command → is_built command ≡ true → where_built o ≡ Some command
-built_is o command is built = ap where_built is ∙ rw built refl
-
-is_built_row : (o : Option Command) (command : Command) → where_built o ≡ Some command → (o ≡ Some command) × (is_built command ≡ true)
-is_built_row None command is = absurd cc
-is_built_row (Some other) command is = by_test (is_built other) refl is
-  where
-    by_test : (b : Bool) → is_built other ≡ b → (if b then Some other else None) ≡ Some command → (Some other ≡ Some command) × (is_built command ≡ true)
-    by_test true e is = let same : other ≡ command = cc in (is, ap is_built (sym same) ∙ e)
-    by_test false e is = absurd cc
-
 pub commands_are_read : CommandsAreRead
-commands_are_read words command = (
-  λ is. let h = is_built_row (row_of words) command is in (is_row words command h.0, h.1),
-  λ is. built_is (row_of words) command (row_is words command is.0) is.1,
-)
+commands_are_read words command = (is_row words command, row_is words command)
 
 pub one_reading : OneReading
 one_reading words a b p q = let x = (commands_are_read words a).1 p in let y = (commands_are_read words b).1 q in cc
@@ -189,7 +173,7 @@ ranges words command (DrillRow a b start count same is is' made) =
     subst CanAsk (sym made) ((within_range 0 999999999 (digits_number a) start is).1, within_range 1 10000 (digits_number b) count is')
 
 asked_in : (words : List (List ℕ)) (command : Command) → command_in words ≡ Some command → CanAsk command
-asked_in words command is = let h = (commands_are_read words command).0 is in ranges words command h.0
+asked_in words command is = ranges words command (is_row words command is)
 
 pub can_ask_order : (words : List (List ℕ)) (o : Option Command) → command_in words ≡ o → CanAskLine (kind_of_order o)
 can_ask_order words None is = tt
@@ -206,18 +190,18 @@ words_order : (words : List (List ℕ)) (o : Option Command) → command_in word
 words_order words None is = tt
 words_order words (Some command) is = asked_in words command is
 
-by_words : (words : List (List ℕ)) → CanAskWords (kind_of_words words)
-by_words [] = tt
-by_words (word ∷ words) = words_order (word ∷ words) (command_in (word ∷ words)) refl
+behind_order : (words : List (List ℕ)) → CanAskWords (kind_behind_store words)
+behind_order [] = tt
+behind_order (word ∷ words) = words_order (word ∷ words) (command_in (word ∷ words)) refl
 
 pub can_ask_words : (words : List (List ℕ)) (kind : WordsKind) → kind ≡ kind_of_words words → CanAskWords kind
-can_ask_words words kind is = subst CanAskWords (sym is) (by_words words)
+can_ask_words words kind is = subst CanAskWords (sym is) (behind_order (behind_store words))
 
 -- ---- lines and words of many words
 
 pub line_of_many : (line : List ℕ) → are_blank line ≡ false → 3 < length (words_of line) → line_kind.NoCommand ≡ kind_of_line line
 line_of_many line blank many = rw (blank, many_words (words_of line) many) refl
 
-pub words_of_many : (words : List (List ℕ)) → 3 < length words → words_kind.NotUnderstood ≡ kind_of_words words
+pub words_of_many : (words : List (List ℕ)) → 3 < length words → words_kind.NotUnderstood ≡ kind_behind_store words
 words_of_many [] many = absurd (omega arith)
 words_of_many (word ∷ words) many = rw (many_words (word ∷ words) many) refl

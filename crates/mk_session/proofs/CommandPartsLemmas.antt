@@ -19,8 +19,7 @@ use Rattle.std.proofs.lemmas.Str.{IsUtf8-from_ascii, is_utf8-from_IsUtf8}
 use Rattle.std.proofs.lemmas.Str.Ascii.{IsAscii-cons, IsAscii-nil}
 use Rattle.mk_text.specs.Columns.{columns}
 use Rattle.mk_text.specs.Fields.{NoSign, digits_number, field_in, field_of}
-use Rattle.mk_text.proofs.FieldLemmas.{digits_given, number_given}
-use Rattle.mk_text.proofs.ForCallers.{both, columns_between}
+use Rattle.mk_text.proofs.ForCallers.{both, columns_between, digits_given, number_given}
 use Rattle.mk_session.specs.Commands.{file_in, is_name, is_name_byte, name_in}
 
 -- a list that isn't empty

@@ -1,4 +1,5 @@
 pub mod CommandLemmas
+pub mod StoreWordsLemmas
 pub mod HitLinesLemmas
 pub mod ListingsLemmas
 pub mod QueryTextLemmas
@@ -9,6 +10,7 @@ pub mod SavedSearchLemmas
 pub mod SavedPendingLemmas
 pub mod RestoredLemmas
 pub mod QueriesLemmas
+pub mod SearchingLemmas
 pub mod StoredRowsLemmas
 pub mod OpeningLemmas
 pub mod LoadingLemmas
@@ -21,5 +23,9 @@ pub mod JoinLemmas
 pub mod OneEditLemmas
 pub mod OneQueryLemmas
 pub mod OneKeepLemmas
+pub mod OneSearchLemmas
 pub mod OneRunLemmas
+pub mod KeptRowsLemmas
+pub mod SavedRowsLemmas
+pub mod GoingOnLemmas
 pub mod CommandPartsLemmas

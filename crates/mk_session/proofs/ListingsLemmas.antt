@@ -27,7 +27,7 @@ is_held : (mol : Molecule) (n : ℕ) (other : Molecule) → IsRecord1 mol n othe
 is_held mol n other is = subst (λ (k : ℕ). IsHeldIn (only_row mol) k other) (sym is.0) (ap Some (sym is.1))
 
 -- keys of what is held are keys of what is held so as well
-key_of : (Held Other : ℕ → Molecule → Type 0) (query : QueryView) (key : List ℕ) → ((n : ℕ) (mol : Molecule) → Held n mol → Other n mol) → IsKey Held query key → IsKey Other query key
+pub key_of : (Held Other : ℕ → Molecule → Type 0) (query : QueryView) (key : List ℕ) → ((n : ℕ) (mol : Molecule) → Held n mol → Other n mol) → IsKey Held query key → IsKey Other query key
 key_of Held Other query key same is = record {
   number = is.number;
   mol = is.mol;

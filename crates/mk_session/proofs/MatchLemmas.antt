@@ -14,7 +14,7 @@ use Rattle.mk_session.specs.declared.effect.StepFail.TheVariants as fail
 use Rattle.mk_session.specs.declared.judgment.Held.{Held}
 use Rattle.mk_session.specs.declared.judgment.Held.TheVariants.{Molecule, Refused}
 use Rattle.mk_session.specs.Files.{IsShort, IsThere, Look}
-use Rattle.mk_session.specs.Match.{FailsCheck, IsMatch, IsSearch, IsTurnOfMatch, NotOne, Searches, TurnOfMolecules, TurnOfQuery, molecule_bytes}
+use Rattle.mk_session.specs.Match.{FailsCheck, IsMatch, IsSearchOfFile, IsTurnOfMatch, NotOne, Searches, TurnOfMolecules, TurnOfQuery, molecule_bytes}
 use Rattle.mk_session.specs.Matching.{IsHeldBy, IsHeldOf, IsTurnOf}
 use Rattle.mk_session.specs.QueryText.{IsQueryHeld}
 use Rattle.mk_session.specs.Running.{MissesAt, SeeksSo}
@@ -36,7 +36,7 @@ held_if files name bytes records (Err e) read is holds = tt
 
 module _ (files : Option Look) (query molecules : List ℕ) where
   pub matched : (wanted : QueryView) (old mid new : ℕ) (r : Result Found StepFail) → IsQueryHeld files query wanted → mid ≡ old
-      → SeeksSo (IsSearch wanted files molecules) (IsTurnOf molecules) mid new r → SeeksSo (IsMatch files query molecules) (IsTurnOfMatch files query molecules) old new r
+      → SeeksSo (IsSearchOfFile wanted files molecules) (IsTurnOf molecules) mid new r → SeeksSo (IsMatch files query molecules) (IsTurnOfMatch files query molecules) old new r
   matched wanted old mid new (Ok found) held same sought = (Searches wanted held sought.0, sought.1 ∙ same)
   matched wanted old mid new (Err fail.Read) held same sought =
       (record { name = sought.0.name; reaches = TurnOfMolecules wanted held sought.0.reaches }, subst (λ (n : ℕ). Rose n new) same sought.1)

@@ -1,16 +1,15 @@
 -- `query` and `forget` come to one effect over told files.
 --     one_keep, one_forget
-use Rattle.std.proofs.Common.{◌≡◌, ℕ, ◌+◌, ◌<◌, ◌≤◌, true, false, inl, inr, ◌⊎◌, List, [], ◌∷◌, length, refl, sym, ap, subst, ◌∙◌, Some, arith}
+use Rattle.std.proofs.Common.{◌≡◌, ℕ, ◌+◌, ◌≤◌, true, false, inl, inr, ◌⊎◌, List, [], ◌∷◌, length, sym, ap, subst, ◌∙◌, Some, arith}
 use Rattle.std.specs.Prelude.{codes}
 use Rattle.mk_model.specs.Queries.{QueryView}
 use Rattle.mk_outside.specs.declared.tables.Change.TheVariants.{PutQuery}
 use Rattle.mk_outside.specs.declared.tables.Tables.{Tables}
-use Rattle.mk_session.specs.declared.judgment.HeldQuery.{HeldQuery}
 use Rattle.mk_session.specs.declared.judgment.HeldQuery.TheVariants.{Query, Refused}
 use Rattle.mk_session.specs.Effects.{Answers, Effect, Refuses}
-use Rattle.mk_session.specs.Files.{IsShort, Look}
+use Rattle.mk_session.specs.Files.{Look}
 use Rattle.mk_session.specs.Queries.{FileIsRefused, Forgets, IsForget, IsFree, IsKeep, Keeps, NameIsHeld, NoQueryForgotten, QueriesAreFull, TextsAreFull, full_queries_text, kept_text, name_held_text, named_line}
-use Rattle.mk_session.specs.QueryText.{IsQueryHeld, IsQueryOfText, IsQueryRefused, query_bytes}
+use Rattle.mk_session.specs.QueryText.{IsQueryHeld, IsQueryRefused, query_bytes}
 use Rattle.mk_session.specs.Saved.{HasRoomFor, greatest_number, is_named, most_queries}
 use Rattle.mk_session.proofs.OneEditLemmas.{one_reading}
 use Rattle.mk_session.proofs.OneQueryLemmas.{HasQueryLaws, one_query_held}

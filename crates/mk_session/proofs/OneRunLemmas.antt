@@ -14,6 +14,7 @@ use Rattle.mk_model.specs.Keys.{IsKey}
 use Rattle.mk_model.specs.Molecules.{Molecule as Mol}
 use Rattle.mk_model.specs.Queries.{QueryView}
 use Rattle.mk_mol.specs.Laws.{NoFaultWhereAllPass, OneFilledMolecule, OneFirstFault}
+use Rattle.mk_drill.specs.Drill.{OneDrill}
 use Rattle.mk_outside.specs.declared.tables.Tables.{Tables}
 use Rattle.mk_session.specs.declared.command.Command.TheVariants as variant
 use Rattle.mk_session.specs.declared.judgment.Held.{Held}
@@ -27,7 +28,7 @@ use Rattle.mk_session.specs.Effects.{Answers, Effect, Refuses, after_effect, aft
 use Rattle.mk_session.specs.Files.{IsLong, IsShort, Look}
 use Rattle.mk_session.specs.Hits.{IsHitsText}
 use Rattle.mk_session.specs.Laws.{OneEffect, OneRun}
-use Rattle.mk_session.specs.Match.{TooLong as LongMolecules, BadLine, V3000, NotOne, FailsCheck, IsRecord1, Lists, MoleculesRefused, QueryRefused, Searches, IsMatch, IsRefused, IsSearch, molecule_bytes}
+use Rattle.mk_session.specs.Match.{TooLong as LongMolecules, BadLine, V3000, NotOne, FailsCheck, IsRecord1, Lists, MoleculesRefused, QueryRefused, Searches, IsMatch, IsRefused, IsSearchOfFile, molecule_bytes}
 use Rattle.mk_session.specs.Matching.{IsHeldBy, IsHeldOf, IsHeldTable}
 use Rattle.mk_session.specs.Orders.{Asked, Order, Orders}
 use Rattle.mk_session.specs.Records.{IsRemove, IsShow, NoRecordRemoved, NoRecordShown, Removes, Shows}
@@ -42,6 +43,7 @@ use Rattle.mk_session.proofs.LoadingLemmas.{text_is_held}
 use Rattle.mk_session.proofs.OneEditLemmas.{long_not_read, one_edited, one_reading, one_replace}
 use Rattle.mk_session.proofs.OneKeepLemmas.{one_forget, one_keep}
 use Rattle.mk_session.proofs.OneQueryLemmas.{HasQueryLaws, one_query_held}
+use Rattle.mk_session.proofs.OneSearchLemmas.{one_resume, one_search}
 
 -- ---- the laws that are cited
 
@@ -54,6 +56,7 @@ pub record HasLaws : Type 0 where
   pub fault : OneFirstFault
   pub no_fault : NoFaultWhereAllPass
   pub filled : OneFilledMolecule
+  pub drills : OneDrill
 
 -- ---- the molecules' file
 
@@ -171,14 +174,14 @@ record HasSearched (wanted : QueryView) (look : Look) (name : List ℕ) (effect 
   of_file : IsHeldBy (Some look) name held
   ends : IsEndOfSearch wanted held effect
 
-searched : (wanted : QueryView) (look : Look) (name : List ℕ) (effect : Effect) → IsSearch wanted (Some look) name effect → HasSearched wanted look name effect
+searched : (wanted : QueryView) (look : Look) (name : List ℕ) (effect : Effect) → IsSearchOfFile wanted (Some look) name effect → HasSearched wanted look name effect
 searched wanted look name effect (MoleculesRefused line of_file ends) = record { held = Refused line; of_file = of_file; ends = ends }
 searched wanted look name effect (Lists mol of_file keys first text lists ends) =
     record { held = Molecule mol; of_file = of_file; ends = record { keys = keys; first = first; text = text; lists = lists; ends = ends } }
 
 -- so it has one effect
-one_search : HasLaws → (wanted : QueryView) (look : Look) (name : List ℕ) (a b : Effect) → IsSearch wanted (Some look) name a → IsSearch wanted (Some look) name b → a ≡ b
-one_search laws wanted look name a b p q =
+one_search_of_file : HasLaws → (wanted : QueryView) (look : Look) (name : List ℕ) (a b : Effect) → IsSearchOfFile wanted (Some look) name a → IsSearchOfFile wanted (Some look) name b → a ≡ b
+one_search_of_file laws wanted look name a b p q =
     let s = searched wanted look name a p in
     let t = searched wanted look name b q in
     let same : t.held ≡ s.held = one_held laws look name t.held s.held t.of_file s.of_file in
@@ -188,12 +191,12 @@ one_search laws wanted look name a b p q =
 
 -- how it ends, by what is made of the query's file
 abbrev IsEndOfMatch : Look → List ℕ → HeldQuery → Effect → Type 0
-IsEndOfMatch look molecules (Query wanted) effect = IsSearch wanted (Some look) molecules effect
+IsEndOfMatch look molecules (Query wanted) effect = IsSearchOfFile wanted (Some look) molecules effect
 IsEndOfMatch look molecules (RefusedQuery line) effect = effect ≡ Refuses line
 
 -- it is one end
 one_end_of_match : HasLaws → (look : Look) (molecules : List ℕ) (held : HeldQuery) (a b : Effect) → IsEndOfMatch look molecules held a → IsEndOfMatch look molecules held b → a ≡ b
-one_end_of_match laws look molecules (Query wanted) a b p q = one_search laws wanted look molecules a b p q
+one_end_of_match laws look molecules (Query wanted) a b p q = one_search_of_file laws wanted look molecules a b p q
 one_end_of_match laws look molecules (RefusedQuery line) a b p q = p ∙ sym q
 
 -- it goes by what is made of the query's file
@@ -237,11 +240,11 @@ one_effect laws look t (Some (variant.Replace number file)) a b p q = one_replac
 one_effect laws look t (Some (variant.Remove number)) a b p q = one_remove t number a b p q
 one_effect laws look t (Some (variant.Query name file)) a b p q = one_keep laws.queries look t name file a b p q
 one_effect laws look t (Some (variant.Forget name)) a b p q = one_forget t name a b p q
-one_effect laws look t (Some (variant.Search name limit)) a b p q = p ∙ sym q
-one_effect laws look t (Some (variant.Resume cursor limit)) a b p q = p ∙ sym q
+one_effect laws look t (Some (variant.Search name limit)) a b p q = one_search t name limit laws.queries a b p q
+one_effect laws look t (Some (variant.Resume cursor limit)) a b p q = one_resume t cursor limit laws.queries a b p q
 one_effect laws look t (Some (variant.Show number)) a b p q = one_show t number a b p q
 one_effect laws look t (Some variant.List) a b p q = p ∙ sym q
-one_effect laws look t (Some (variant.Drill start count)) a b p q = p ∙ sym q
+one_effect laws look t (Some (variant.Drill start count)) a b p q = p.whole ∙ ap (λ (line : List ℕ). Answers [] line) (laws.drills start count p.line q.line p.is q.is) ∙ sym q.whole
 
 -- ---- runs
 

@@ -3,23 +3,20 @@
 --     kept_is_meant                  what is kept of a text means what the text means
 --     keep_fits                      keeping a query fits
 --     forget_ready, forget_fits      so does dropping one with its saved searches
-use Rattle.std.proofs.Common.{◌≡◌, ℕ, ◌+◌, ◌<◌, ◌≤◌, Bool, true, false, not, ◌||◌, List, [], ◌∷◌, ◌++◌, length, map, filter, bytes_eq, nat_eq, if◌then◌else◌, Option, Some, None, refl, sym, ap, ◌∙◌, subst, arith}
+use Rattle.std.proofs.Common.{◌≡◌, ℕ, ◌<◌, ◌≤◌, Bool, true, false, not, ◌||◌, List, [], ◌∷◌, ◌++◌, length, map, filter, bytes_eq, nat_eq, Option, Some, None, refl, sym, ap, ◌∙◌, arith}
 use Rattle.std.specs.Prelude.{Result, Ok, Err, IfOk}
 use Rattle.std.specs.List.{AllByRecursion, list_any}
 use Rattle.std.proofs.lemmas.Bool.{cond_both, true≢false}
 use Rattle.std.proofs.lemmas.Grind.{common_steps}
-use Rattle.mk_text.specs.KeptLines.{kept_lines}
-use Rattle.mk_text.specs.Lines.{lines_of}
 use Rattle.mk_model.specs.Queries.{QueryView}
-use Rattle.mk_rgfile.specs.KeptQueries.{IsKeptText, KeptLinesAreKept}
+use Rattle.mk_rgfile.specs.KeptQueries.{KeptLinesAreKept}
 use Rattle.mk_query.specs.Laws.{KeptTextIsTheQuery}
-use Rattle.mk_outside.specs.declared.tables.Change.{Change}
-use Rattle.mk_outside.specs.declared.tables.Change.TheVariants.{PutQuery, DropQuery, DropCursor}
+use Rattle.mk_outside.specs.declared.tables.Change.TheVariants.{PutQuery, DropQuery}
 use Rattle.mk_outside.specs.declared.tables.CursorRow.{CursorRow}
 use Rattle.mk_outside.specs.declared.tables.QueryRow.{QueryRow}
 use Rattle.mk_outside.specs.Rows as outside
 use Rattle.mk_outside.specs.Store.{cursor_puts, query_puts}
-use Rattle.mk_outside.specs.Tables.{after_change, cursor_number}
+use Rattle.mk_outside.specs.Tables.{cursor_number}
 use Rattle.mk_library.specs.Pending.{InTurn}
 use Rattle.mk_session.specs.declared.judgment.HeldQuery.TheVariants.{Refused}
 use Rattle.mk_session.specs.Commands.{IsName}
@@ -30,7 +27,7 @@ use Rattle.mk_session.specs.Effects.{Effect, Refuses}
 use Rattle.mk_session.specs.Queries.{drop_of, forget_changes, full_queries_text, kept_text}
 use Rattle.mk_session.specs.QueryText.{IsHeldQuery, IsQueryOfText, IsQueryRefused, QueryTextRefused, QueryTooLong, query_bytes}
 use Rattle.mk_session.specs.Running.{effect_of}
-use Rattle.mk_session.specs.Saved.{HasRoomFor, IsMeant, SavedView, is_named, is_waiting, kept_tables, most_queries, saved_tables}
+use Rattle.mk_session.specs.Saved.{HasRoomFor, IsMeant, SavedView, is_named, is_waiting, kept_tables, most_queries}
 use Rattle.mk_session.specs.SavedPending.{AreReady, IsInPlace, SavedFits, SavedPendingView}
 
 -- ---- files
@@ -84,7 +81,7 @@ among_more name drop drops (row ∷ rows) all =
     ((λ is. or_later (nat_eq drop.number row.number) (list_any (λ (d : CursorRow). nat_eq d.number row.number) drops) (all.0 is)), among_more name drop drops rows all.1)
 
 -- the saved searches of the name are among themselves
-among_all : (name : List ℕ) (rows : List CursorRow) → AreAmong name (filter (λ row. bytes_eq row.name name) rows) rows
+pub among_all : (name : List ℕ) (rows : List CursorRow) → AreAmong name (filter (λ row. bytes_eq row.name name) rows) rows
 among_all name [] = tt
 among_all name (row ∷ rows) =
     cond_both (bytes_eq row.name name) (row ∷ filter (λ r. bytes_eq r.name name) rows) (filter (λ r. bytes_eq r.name name) rows) (λ drops. AreAmong name drops (row ∷ rows))
@@ -120,7 +117,7 @@ none_among name (row ∷ rows) all = neither (bytes_eq row.name name) (is_waitin
     neither true b never none = absurd (never refl)
     neither false b never none = none
 
-forget_places : (name : List ℕ) (drops cursors : List CursorRow) (queries : List QueryRow) (next : ℕ) → AreAmong name drops cursors
+pub forget_places : (name : List ℕ) (drops cursors : List CursorRow) (queries : List QueryRow) (next : ℕ) → AreAmong name drops cursors
     → InTurn IsInPlace (map drop_of drops ++ DropQuery name ∷ []) (kept_tables queries cursors next)
 forget_places name [] cursors queries next among = (none_among name cursors among, tt)
 forget_places name (drop ∷ drops) cursors queries next among =

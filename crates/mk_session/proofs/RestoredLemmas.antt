@@ -2,24 +2,18 @@
 --     rows_more         the first rows with one more
 --     bad_at            the first row that doesn't read, by its place
 --     query_fails, cursor_fails      a row of either kind that doesn't read
-use Rattle.std.proofs.Common.{◌≡◌, ℕ, zero, suc, ◌+◌, ◌<◌, ◌≤◌, max, true, false, List, [], ◌∷◌, ◌++◌, length, take, drop, Some, get_or, add-one, refl, sym, ap, ◌∙◌, subst, arith}
-use Rattle.std.specs.Prelude.{Result, Ok, Err, slice_get}
-use Rattle.std.specs.List.{AllByRecursion}
+use Rattle.std.proofs.Common.{◌≡◌, ℕ, zero, suc, ◌+◌, List, [], ◌∷◌, ◌++◌, take, drop, Some, add-one, refl, ap, subst, arith}
+use Rattle.std.specs.Prelude.{Ok, Err, slice_get}
 use Rattle.std.proofs.lemmas.Grind.{common_steps}
 use Rattle.mk_outside.specs.declared.tables.CursorRow.{CursorRow}
 use Rattle.mk_outside.specs.declared.tables.QueryRow.{QueryRow}
 use Rattle.mk_outside.specs.declared.tables.Tables.{Tables}
-use Rattle.mk_outside.specs.declared.tables.Change.TheVariants.{PutQuery, PutCursor}
-use Rattle.mk_outside.specs.Tables.{after_change, cursor_number, query_number}
+use Rattle.mk_outside.specs.Tables.{cursor_number, query_number}
 use Rattle.mk_session.specs.declared.stored_rows.BeginFail.{BeginFail}
 use Rattle.mk_session.specs.declared.stored_rows.BeginFail.TheVariants as begin
-use Rattle.mk_session.specs.declared.stored_rows.RowKind.{RowKind}
 use Rattle.mk_session.specs.declared.stored_rows.RowKind.TheVariants.{Queries, Cursors}
 use Rattle.mk_session.specs.Running.{IsFirstBadOf, IsRestored, ReadsRows}
-use Rattle.mk_session.specs.Saved.{SavedView, bytes_of_texts, is_named, kept_tables, saved_tables}
-use Rattle.mk_session.specs.SavedPending.{IsInPlace}
-use Rattle.mk_session.specs.StoredRows.{AllRead, BadCursor, BadQuery, EachReads, HasQueryPlace, IsFirstBad, IsFirstBadRow, ReadsCursor, ReadsQuery, RecordsRead}
-use Rattle.mk_session.proofs.SavedLemmas.{put_behind}
+use Rattle.mk_session.specs.StoredRows.{AllRead, BadCursor, BadQuery, EachReads, ReadsCursor, ReadsQuery, RecordsRead}
 
 -- ---- by places
 

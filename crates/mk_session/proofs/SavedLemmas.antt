@@ -3,19 +3,18 @@
 --     greatest_is_last   the greatest number is that of the last row
 --     put_kept, put_tables       a query put behind all: what is kept, and the tables
 --     out_kept, out_tables       a query taken out
-use Rattle.std.proofs.Common.{◌≡◌, ℕ, zero, suc, ◌+◌, ◌-◌, ◌<◌, ◌≤◌, max, Bool, true, false, not, cond, ◌||◌, List, [], ◌∷◌, ◌++◌, length, map, filter, nat_eq, nat_lt, bytes_eq, if◌then◌else◌, Option, Some, None, is_some, inl, inr, arith, refl, sym, ap, ◌∙◌, subst, length-append}
+use Rattle.std.proofs.Common.{◌≡◌, ℕ, zero, suc, ◌+◌, ◌-◌, ◌<◌, ◌≤◌, Bool, true, false, cond, ◌||◌, List, [], ◌∷◌, ◌++◌, length, nat_eq, bytes_eq, Option, Some, is_some, arith, refl, sym, ap, ◌∙◌, subst, length-append}
 use Rattle.std.specs.Prelude.{slice_get, Result, Ok, Err, IsOk, OnOk}
 use Rattle.std.specs.List.{AllByRecursion, list_any}
 use Rattle.std.specs.Map.{lookup, remove_entry}
 use Rattle.std.specs.Global.{Vec}
-use Rattle.std.proofs.lemmas.Bool.{cond_both, true≢false}
+use Rattle.std.proofs.lemmas.Bool.{cond_both}
 use Rattle.std.proofs.lemmas.Cmp.{nat_list_eq_equiv}
 use Rattle.std.proofs.lemmas.List.{length-map, map-append}
 use Rattle.std.proofs.lemmas.Slice.Eq.{bytes_eq-Decides}
 use Rattle.std.proofs.lemmas.Grind.{common_steps}
 use Rattle.indexmap.specs.IndexMap.{insert_entry}
 use Rattle.mk_index.specs.declared.by_number.Numbered.{Numbered}
-use Rattle.mk_model.specs.Queries.{QueryView}
 use Rattle.mk_outside.specs.declared.tables.QueryRow.{QueryRow}
 use Rattle.mk_outside.specs.declared.tables.CursorRow.{CursorRow}
 use Rattle.mk_outside.specs.declared.tables.Change.TheVariants.{PutQuery, DropQuery}
@@ -23,13 +22,12 @@ use Rattle.mk_outside.specs.Rows.{put, in_order}
 use Rattle.mk_outside.specs.Tables.{after_change, query_number, without_name}
 use Rattle.mk_session.specs.declared.saved.Kept.{Kept}
 use Rattle.mk_session.specs.declared.saved.SavedSearch.{SavedSearch}
-use Rattle.mk_session.specs.Commands.{IsName}
-use Rattle.mk_session.specs.Saved.{AreDistinct, AreRisingQueries, IsKeptEntry, IsKeptSearch, IsMeant, IsSaved, bytes_of_texts, cursors_of, greatest_number, is_named, is_waiting, kept_tables, most_queries, most_text_bytes, query_row, rows_of}
+use Rattle.mk_session.specs.Saved.{AreDistinct, AreRisingQueries, IsKeptEntry, IsKeptSearch, IsSaved, bytes_of_texts, cursors_of, greatest_number, is_named, is_waiting, kept_tables, most_queries, query_row, rows_of}
 use Rattle.mk_session.specs.SavedPending.{IsInPlace}
 
 -- ---- names
 
-same_names : (a b : List ℕ) → bytes_eq a b ≡ bytes_eq b a
+pub same_names : (a b : List ℕ) → bytes_eq a b ≡ bytes_eq b a
 same_names a b = nat_list_eq_equiv.symm a b
 
 some_if : {X : Type 0} (here : Bool) (x : X) (later : Option X) → is_some (cond here (Some x) later) ≡ (here || is_some later)
@@ -58,19 +56,19 @@ named_push name [] row = or_false (bytes_eq row.name name)
 named_push name (x ∷ rows) row =
     ap (λ (b : Bool). bytes_eq x.name name || b) (named_push name rows row) ∙ or_assoc (bytes_eq x.name name) (is_named name rows) (bytes_eq row.name name)
 
-or_left_false : (a b : Bool) → (a || b) ≡ false → a ≡ false
+pub or_left_false : (a b : Bool) → (a || b) ≡ false → a ≡ false
 or_left_false true b is = cc
 or_left_false false b is = refl
 
-or_right_false : (a b : Bool) → (a || b) ≡ false → b ≡ false
+pub or_right_false : (a b : Bool) → (a || b) ≡ false → b ≡ false
 or_right_false true b is = cc
 or_right_false false b is = is
 
-or_left_true : (a b : Bool) → a ≡ true → (a || b) ≡ true
+pub or_left_true : (a b : Bool) → a ≡ true → (a || b) ≡ true
 or_left_true true b is = refl
 or_left_true false b is = cc
 
-or_both_false : (a b : Bool) → a ≡ false → b ≡ false → (a || b) ≡ false
+pub or_both_false : (a b : Bool) → a ≡ false → b ≡ false → (a || b) ≡ false
 or_both_false true b p q = p
 or_both_false false b p q = q
 

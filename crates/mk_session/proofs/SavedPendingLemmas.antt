@@ -1,7 +1,7 @@
 -- Changes of queries and saved searches: what they keep, and what they leave.
 --     can_keep, of_saved      changes that are ready can be kept, and are of queries and saved searches
 --     saved_alone             they rest on queries, saved searches and the next number of these, and change nothing else
-use Rattle.std.proofs.Common.{[], ◌∷◌, ◌≡◌, ℕ, ◌≤◌, List, length, All, arith, refl, sym, ap, ◌∙◌, subst}
+use Rattle.std.proofs.Common.{[], ◌∷◌, ◌≡◌, List, All, arith, refl, sym, ap, ◌∙◌}
 use Rattle.std.proofs.lemmas.List.Elements.{All-cons, All-head, All-tail}
 use Rattle.mk_library.specs.Library.{LibraryView}
 use Rattle.mk_model.specs.Queries.{QueryView}

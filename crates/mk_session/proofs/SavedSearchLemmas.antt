@@ -1,7 +1,7 @@
 -- Saved searches as rows: what is known of them after one was put in its place, and after one was taken out.
 --     new_kept, held_kept, out_kept          what is kept then
 --     new_tables, held_tables, out_tables    and the tables
-use Rattle.std.proofs.Common.{◌≡◌, ℕ, ◌+◌, ◌<◌, ◌≤◌, max, Bool, true, false, not, List, [], ◌∷◌, ◌++◌, length, map, filter, nat_eq, nat_lt, inl, inr, if◌then◌else◌, arith, refl, sym, ap, ◌∙◌, subst}
+use Rattle.std.proofs.Common.{◌≡◌, ℕ, ◌+◌, ◌<◌, ◌≤◌, max, true, false, not, List, [], ◌∷◌, nat_eq, nat_lt, inl, inr, arith, refl, sym, ap, ◌∙◌}
 use Rattle.std.specs.List.{AllByRecursion, list_any}
 use Rattle.std.specs.Global.{Vec}
 use Rattle.std.proofs.lemmas.Bool.{cases_lt, cond_both, eqb-true, true≢false}

@@ -3,17 +3,16 @@
 --     one_first_bad       there is at most one
 --     read_none, read_more, bad_at    rows that read, one after another, and one that doesn't
 use Rattle.std.proofs.Common.{◌≡◌, ℕ, suc, ◌⊎◌, inl, inr, List, [], ◌∷◌, ◌++◌, append_assoc, refl, sym, ap, ◌∙◌, subst, arith}
-use Rattle.std.specs.Prelude.{Contains, Some, slice_get}
+use Rattle.std.specs.Prelude.{Some, slice_get}
 use Rattle.std.proofs.lemmas.Bool.Decides.{leb_tells}
 use Rattle.std.proofs.lemmas.List.{append-nil}
-use Rattle.mk_outside.specs.declared.tables.QueryRow.{QueryRow}
 use Rattle.mk_outside.specs.declared.tables.Tables.{Tables}
 use Rattle.mk_outside.specs.Tables.{cursor_number, query_number, record_number}
 use Rattle.mk_outside.specs.declared.tables.RecordRow.{RecordRow}
 use Rattle.mk_library.specs.StoredRows as library
 use Rattle.mk_session.specs.declared.stored_rows.RowKind.{RowKind}
 use Rattle.mk_session.specs.declared.stored_rows.RowKind.TheVariants.{Queries, Cursors}
-use Rattle.mk_session.specs.StoredRows.{AllRead, EachReads, IsFirstBad, IsFirstBadRow, ReadsCursor, ReadsQuery, RecordsRead, BadRecord, BadQuery, BadCursor}
+use Rattle.mk_session.specs.StoredRows.{AllRead, EachReads, IsFirstBad, IsFirstBadRow, ReadsCursor, ReadsQuery, BadRecord, BadQuery, BadCursor}
 
 -- ---- rows of any kind
 

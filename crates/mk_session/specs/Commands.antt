@@ -1,10 +1,11 @@
 -- The commands, as lines of a script and the words of the command line spell them.
 --     IsRow words command           the words are spelt as a row of the table of commands says
---     IsCommandOf words command     and the command is one that is built
+--     IsCommandOf words command     and so are the command
 --     command_in words              the same, computed: the command that the words are
+--     store_path, behind_store      the path of the store in the words of the command line, and the words behind it
 --     kind_of_line, kind_of_words   what a line is, and what the words of the command line are
 --     CanAsk command                what a session can be asked
---     CommandsAreRead, OneReading   laws
+--     CommandsAreRead, OneReading, WordsAreRead   laws
 -- A line's words are its longest runs of bytes other than blanks. A byte of a longer character is no blank, so a line is UTF-8
 -- exactly where each of its words is.
 use Rattle.std.specs.Prelude.{◌≡◌, ◌↔◌, ℕ, ◌≤◌, ◌&&◌, ◌||◌, ◌==◌, nat_le, Bool, true, false, List, [], ◌∷◌, length, Option, Some, None, codes, bytes_eq, if◌then◌else◌, ⊤}
@@ -77,21 +78,9 @@ pub data IsRow (words : List (List ℕ)) (command : Command) : Type 0 where
   DrillRow : (a b : List ℕ) (start count : ℕ) → words ≡ codes "drill" ∷ a ∷ b ∷ [] → number_in 0 999999999 a ≡ Some start → limit_in b ≡ Some count
       → command ≡ variant.Drill start count → IsRow words command
 
--- The commands that are built. Any other row is no command so far.
-abbrev pub is_built : Command → Bool
-is_built (variant.Match query molecules) = true
-is_built (variant.Load file) = true
-is_built (variant.Replace number file) = true
-is_built (variant.Remove number) = true
-is_built (variant.Query name file) = true
-is_built (variant.Forget name) = true
-is_built (variant.Show number) = true
-is_built variant.List = true
-is_built _ = false
-
 -- the words are this command
 abbrev pub IsCommandOf : List (List ℕ) → Command → Type 0
-IsCommandOf words command = IsRow words command × (is_built command ≡ true)
+IsCommandOf words command = IsRow words command
 
 -- ---- the same, computed
 
@@ -125,21 +114,13 @@ row_of_three word a b =
     else (if bytes_eq word (codes "resume") then with_two variant.Resume (held_number a) (limit_in b)
     else (if bytes_eq word (codes "drill") then with_two variant.Drill (number_in 0 999999999 a) (limit_in b) else None)))))
 
--- the row that the words are spelt as
-abbrev pub row_of : List (List ℕ) → Option Command
-row_of [] = None
-row_of (a ∷ []) = row_of_one a
-row_of (a ∷ b ∷ []) = row_of_two a b
-row_of (a ∷ b ∷ c ∷ []) = row_of_three a b c
-row_of (a ∷ b ∷ c ∷ d ∷ words) = None
-
-abbrev pub where_built : Option Command → Option Command
-where_built None = None
-where_built (Some command) = if is_built command then Some command else None
-
 -- the command that the words are, where they are one
 abbrev pub command_in : List (List ℕ) → Option Command
-command_in words = where_built (row_of words)
+command_in [] = None
+command_in (a ∷ []) = row_of_one a
+command_in (a ∷ b ∷ []) = row_of_two a b
+command_in (a ∷ b ∷ c ∷ []) = row_of_three a b c
+command_in (a ∷ b ∷ c ∷ d ∷ words) = None
 
 -- ---- lines and words
 
@@ -151,14 +132,48 @@ kind_of_order (Some command) = line_kind.Is command
 abbrev pub kind_of_line : List ℕ → LineKind
 kind_of_line line = if are_blank line then line_kind.Blank else kind_of_order (command_in (words_of line))
 
+-- the word in front of the path of the store
+abbrev pub store_flag : List ℕ
+store_flag = codes "--store"
+
+-- the path of the store is the second word, where the first says that it is
+abbrev pub store_path : List (List ℕ) → Option (List ℕ)
+store_path [] = None
+store_path (flag ∷ []) = None
+store_path (flag ∷ path ∷ words) = if bytes_eq flag store_flag then Some path else None
+
+-- the words behind these two, or all words where there is no store
+abbrev pub behind_store : List (List ℕ) → List (List ℕ)
+behind_store [] = []
+behind_store (flag ∷ []) = flag ∷ []
+behind_store (flag ∷ path ∷ words) = if bytes_eq flag store_flag then words else flag ∷ path ∷ words
+
 abbrev pub kind_of_words_order : Option Command → WordsKind
 kind_of_words_order None = words_kind.NotUnderstood
 kind_of_words_order (Some command) = words_kind.Is command
 
 -- no words ask for the script
+abbrev pub kind_behind_store : List (List ℕ) → WordsKind
+kind_behind_store [] = words_kind.Script
+kind_behind_store (word ∷ words) = kind_of_words_order (command_in (word ∷ words))
+
+-- A store may stand in front. What stands behind it is the script or a command, or it isn't understood.
 abbrev pub kind_of_words : List (List ℕ) → WordsKind
-kind_of_words [] = words_kind.Script
-kind_of_words (word ∷ words) = kind_of_words_order (command_in (word ∷ words))
+kind_of_words words = kind_behind_store (behind_store words)
+
+-- the words are a store and these
+abbrev pub IsStoreWith : List (List ℕ) → List ℕ → List (List ℕ) → Type 0
+IsStoreWith words path others = words ≡ store_flag ∷ path ∷ others
+
+-- there are no words, or a store alone
+pub data AskForScript (words : List (List ℕ)) : Type 0 where
+  NoWords : words ≡ [] → AskForScript words
+  StoreAlone : (path : List ℕ) → IsStoreWith words path [] → AskForScript words
+
+-- the words are the command, or a store and the command
+pub data AskFor (words : List (List ℕ)) (command : Command) : Type 0 where
+  CommandAlone : IsCommandOf words command → AskFor words command
+  CommandBehindStore : (path : List ℕ) (others : List (List ℕ)) → IsStoreWith words path others → IsCommandOf others command → AskFor words command
 
 -- ---- what a session can be asked
 
@@ -204,3 +219,12 @@ CommandsAreRead = (words : List (List ℕ)) (command : Command) → (command_in 
 -- words are at most one command
 abbrev pub OneReading : Type 0
 OneReading = (words : List (List ℕ)) (a b : Command) → IsCommandOf words a → IsCommandOf words b → a ≡ b
+
+-- there is a path exactly where the words are a store and others
+abbrev pub StoreIsRead : Type 0
+StoreIsRead = (words : List (List ℕ)) (path : List ℕ) → (store_path words ≡ Some path) ↔ ((others : List (List ℕ)) × IsStoreWith words path others)
+
+-- and words ask for what they say
+abbrev pub WordsAreRead : Type 0
+WordsAreRead = (words : List (List ℕ)) → ((kind_of_words words ≡ words_kind.Script) ↔ AskForScript words)
+    × ((command : Command) → (kind_of_words words ≡ words_kind.Is command) ↔ AskFor words command)

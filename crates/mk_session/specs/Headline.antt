@@ -107,7 +107,8 @@ pub record Headline (sound : Type 0) (words : List (List ℕ)) (old new : World)
   pub went_so : WentSo words input t old new added left ends
   -- Whatever the counts were, a status of an answer comes with the whole of a run.
   pub answered : IsAnswered ends → IsWholeRun old.files t (asked words input) old.faults new.faults added left ends
-  -- Where no object that was handed in failed and memory sufficed, bytes, tables and status are the run's.
+  -- Where no object that was handed in failed and memory sufficed, bytes, tables and status are the run's. So each `match`, `search`
+  -- and `resume` lists exactly the first hits in what is held at its turn, each once and in rising order.
   pub headline : IsQuiet old new → ends ≢ status.Memory → IsRun old.files t (asked words input) added left ends
   -- Where besides the words or the script ask for commands and every stored row reads, all commands are done.
   pub complete : IsQuiet old new → ends ≢ status.Memory → (orders : List Order) → asked words input ≡ Orders orders → AllRead t → IsAllDone ends

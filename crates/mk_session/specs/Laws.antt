@@ -1,5 +1,6 @@
 -- Laws over runs.
 --     TwoScripts        two scripts one after the other are one script
+--     RunsKeepReading   tables that a run leaves read, where those before it did
 --     OneEffect         over told files an order comes to at most one effect
 --     OneRun            so a run over told files has at most one outcome
 --     OneSaid           one thing is said of a text as a query file
@@ -12,7 +13,7 @@ use Rattle.mk_session.specs.Files.{Look}
 use Rattle.mk_session.specs.Headline.{IsAllDone}
 use Rattle.mk_session.specs.declared.query_text.QueryText.{QueryText}
 use Rattle.mk_session.specs.QueryText.{IsTextSaid}
-use Rattle.mk_session.specs.Orders.{Asked, Order, asked_of_script, script_bytes}
+use Rattle.mk_session.specs.Orders.{Asked, Order, asked, asked_of_script, script_bytes}
 use Rattle.mk_session.specs.Run.{IsRun}
 use Rattle.mk_session.specs.Step.{Comes}
 use Rattle.mk_session.specs.StoredRows.{AllRead}
@@ -30,6 +31,17 @@ TwoScripts = (files : Option Look) (t t1 t2 : Tables) (first second a b : List �
     → IsRun files t1 (asked_of_script second) b t2 ends2
     → length ((first ++ 10 ∷ []) ++ second) ≤ script_bytes
     → IsRun files t (asked_of_script ((first ++ 10 ∷ []) ++ second)) (a ++ b) t2 (joined ends1 ends2)
+
+-- each row of the tables reads, and both next numbers are at least 1, so that rows that are put under them read too
+pub record CanGoOn (t : Tables) : Type 0 where
+  pub reads : AllRead t
+  pub record_number : 1 ≤ t.next_record
+  pub cursor_number : 1 ≤ t.next_cursor
+
+-- A run leaves tables that read, where those before it did and both next numbers were at least 1; then these still are.
+abbrev pub RunsKeepReading : Type 0
+RunsKeepReading = (files : Option Look) (t left : Tables) (words : List (List ℕ)) (input added : List ℕ) (ends : Status)
+    → IsRun files t (asked words input) added left ends → CanGoOn t → CanGoOn left
 
 -- over told files an order comes to at most one effect
 abbrev pub OneEffect : Type 0

@@ -14,6 +14,7 @@ pub mod Match
 pub mod Matching
 pub mod Records
 pub mod Queries
+pub mod Searching
 pub mod Loading
 pub mod Step
 pub mod Run

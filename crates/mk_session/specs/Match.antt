@@ -56,15 +56,15 @@ abbrev pub IsRecord1 : Molecule → ℕ → Molecule → Type 0
 IsRecord1 mol n other = (n ≡ 1) × (other ≡ mol)
 
 -- once the query is read: the molecules' file is refused, or the first keys of the query in its molecule are listed
-pub data IsSearch (wanted : QueryView) (files : Option Look) (name : List ℕ) (effect : Effect) : Type 0 where
-  MoleculesRefused : (line : List ℕ) → IsRefused files name line → effect ≡ Refuses line → IsSearch wanted files name effect
+pub data IsSearchOfFile (wanted : QueryView) (files : Option Look) (name : List ℕ) (effect : Effect) : Type 0 where
+  MoleculesRefused : (line : List ℕ) → IsRefused files name line → effect ≡ Refuses line → IsSearchOfFile wanted files name effect
   Lists : (mol : Molecule) → IsHeld files name mol → (keys : List (List ℕ)) → AreFirst 10000 (IsKey (IsRecord1 mol) wanted) keys
-      → (text : List ℕ) → IsHitsText wanted keys 10000 0 text → effect ≡ Answers [] text → IsSearch wanted files name effect
+      → (text : List ℕ) → IsHitsText wanted keys 10000 0 text → effect ≡ Answers [] text → IsSearchOfFile wanted files name effect
 
 -- The molecules' file plays no part where the query is refused.
 pub data IsMatch (files : Option Look) (query molecules : List ℕ) (effect : Effect) : Type 0 where
   QueryRefused : (line : List ℕ) → IsQueryRefused files query line → effect ≡ Refuses line → IsMatch files query molecules effect
-  Searches : (wanted : QueryView) → IsQueryHeld files query wanted → IsSearch wanted files molecules effect → IsMatch files query molecules effect
+  Searches : (wanted : QueryView) → IsQueryHeld files query wanted → IsSearchOfFile wanted files molecules effect → IsMatch files query molecules effect
 
 -- the query's turn comes first, and that of the molecules where the query isn't refused
 pub data IsTurnOfMatch (files : Option Look) (query molecules name : List ℕ) : Type 0 where

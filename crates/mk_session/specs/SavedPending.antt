@@ -3,7 +3,7 @@
 --     AreReady changes queries     the queries are those of the texts that are put, and names, numbers and places can be kept
 --     SavedFits saved pending      a `Saved` can make the change without memory
 --     IsOfSaved change             it puts or drops a query or a saved search
-use Rattle.std.specs.Prelude.{◌≡◌, ℕ, ◌+◌, ◌<◌, ◌≤◌, true, false, List, [], ◌∷◌, length, ⊤}
+use Rattle.std.specs.Prelude.{◌≡◌, ◌+◌, ◌<◌, ◌≤◌, true, false, List, [], ◌∷◌, length, ⊤}
 use Rattle.std.specs.List.{AllByRecursion}
 use Rattle.mk_model.specs.Queries.{QueryView}
 use Rattle.mk_outside.specs.declared.tables.Change.{Change}

@@ -1,9 +1,11 @@
 -- One command on the tables. A further command is a further case here, and nothing above this file changes by it.
 --     Comes files t order effect       from the tables t the order comes to this effect
+--     IsDrillAnswer start count effect     what `drill` comes to
 --     Reaches files t order name       the turn of the file comes: the order names it, and no refusal before its turn holds
 use Rattle.std.specs.Prelude.{◌≡◌, ℕ, List, [], Option, Some, None, codes}
 use Rattle.mk_outside.specs.declared.tables.Tables.{Tables}
 use Rattle.mk_session.specs.declared.command.Command.TheVariants as variant
+use Rattle.mk_drill.specs.Drill.{IsDrill}
 use Rattle.mk_session.specs.Effects.{Answers, Effect, Refuses}
 use Rattle.mk_session.specs.Files.{Look}
 use Rattle.mk_session.specs.Loading.{IsLoad, IsReplace, IsTurnOfReplace}
@@ -11,11 +13,18 @@ use Rattle.mk_session.specs.Match.{IsMatch, IsTurnOfMatch}
 use Rattle.mk_session.specs.Orders.{Order}
 use Rattle.mk_session.specs.Queries.{IsForget, IsKeep, IsTurnOfKeep}
 use Rattle.mk_session.specs.Records.{IsRemove, IsShow, list_text}
+use Rattle.mk_session.specs.Searching.{IsResume, IsSearch}
 
 abbrev pub no_command_text : List ℕ
 no_command_text = codes "refused 1 command\n"
 
--- From the tables t the order comes to this effect. What is no command is refused, and so is a command that isn't built.
+-- the drill answers its line, and changes nothing
+pub record IsDrillAnswer (start count : ℕ) (effect : Effect) : Type 0 where
+  pub line : List ℕ
+  pub is : IsDrill start count line
+  pub whole : effect ≡ Answers [] line
+
+-- From the tables t the order comes to this effect. What is no command is refused.
 abbrev pub Comes : Option Look → Tables → Order → Effect → Type 0
 Comes files t None effect = effect ≡ Refuses no_command_text
 Comes files t (Some (variant.Match query molecules)) effect = IsMatch files query molecules effect
@@ -24,11 +33,11 @@ Comes files t (Some (variant.Replace number file)) effect = IsReplace files t nu
 Comes files t (Some (variant.Remove number)) effect = IsRemove t number effect
 Comes files t (Some (variant.Query name file)) effect = IsKeep files t name file effect
 Comes files t (Some (variant.Forget name)) effect = IsForget t name effect
-Comes files t (Some (variant.Search name limit)) effect = effect ≡ Refuses no_command_text
-Comes files t (Some (variant.Resume cursor limit)) effect = effect ≡ Refuses no_command_text
+Comes files t (Some (variant.Search name limit)) effect = IsSearch t name limit effect
+Comes files t (Some (variant.Resume cursor limit)) effect = IsResume t cursor limit effect
 Comes files t (Some (variant.Show number)) effect = IsShow t number effect
 Comes files t (Some variant.List) effect = effect ≡ Answers [] (list_text t)
-Comes files t (Some (variant.Drill start count)) effect = effect ≡ Refuses no_command_text
+Comes files t (Some (variant.Drill start count)) effect = IsDrillAnswer start count effect
 
 -- the order names the file, and no refusal before the file's turn holds
 abbrev pub Reaches : Option Look → Tables → Order → List ℕ → Type 0

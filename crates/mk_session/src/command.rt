@@ -42,9 +42,9 @@ pub enum LineKind {
 /// What the words of the command line are.
 #[derive(Debug, Drop)]
 pub enum WordsKind {
-    /// None: the input is a script.
+    /// None, or a store alone: the input is a script.
     Script,
-    /// Neither none nor a command.
+    /// Neither these nor a command.
     NotUnderstood,
     /// This command.
     Is(Command),

@@ -3,15 +3,16 @@ ghost use Rattle.std.specs.Prelude.{◌≡◌, IfOk, map};
 ghost use Rattle.std.specs.String.{string_bytes};
 ghost use Rattle.mk_text.specs.Lines.{words_of};
 ghost use Rattle.mk_text.specs.Spans.{AreWithin, parts};
-ghost use Rattle.mk_session.specs.Commands.{CanAskLine, CanAskWords, kind_of_line, kind_of_words};
+ghost use Rattle.mk_session.specs.Commands.{CanAskLine, CanAskWords, kind_behind_store, kind_of_line, kind_of_words};
 
 use crate::command_rows::command_of;
+use crate::store_words::behind_store;
 use crate::{Command, LineKind, WordsKind};
 use mk_outside::{Bytes, Memory};
 use mk_text::{Span, is_blank, words};
 use std::alloc::Global;
 
-// No command has more words.
+// A command has no more words.
 const MOST_WORDS: usize = 3;
 
 /// What a line of a script is.
@@ -49,6 +50,14 @@ fn words_at(alloc: Global, line: &[u8], spans: &[Span]) -> Result<Vec<Bytes>, Me
 /// What the words of the command line are.
 pub fn command_of_words(alloc: Global, words: &[String]) -> Result<WordsKind, Memory>
     ensures kind { IfOk result (λ kind. kind ≡ kind_of_words (map string_bytes words.now)) }
+    ensures asks { IfOk result CanAskWords }
+{
+    kind_behind_store(alloc, behind_store(words))
+}
+
+// What the words are where they have no store in front.
+fn kind_behind_store(alloc: Global, words: &[String]) -> Result<WordsKind, Memory>
+    ensures kind { IfOk result (λ kind. kind ≡ kind_behind_store (map string_bytes words.now)) }
     ensures asks { IfOk result CanAskWords }
 {
     if words.is_empty() {

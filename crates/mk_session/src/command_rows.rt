@@ -1,6 +1,6 @@
 // The rows of the table of commands, from words.
 ghost use Rattle.std.specs.Prelude.{◌≡◌, IfOk};
-ghost use Rattle.mk_session.specs.Commands.{command_in, file_in, held_number, is_built, limit_in, name_in, number_in, row_of, row_of_one, row_of_three, row_of_two, with_one, with_two};
+ghost use Rattle.mk_session.specs.Commands.{command_in, file_in, held_number, limit_in, name_in, number_in, row_of_one, row_of_three, row_of_two, with_one, with_two};
 
 use crate::Command;
 use crate::command_parts::{file_in, name_in, number_in};
@@ -16,31 +16,6 @@ const MOST: u32 = 10_000;
 /// The command that these words are, where they are one.
 pub fn command_of(alloc: Global, words: &[Bytes]) -> Result<Option<Command>, Memory>
     ensures { IfOk result (λ command. command ≡ command_in words.now) }
-{
-    match row_of(alloc, words)? {
-        Some(command) if is_built(&command) => Ok(Some(command)),
-        _ => Ok(None),
-    }
-}
-
-fn is_built(command: &Command) -> bool
-    ensures { result ≡ is_built command.now }
-{
-    match command {
-        Command::Match { .. } => true,
-        Command::Load { .. } => true,
-        Command::Replace { .. } => true,
-        Command::Remove { .. } => true,
-        Command::Query { .. } => true,
-        Command::Forget { .. } => true,
-        Command::Show { .. } => true,
-        Command::List => true,
-        _ => false,
-    }
-}
-
-fn row_of(alloc: Global, words: &[Bytes]) -> Result<Option<Command>, Memory>
-    ensures { IfOk result (λ command. command ≡ row_of words.now) }
 {
     match words {
         [word] => Ok(row_of_one(word.as_slice())),

@@ -1,5 +1,5 @@
 // Calls that fail, files that aren't read, and a store with a bad row.
-use crate::test_files::{C, CO, COC, NOTHING, failing, files, words};
+use crate::test_files::{C, CO, COC, NOTHING, failing, files, is_run_over, words};
 use crate::{Status, top};
 use mk_outside::{
     Bytes, CallNumbers, FileRows, MemFiles, MemKeeper, MemSink, MemSource, Memory, RecordRow,
@@ -119,17 +119,12 @@ fn is_kept_run(
     wanted: &str,
     status: Status,
 ) -> Result<bool, Fail> {
-    let mut files = SureFiles::new(files(alloc, C, C)?);
-    let mut input = SureSource::new(Bytes::of(script.as_bytes().to_vec(alloc)?));
-    let mut output = SureSink::new(Bytes::new(alloc));
-    let ended = top(alloc, &[], &mut files, &mut input, &mut output, keeper);
-    if ended == Status::Memory {
-        return Err(Fail::from(Memory));
-    }
-    Ok(ended == status && output.bytes() == wanted.as_bytes())
+    let mut files = MemFiles::new(files(alloc, C, C)?, CallNumbers::new(alloc));
+    let is_so = is_run_over(alloc, &[], &mut files, keeper, script, wanted, status)?;
+    Ok(is_so)
 }
 
-// The third commit fails. The records before it are kept, and read again by the next run.
+// The third commit fails, and in the next run a file isn't there. The records before are kept, and read again.
 #[test]
 fn a_failed_commit_keeps_what_was_kept(rt: HostRuntime) -> Result<(), Fail> {
     let alloc = rt.alloc();
@@ -145,7 +140,17 @@ fn a_failed_commit_keeps_what_was_kept(rt: HostRuntime) -> Result<(), Fail> {
             Status::Store
         )?
     );
-    let list = "records 2\nrecord 1\nrecord 2\nqueries 0\ncursors 0\nnext 3 1\n";
+    let script = "load m\nload none.sdf";
+    assert!(rt;
+        is_kept_run(
+            alloc,
+            &mut keeper,
+            script,
+            "loaded 1 first 3\n",
+            Status::Read
+        )?
+    );
+    let list = "records 3\nrecord 1\nrecord 2\nrecord 3\nqueries 0\ncursors 0\nnext 4 1\n";
     assert!(rt; is_kept_run(alloc, &mut keeper, "list", list, Status::Done)?);
     Ok(())
 }

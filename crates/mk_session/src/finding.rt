@@ -1,18 +1,19 @@
 // What a command comes to. A further command is a further function and a further arm here.
 ghost use Rattle.std.specs.Prelude.{◌≡◌, IfOk, Some};
-ghost use Rattle.mk_session.specs.Commands.{CanAsk};
+ghost use Rattle.mk_session.specs.Commands.{CanAsk, IsLimit};
 ghost use Rattle.mk_library.specs.Library.{IsSame};
-ghost use Rattle.mk_session.specs.declared.effect.Found.TheVariants as found;
 ghost use Rattle.mk_session.specs.Saved.{IsSameSaved};
-ghost use Rattle.mk_session.specs.Step.{Reaches, no_command_text};
-ghost use Rattle.mk_session.specs.Running.{FoundFits, MissesAt, Seeks, stands_for};
+ghost use Rattle.mk_session.specs.Step.{IsDrillAnswer, Reaches};
+ghost use Rattle.mk_session.specs.Running.{FoundFits, MissesAt, Seeks, effect_of, stands_for};
 
 use crate::loading::{load_found, replace_found};
 use crate::matching::match_found;
 use crate::queries::{forget_found, keep_found};
 use crate::records::{list_found, remove_found, show_found};
 use crate::saved::Saved;
-use crate::{Command, Found, StepFail};
+use crate::searching::{resume_found, search_found};
+use crate::{Command, Edit, Found, StepFail};
+use mk_drill::drill;
 use mk_library::Library;
 use mk_model::Steps;
 use mk_outside::{Bytes, Files, Memory};
@@ -51,15 +52,22 @@ pub fn found_of<F: Files, L: Ledger>(
             keep_found(alloc, library, saved, files, name.as_str(), file.as_str())
         }
         Command::Forget { name } => Ok(forget_found(alloc, library, saved, name.as_str())?),
-        Command::Search { .. } => Ok(no_command(alloc)?),
-        Command::Resume { .. } => Ok(no_command(alloc)?),
-        Command::Drill { .. } => Ok(no_command(alloc)?),
+        Command::Search { name, limit } => {
+            Ok(search_found(alloc, library, saved, name.as_str(), *limit, steps)?)
+        }
+        Command::Resume { cursor, limit } => {
+            Ok(resume_found(alloc, library, saved, *cursor, *limit, steps)?)
+        }
+        Command::Drill { start, count } => Ok(drill_found(alloc, *start, *count)?),
     }
 }
 
-// A command that isn't built is refused as what is no command.
-fn no_command(alloc: Global) -> Result<Found, Memory>
-    ensures { IfOk result (λ f. f ≡ found.Refused no_command_text) }
+// What the drill comes to.
+fn drill_found(alloc: Global, start: u32, count: u32) -> Result<Found, Memory>
+    requires count { IsLimit count }
+    ensures { IfOk result (λ found. IsDrillAnswer start count (effect_of found)) }
 {
-    Ok(Found::Refused(Bytes::of(Vec::from_slice(alloc, b"refused 1 command\n")?)))
+    let mut line = Vec::new(alloc);
+    drill(alloc, start, count, &mut line)?;
+    Ok(Found::Answered(Edit::Nothing, Bytes::of(line)))
 }

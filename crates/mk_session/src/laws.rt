@@ -1,10 +1,15 @@
 // Laws over the definitions alone, each carried by a function that does nothing.
-ghost use Rattle.mk_session.specs.Commands.{CommandsAreRead, OneReading};
-ghost use Rattle.mk_session.specs.Laws.{OneEffect, OneRun, OneSaid, TwoScripts};
+ghost use Rattle.mk_session.specs.Commands.{CommandsAreRead, OneReading, StoreIsRead, WordsAreRead};
+ghost use Rattle.mk_session.specs.Laws.{OneEffect, OneRun, OneSaid, RunsKeepReading, TwoScripts};
 
+use mk_drill::one_drill;
+use mk_library::{edits_keep_reading, records_change_alone};
 use mk_mol::{one_filled_molecule, one_first_fault};
-use mk_query::{fault_or_query, one_first_fault as one_first_query_fault, one_query};
-use mk_rgfile::query_file_is_exact;
+use mk_query::{
+    fault_or_query, kept_text_is_the_query, one_first_fault as one_first_query_fault, one_query,
+    passed_queries_fit,
+};
+use mk_rgfile::{kept_text_stays, query_file_is_exact};
 use mk_sdfile::sdfile_is_exact;
 
 /// The command that words are is computed exactly, and words are at most one command.
@@ -13,10 +18,28 @@ pub fn commands_are_read()
     ensures one { OneReading }
 {}
 
+/// The path of a store is read exactly where the words have one in front, and words ask for exactly what they say.
+pub fn words_are_read()
+    ensures store { StoreIsRead }
+    ensures words { WordsAreRead }
+{}
+
 /// Two scripts one after the other are one script.
 pub fn two_scripts()
     ensures { TwoScripts }
 {}
+
+/// Tables that a run leaves read, where those before it did and both next numbers were at least 1.
+pub fn runs_keep_reading()
+    ensures { RunsKeepReading }
+{
+    // The laws on which this one rests.
+    kept_text_stays();
+    kept_text_is_the_query();
+    passed_queries_fit();
+    edits_keep_reading();
+    records_change_alone();
+}
 
 /// One thing is said of a text as a query file.
 pub(crate) fn one_said()
@@ -42,4 +65,5 @@ pub fn one_run()
     sdfile_is_exact();
     one_first_fault();
     one_filled_molecule();
+    one_drill();
 }

@@ -7,11 +7,12 @@
 //! rows read in `specs/StoredRows.antt`. What a hit is stands in mk_model, the records of an SDfile in mk_sdfile, and the
 //! molecule of a table in mk_mol.
 //!
-//! So far all commands but `search`, `resume` and `drill` are built. Only this crate knows what a command is. It reads no
-//! columns: see `mk_ctab`.
+//! Only this crate knows what a command is. It reads no columns: see `mk_ctab`.
 #![tactic(auto)]
 
 mod answers;
+#[cfg(test)]
+mod benzene_tests;
 mod command;
 mod command_parts;
 mod command_reading;
@@ -19,6 +20,8 @@ mod command_rows;
 mod effect;
 #[cfg(test)]
 mod failure_tests;
+#[cfg(test)]
+mod fault_tests;
 mod file_reading;
 mod files;
 mod finding;
@@ -38,27 +41,39 @@ mod queries;
 mod query_tests;
 mod query_text;
 mod reading;
+#[cfg(test)]
+mod record_tests;
 mod records;
 mod running;
 mod saved;
 mod saved_pending;
 #[cfg(test)]
 mod script_tests;
+#[cfg(test)]
+mod search_store_tests;
+#[cfg(test)]
+mod search_tests;
+mod searching;
 mod session;
 mod status;
 mod stepping;
+mod store_words;
 mod stored_rows;
 #[cfg(test)]
 mod test_files;
+#[cfg(test)]
+mod words_tests;
 mod work;
 
 pub use command::{Command, LineKind, WordsKind};
 pub use command_reading::{command_of_line, command_of_words};
 pub use effect::{Ended, StepFail};
 pub(crate) use effect::{Edit, Found};
-pub use laws::{commands_are_read, one_run, two_scripts};
+pub use laws::{commands_are_read, one_run, runs_keep_reading, two_scripts, words_are_read};
+pub use mk_drill::drill;
 pub use mk_text::Memory;
 pub use running::top;
 pub use session::Session;
 pub use status::Status;
+pub use store_words::store_word;
 pub use stored_rows::{BeginFail, RowKind};

@@ -1,7 +1,7 @@
 // The command `match`.
 ghost use Rattle.std.specs.Prelude.{◌≡◌, ℕ, List, Option, IfOk};
 ghost use Rattle.mk_session.specs.Files.{Look};
-ghost use Rattle.mk_session.specs.Match.{IsMatch, IsSearch, IsTurnOfMatch};
+ghost use Rattle.mk_session.specs.Match.{IsMatch, IsSearchOfFile, IsTurnOfMatch};
 ghost use Rattle.mk_session.specs.Matching.{IsHeldBy, IsTurnOf, IsWithin};
 ghost use Rattle.mk_session.specs.QueryText.{IsHeldQuery, query_bytes};
 ghost use Rattle.mk_session.specs.Running.{MissesAt, SeeksSo, effect_of};
@@ -38,7 +38,7 @@ pub fn match_found<F: Files, L: Ledger>(
     let held = query_held(alloc, bytes)?;
     match held {
         HeldQuery::Refused(line) => Ok(Found::Refused(line)),
-        HeldQuery::Query(wanted) => search_found(alloc, files, &wanted, molecules, steps),
+        HeldQuery::Query(wanted) => search_file(alloc, files, &wanted, molecules, steps),
     }
 }
 
@@ -51,14 +51,14 @@ fn query_held(alloc: Global, bytes: Option<Bytes>) -> Result<HeldQuery, Memory>
 }
 
 // Reads the molecules' file and searches it.
-fn search_found<F: Files, L: Ledger>(
+fn search_file<F: Files, L: Ledger>(
     alloc: Global,
     files: &mut F,
     wanted: &Query,
     molecules: &str,
     steps: &mut Steps<L>,
 ) -> Result<Found, StepFail>
-    ensures sought { SeeksSo (IsSearch wanted.now (F.look_up files.old) molecules.now) (IsTurnOf molecules.now) (F.faults files.old) (F.faults files.new) result }
+    ensures sought { SeeksSo (IsSearchOfFile wanted.now (F.look_up files.old) molecules.now) (IsTurnOf molecules.now) (F.faults files.old) (F.faults files.new) result }
     ensures same_files { F.look_up files.new ≡ F.look_up files.old }
     ensures missed { MissesAt (F.look_up files.old) (IsTurnOf molecules.now) (F.absences files.old) (F.absences files.new) }
 {
@@ -77,7 +77,7 @@ fn answer_of<L: Ledger>(
     held: Held,
     steps: &mut Steps<L>,
 ) -> Result<Found, Memory>
-    ensures { (files : Option Look) (name : List ℕ) → IsHeldBy files name held → IfOk result (λ found. IsSearch wanted.now files name (effect_of found)) }
+    ensures { (files : Option Look) (name : List ℕ) → IsHeldBy files name held → IfOk result (λ found. IsSearchOfFile wanted.now files name (effect_of found)) }
 {
     match held {
         Held::Refused(line) => Ok(Found::Refused(line)),

@@ -171,8 +171,8 @@ fn name_held(alloc: Global, name: &str) -> Result<Found, Memory>
     Ok(Found::Refused(named(alloc, b"refused 7 name ", name)?))
 }
 
-// The refusal of a name that isn't held.
-fn no_query(alloc: Global, name: &str) -> Result<Found, Memory>
+/// The refusal of a name that isn't held.
+pub fn no_query(alloc: Global, name: &str) -> Result<Found, Memory>
     ensures { IfOk result (λ f. f ≡ found.Refused (no_query_text name.now)) }
 {
     Ok(Found::Refused(named(alloc, b"refused 8 query ", name)?))

@@ -1,5 +1,5 @@
 // Kept queries: the commands `query` and `forget`, and stores with queries and saved searches.
-use crate::test_files::{C, CO, Drawn, Held, Written, bytes_of, files, is_run};
+use crate::test_files::{C, CO, Drawn, Held, Written, bytes_of, files, is_run, is_run_over};
 use crate::{Status, top};
 use mk_outside::{
     Bytes, CursorRow, Memory, Place, QueryRow, SureFiles, SureKeeper, SureSink, SureSource, Tables,
@@ -8,7 +8,7 @@ use std::alloc::Global;
 use std::test::Fail;
 
 // A script over the file q, and its answers.
-static SCRIPTS: [(&str, Held, &str, &str, Status); 14] = [
+static SCRIPTS: [(&str, Held, &str, &str, Status); 15] = [
     (
         "queries are listed as they were kept",
         CO,
@@ -63,6 +63,13 @@ static SCRIPTS: [(&str, Held, &str, &str, Status); 14] = [
         Drawn("C Xx | 1-2"),
         "query q q",
         "refused 3 query check Q1 table 0 item 2\n",
+        Status::Refused,
+    ),
+    (
+        "a line that is bad behind such a symbol",
+        Written("\n\n\n  1  0\n                               Xx\nM  END\nx\n"),
+        "query q q",
+        "refused 2 query line 7\n",
         Status::Refused,
     ),
     (
@@ -147,14 +154,9 @@ fn is_run_on(
     wanted: &str,
     status: Status,
 ) -> Result<bool, Fail> {
-    let mut files = SureFiles::new(files(alloc, C, C)?);
-    let mut input = SureSource::new(Bytes::of(script.as_bytes().to_vec(alloc)?));
-    let mut output = SureSink::new(Bytes::new(alloc));
-    let ended = top(alloc, &[], &mut files, &mut input, &mut output, keeper);
-    if ended == Status::Memory {
-        return Err(Fail::from(Memory));
-    }
-    Ok(ended == status && output.bytes() == wanted.as_bytes())
+    let mut files = SureFiles::new(files(alloc, C, Written("x"))?);
+    let is_so = is_run_over(alloc, &[], &mut files, keeper, script, wanted, status)?;
+    Ok(is_so)
 }
 
 // The rows of a store: numbers, names and texts of queries; numbers, names and sizes of places.
@@ -168,7 +170,7 @@ struct Store {
 const LISTED: &str =
     "records 0\nqueries 2\nquery b\nquery a\ncursors 2\ncursor 3 a\ncursor 7 b\nnext 1 9\n";
 
-static STORES: [Store; 18] = [
+static STORES: [Store; 19] = [
     Store {
         name: "rows that read",
         queries: &[(2, "b", C), (4_294_967_295, "a", CO)],
@@ -202,6 +204,16 @@ static STORES: [Store; 18] = [
     Store {
         name: "an empty name",
         queries: &[(2, "", C)],
+        cursors: &[],
+        wanted: "bad store query 2\n",
+    },
+    Store {
+        name: "a name of 65 bytes",
+        queries: &[(
+            2,
+            "abcdefghijklmnopqrstuvwxyz_ABCDEFGHIJKLMNOPQRSTUVWXYZ-0123456789.",
+            C,
+        )],
         cursors: &[],
         wanted: "bad store query 2\n",
     },
@@ -327,16 +339,17 @@ fn stored_queries_and_searches_read_or_are_named(rt: HostRuntime) -> Result<(), 
     Ok(())
 }
 
-// Searches go with their query, and the next run reads what this one left. A number may be the last one.
+// Searches go with their query, and the next run reads what this one left. A number may be the last one: then no query is kept,
+// but what its file is comes before that.
 #[test]
 fn a_query_is_forgotten_with_its_searches(rt: HostRuntime) -> Result<(), Fail> {
     let alloc = rt.alloc();
     let mut tables = tables_of(alloc, &STORES[0])?;
     tables.cursors.push(cursor_row(alloc, 8, "a", 1)?)?;
     let mut keeper = SureKeeper::new(tables);
-    let script = "query c q\nforget a\nquery c q\nlist";
+    let script = "query c m\nquery c q\nforget a\nquery c q\nlist";
     let wanted =
-        "refused 10 queries\nforgot a\nkept c\nrecords 0\nqueries 2\nquery b\nquery c\ncursors 1\ncursor 7 b\nnext 1 9\n";
+        "refused 2 query line 2\nrefused 10 queries\nforgot a\nkept c\nrecords 0\nqueries 2\nquery b\nquery c\ncursors 1\ncursor 7 b\nnext 1 9\n";
     assert!(rt; is_run_on(alloc, &mut keeper, script, wanted, Status::Refused)?);
     let list = "records 0\nqueries 2\nquery b\nquery c\ncursors 1\ncursor 7 b\nnext 1 9\n";
     assert!(rt; is_run_on(alloc, &mut keeper, "list", list, Status::Done)?);

@@ -1,5 +1,5 @@
 // What a session holds beside its library, and one change of it at a time.
-ghost use Rattle.std.specs.Prelude.{◌≡◌, ◌+◌, ◌<◌, ◌≤◌, ◌++◌, ◌∷◌, ℕ, [], false, true, nat_le, IfNone, IfSome, OnOk, length};
+ghost use Rattle.std.specs.Prelude.{◌≡◌, ◌+◌, ◌<◌, ◌≤◌, ◌++◌, ◌∷◌, ℕ, [], false, true, nat_le, IfNone, IfSome, OnOk, length, Some, None};
 ghost use Rattle.std.specs.List.{AllByRecursion};
 ghost use Rattle.mk_outside.specs.declared.tables.Change.TheVariants.{PutQuery, DropQuery, PutCursor, DropCursor};
 ghost use Rattle.mk_outside.specs.declared.tables.QueryRow.{QueryRow};
@@ -7,6 +7,7 @@ ghost use Rattle.mk_outside.specs.Tables.{after_change};
 ghost use Rattle.mk_session.specs.Commands.{IsName};
 ghost use Rattle.mk_session.specs.Saved.{HasRoomFor, IsMeant, IsSameSaved, cursors_of, greatest_number, is_named, longest_place, most_queries, most_search_number, rows_of, saved_tables};
 ghost use Rattle.mk_session.specs.SavedPending.{IsInPlace};
+ghost use Rattle.mk_session.specs.Searching.{HasSearchRoom, IsQueryNamed, search_of};
 ghost use Rattle.mk_session.specs.StoredRows.{HasQueryPlace, ReadsCursor};
 
 use crate::command_parts::is_name;
@@ -110,6 +111,36 @@ impl Saved {
         ensures { result ≡ is_named name.now self.now.queries }
     {
         self.queries.contains_key(name)
+    }
+
+    /// What the query of a name means, or none where none has the name.
+    pub fn query_named(&self, name: &[u8]) -> Option<&Query>
+        ensures some { IfSome result (λ query. IsQueryNamed self.now.queries name.now query.now) }
+        ensures name { IfSome result (λ _. IsName name.now) }
+        ensures none { IfNone result (is_named name.now self.now.queries ≡ false) }
+    {
+        match self.queries.get(name) {
+            None => None,
+            Some(kept) => Some(&kept.query),
+        }
+    }
+
+    /// The saved search of a number.
+    pub fn search(&self, number: u32) -> Option<&SavedSearch>
+        ensures some { IfSome result (λ search. search_of number self.now.cursors ≡ Some (record { number = number; name = search.now.name; place = search.now.place })) }
+        ensures named { IfSome result (λ search. is_named search.now.name self.now.queries ≡ true) }
+        ensures short { IfSome result (λ search. length search.now.place ≤ longest_place) }
+        ensures none { IfNone result (search_of number self.now.cursors ≡ None) }
+    {
+        self.cursors.get(number)
+    }
+
+    /// Whether one more search may be saved, whatever room there is in memory.
+    pub fn has_search_room(&self) -> bool
+        ensures room { result ≡ true → HasSearchRoom self.now.cursors self.now.next_cursor }
+        ensures full { result ≡ false → ¬ (HasSearchRoom self.now.cursors self.now.next_cursor) }
+    {
+        self.cursors.rows().len() < MOST_SEARCHES && self.next_cursor as usize <= MOST_SEARCH_NUMBER
     }
 
     /// Whether there are as many queries as there may be.

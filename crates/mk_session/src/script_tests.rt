@@ -6,13 +6,15 @@ use std::alloc::Global;
 use std::test::Fail;
 
 // No words are a script, which is empty here.
-static OTHER_WORDS: [&[&str]; 8] = [
+static OTHER_WORDS: [&[&str]; 10] = [
+    &["load"],
+    &["--store"],
     &["match"],
     &["match", "q"],
     &["Match", "q", "m"],
     &["match", "q", "m", "m"],
-    &["--store", "s"],
-    &["search", "q", "1"],
+    &["--store"],
+    &["search", "q"],
     &["show", "0"],
     &["show", "1234567890"],
 ];
@@ -38,7 +40,7 @@ fn other_words_are_not_understood(rt: HostRuntime) -> Result<(), Fail> {
 }
 
 // Each line of a script, and its answer.
-static LINES: [(&str, &str, Status); 18] = [
+static LINES: [(&str, &str, Status); 20] = [
     ("", "", Status::Done),
     ("   \n\n  \r\n", "", Status::Done),
     (
@@ -78,8 +80,14 @@ static LINES: [(&str, &str, Status); 18] = [
         "loaded 1 first 1\nloaded 1 first 2\nremoved 1\nrecords 1\nrecord 2\nqueries 0\ncursors 0\nnext 3 1\n",
         Status::Done,
     ),
-    ("search q 1", "refused 1 command\n", Status::Refused),
-    ("drill 1 1", "refused 1 command\n", Status::Refused),
+    ("resume 0 1", "refused 1 command\n", Status::Refused),
+    ("drill 0 0", "refused 1 command\n", Status::Refused),
+    ("drill 0 10001", "refused 1 command\n", Status::Refused),
+    (
+        "load m\ndrill 0 1\nlist",
+        "loaded 1 first 1\ndrill 1 hits 6 fold 798\nrecords 1\nrecord 1\nqueries 0\ncursors 0\nnext 2 1\n",
+        Status::Done,
+    ),
     ("--store s", "refused 1 command\n", Status::Refused),
 ];
 

@@ -2,8 +2,8 @@
 use crate::{Status, top};
 use mk_fixtures::{molfile_of_sketch, rgfile_of_sketches};
 use mk_outside::{
-    Bytes, CallNumbers, FileRow, FileRows, Memory, SureFiles, SureKeeper, SureSink, SureSource,
-    Tables, Text,
+    Bytes, CallNumbers, FileRow, FileRows, Files, Keeper, Memory, SureFiles, SureKeeper, SureSink,
+    SureSource, Tables, Text,
 };
 use std::alloc::Global;
 use std::test::Fail;
@@ -87,7 +87,26 @@ pub fn words(alloc: Global, words: &[&str]) -> Result<Vec<String>, Memory> {
     Ok(all)
 }
 
-// Whether the words and the input end so over these files and empty tables, and write this.
+// Whether the words and the input end so over these files and this keeper, and write this.
+pub fn is_run_over<F: Files, K: Keeper>(
+    alloc: Global,
+    words: &[String],
+    files: &mut F,
+    keeper: &mut K,
+    script: &str,
+    wanted: &str,
+    status: Status,
+) -> Result<bool, Memory> {
+    let mut input = SureSource::new(Bytes::of(script.as_bytes().to_vec(alloc)?));
+    let mut output = SureSink::new(Bytes::new(alloc));
+    let ended = top(alloc, words, files, &mut input, &mut output, keeper);
+    if ended == Status::Memory {
+        return Err(Memory);
+    }
+    Ok(ended == status && output.bytes() == wanted.as_bytes())
+}
+
+// Whether they do over empty tables.
 pub fn is_run(
     alloc: Global,
     words: &[String],
@@ -97,21 +116,16 @@ pub fn is_run(
     status: Status,
 ) -> Result<bool, Memory> {
     let mut files = SureFiles::new(rows);
-    let mut input = SureSource::new(Bytes::of(script.as_bytes().to_vec(alloc)?));
-    let mut output = SureSink::new(Bytes::new(alloc));
     let mut keeper = SureKeeper::new(Tables::new(alloc));
-    let ended = top(
+    is_run_over(
         alloc,
         words,
         &mut files,
-        &mut input,
-        &mut output,
         &mut keeper,
-    );
-    if ended == Status::Memory {
-        return Err(Memory);
-    }
-    Ok(ended == status && output.bytes() == wanted.as_bytes())
+        script,
+        wanted,
+        status,
+    )
 }
 
 // Whether `match q m` ends so over these files, and writes this.

@@ -1,4 +1,4 @@
-use Rattle.std.proofs.Common.{◌≡◌, List, ℕ, get_or, arith, sym, subst}
+use Rattle.std.proofs.Common.{List, ℕ, get_or, subst}
 use Rattle.mk_session.specs.Hits.{PutsLine}
 use Rattle.mk_session.proofs.HitLinesLemmas.{lines_more}
 use Rattle.mk_session.proofs.hit_lines.lines_of.Goals as goal

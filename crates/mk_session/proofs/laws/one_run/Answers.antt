@@ -18,6 +18,7 @@ returns-clause-effect c =
       fault = c.one_first_fault-2.ensures.one;
       no_fault = c.one_first_fault-2.ensures.none;
       filled = c.one_filled_molecule.ensures;
+      drills = c.one_drill.ensures;
     })
 
 pub returns-clause-run : goal.returns-clause-run
@@ -37,4 +38,5 @@ returns-clause-run c =
       fault = c.one_first_fault-2.ensures.one;
       no_fault = c.one_first_fault-2.ensures.none;
       filled = c.one_filled_molecule.ensures;
+      drills = c.one_drill.ensures;
     })

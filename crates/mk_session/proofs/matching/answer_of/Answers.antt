@@ -1,4 +1,4 @@
-use Rattle.std.proofs.Common.{◌≡◌, [], ap, refl}
+use Rattle.std.proofs.Common.{[], ap, refl}
 use Rattle.mk_text.specs.Rising.{AreFirst}
 use Rattle.mk_model.specs.Keys.{IsKey}
 use Rattle.mk_session.specs.Effects.{Answers}

@@ -1,4 +1,4 @@
-use Rattle.std.proofs.Common.{ap, refl}
+use Rattle.std.proofs.Common.{refl}
 use Rattle.mk_session.specs.Match.{IsMatch, IsTurnOfMatch, QueryRefused, TurnOfQuery}
 use Rattle.mk_session.proofs.MatchLemmas.{matched, misses_both}
 use Rattle.mk_session.proofs.QueryTextLemmas.{query_held_by}
@@ -18,11 +18,11 @@ returns-in-Refused-clause-sought g c =
 pub returns-in-Query-clause-sought : goal.returns-in-Query-clause-sought
 returns-in-Query-clause-sought g c =
     let held = query_held_by (g.F.Files.look_up c.args.files.now) c.args.query.now c.in-Ok.bytes c.in_ok-held.held c.in-Ok.ensures.found c.in_ok-held.ensures in
-    matched (g.F.Files.look_up c.args.files.now) c.args.query.now c.args.molecules.now c.in-Query.wanted _ _ _ c.search_found.result (rw c.in-Query.is at held) c.in-Ok.ensures.counted
-    (rw c.in-Ok.ensures.same_files at c.search_found.ensures.sought)
+    matched (g.F.Files.look_up c.args.files.now) c.args.query.now c.args.molecules.now c.in-Query.wanted _ _ _ c.search_file.result (rw c.in-Query.is at held) c.in-Ok.ensures.counted
+    (rw c.in-Ok.ensures.same_files at c.search_file.ensures.sought)
 
 pub returns-in-Query-clause-missed : goal.returns-in-Query-clause-missed
 returns-in-Query-clause-missed g c =
     let held = query_held_by (g.F.Files.look_up c.args.files.now) c.args.query.now c.in-Ok.bytes c.in_ok-held.held c.in-Ok.ensures.found c.in_ok-held.ensures in
     misses_both (g.F.Files.look_up c.args.files.now) c.args.query.now c.args.molecules.now c.in-Query.wanted _ _ _ (rw c.in-Query.is at held) c.in-Ok.ensures.never_falls c.in-Ok.ensures.absent
-    (rw c.in-Ok.ensures.same_files at c.search_found.ensures.missed)
+    (rw c.in-Ok.ensures.same_files at c.search_file.ensures.missed)

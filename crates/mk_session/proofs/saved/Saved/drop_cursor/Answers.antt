@@ -1,4 +1,3 @@
-use Rattle.mk_session.specs.Saved.{kept_tables}
 use Rattle.mk_session.proofs.SavedSearchLemmas.{out_kept, out_tables}
 use Rattle.mk_session.proofs.saved.Saved.drop_cursor.Goals as goal
 

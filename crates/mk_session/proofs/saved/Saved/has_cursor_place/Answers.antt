@@ -1,9 +1,8 @@
-use Rattle.std.proofs.Common.{◌≡◌, ◌<◌, ◌≤◌, ◌∙◌, length, true, arith, sym, ap, subst}
+use Rattle.std.proofs.Common.{◌≡◌, ◌<◌, ◌∙◌, length, true, arith, sym, ap, subst}
 use Rattle.std.specs.List.{AllByRecursion}
 use Rattle.std.proofs.lemmas.List.{length-map}
 use Rattle.mk_outside.specs.declared.tables.CursorRow.{CursorRow}
 use Rattle.mk_session.specs.Saved.{SavedView, cursor_row, is_named}
-use Rattle.mk_session.specs.StoredRows.{ReadsCursor}
 use Rattle.mk_session.proofs.SavedSearchLemmas.{all_under, not_under}
 use Rattle.mk_session.proofs.saved.Saved.has_cursor_place.Goals as goal
 

@@ -1,9 +1,7 @@
-use Rattle.std.proofs.Common.{◌≡◌, ◌<◌, ◌≤◌, ◌∙◌, ◌-◌, length, true, false, arith, sym, ap, subst}
-use Rattle.std.specs.List.{AllByRecursion}
+use Rattle.std.proofs.Common.{◌≡◌, ◌≤◌, ◌∙◌, ◌-◌, length, false, arith, sym, ap}
 use Rattle.std.proofs.lemmas.Bool.{leb-true, leb-false}
 use Rattle.mk_session.specs.Commands.{IsName}
-use Rattle.mk_session.specs.Saved.{SavedView, bytes_of_texts, is_named, rows_of}
-use Rattle.mk_session.specs.StoredRows.{HasQueryPlace}
+use Rattle.mk_session.specs.Saved.{SavedView, bytes_of_texts, is_named}
 use Rattle.mk_session.proofs.SavedLemmas.{above_greatest, below_all}
 use Rattle.mk_session.proofs.saved.Saved.has_query_place.Goals as goal
 

@@ -1,5 +1,4 @@
-use Rattle.std.proofs.Common.{◌≡◌, ◌++◌, ◌∷◌, [], ◌∙◌, ◌≤◌, sym, ap, subst}
-use Rattle.indexmap.specs.IndexMap.{spare}
+use Rattle.std.proofs.Common.{◌∙◌, ◌≤◌, sym, subst}
 use Rattle.mk_outside.specs.declared.tables.Change.TheVariants.{PutQuery}
 use Rattle.mk_session.specs.declared.saved.Kept.{Kept}
 use Rattle.mk_session.specs.Saved.{SavedView, saved_tables}
