@@ -1,5 +1,7 @@
-//! The program `markush`: the words of the command line, the real files, input and output, and empty tables in memory, handed
-//! to `top`.
+//! The program `markush`: the words of the command line, and the real files, input and output, handed to `run`.
+//!
+//! `run` does what the words or the input say, over the store that the words name or over empty tables in memory. Its
+//! promise is that of `top` of mk_session (`Runs` in `specs/Runs.antt`).
 #![tactic(auto)]
 
 ghost use Rattle.std.specs.Prelude.{◌≡◌};
@@ -9,8 +11,12 @@ ghost use Rattle.mk_outside.specs.Causes.{cause_of};
 ghost use Rattle.mk_session.specs.Status.{code_of};
 ghost use Rattle.markush.specs.Exits.{code_without_words};
 
-use mk_outside::{Cause, DiskFiles, StdSink, StdSource, SureKeeper, Tables, cause_of};
-use mk_session::{Status, top};
+mod running;
+#[cfg(test)]
+mod tests;
+
+use mk_outside::{Cause, DiskFiles, StdSink, StdSource, cause_of};
+use mk_session::Status;
 use std::process::ExitCode;
 use std::{env, io};
 
@@ -19,7 +25,7 @@ const NO_WORDS: u8 = 9;
 
 fn main(rt: HostRuntime) -> ExitCode {
     match words_of(&rt) {
-        Ok(words) => exit_of(run(rt, &words)),
+        Ok(words) => exit_of(real_run(rt, &words)),
         Err(error) => exit_without_words(&error),
     }
 }
@@ -30,21 +36,12 @@ fn words_of(rt: &HostRuntime) -> io::Result<Vec<String>> {
     Ok(words)
 }
 
-// Does what the words or the input say with the real files, input and output. The tables are kept in memory until the end.
-fn run(rt: HostRuntime, words: &[String]) -> Status {
-    let alloc = rt.alloc();
+// A run with the real files, input and output.
+fn real_run(rt: HostRuntime, words: &[String]) -> Status {
     let mut files = DiskFiles::new(rt);
     let mut input = StdSource::new(&rt);
     let mut output = StdSink::new(&rt);
-    let mut keeper = SureKeeper::new(Tables::new(alloc));
-    top(
-        alloc,
-        words,
-        &mut files,
-        &mut input,
-        &mut output,
-        &mut keeper,
-    )
+    running::run(&rt, rt.alloc(), words, &mut files, &mut input, &mut output)
 }
 
 // How the program ends after a run.

@@ -57,16 +57,12 @@ fn record(alloc: Global, bytes: &[u8]) -> Result<Change, AllocError>
     Ok(Change::PutRecord { number: 3, text })
 }
 
-fn query(alloc: Global) -> Result<Change, AllocError>
+fn query(alloc: Global, number: u32) -> Result<Change, AllocError>
     ensures { IfOk result CanKeep }
 {
     let name = name(alloc)?;
     let text = text(alloc, b"t")?;
-    Ok(Change::PutQuery {
-        number: 2,
-        name,
-        text,
-    })
+    Ok(Change::PutQuery { number, name, text })
 }
 
 fn cursor(alloc: Global) -> Result<Change, AllocError>
@@ -116,7 +112,7 @@ fn shown(alloc: Global, tables: &Tables) -> Result<Vec<u8>, AllocError> {
 // Whether both batches were made.
 fn put_all<K: Keeper>(keeper: &mut K, alloc: Global) -> Result<bool, AllocError> {
     let first = record(alloc, b"ab")?;
-    let query = query(alloc)?;
+    let query = query(alloc, 2)?;
     let cursor = cursor(alloc)?;
     if keeper.commit(alloc, &[first, query, cursor]).is_err() {
         return Ok(false);
@@ -156,6 +152,27 @@ fn a_file_keeps_what_memory_keeps(rt: HostRuntime) -> Result<(), Fail> {
     fs::remove_file(&rt, "kept.db-wal")?;
     assert!(rt; kept.as_slice() == b"3c2qt7q18548".as_slice());
     assert!(rt; kept == kept_in_memory(rt.alloc())?);
+    Ok(())
+}
+
+// Whether a batch fails of which the last change alone is refused, since another query has its name.
+fn is_refused<K: Keeper>(keeper: &mut K, alloc: Global) -> Result<bool, AllocError> {
+    let record = record(alloc, b"ab")?;
+    let query = query(alloc, 4)?;
+    Ok(matches!(
+        keeper.commit(alloc, &[record, query]),
+        Err(KeepFail::Failed)
+    ))
+}
+
+#[test]
+fn a_refused_batch_leaves_nothing(rt: HostRuntime) -> Result<(), Fail> {
+    let alloc = rt.alloc();
+    let mut keeper = SqlKeeper::over(Connection::open_in_memory(alloc)?);
+    let query = query(alloc, 2)?;
+    assert!(rt; keeper.commit(alloc, &[query]).is_ok());
+    assert!(rt; is_refused(&mut keeper, alloc)?);
+    assert!(rt; loaded(&mut keeper, alloc)?.as_slice() == b"2qt11".as_slice());
     Ok(())
 }
 

@@ -1,0 +1,120 @@
+// A whole run, with a store or without one.
+ghost use Rattle.std.specs.Prelude.{◌≡◌, map};
+ghost use Rattle.std.specs.String.{string_bytes};
+ghost use Rattle.mk_session.specs.Commands.{kind_of_words, store_path};
+ghost use Rattle.mk_session.specs.Headline.{IsUntouched};
+ghost use Rattle.markush.specs.Runs.{Runs, RunsInMemory, RunsOverStore};
+
+use mk_outside::{Files, Sink, Source, SureKeeper, Tables};
+use mk_session::{Status, store_word, top};
+use mk_sqlite::SqlKeeper;
+use std::alloc::Global;
+
+/// Does what the words or the input say, over the store that the words name, or over empty tables that are let go at the
+/// end.
+pub fn run<F: Files, S: Source, W: Sink>(
+    rt: &HostRuntime,
+    alloc: Global,
+    words: &[String],
+    files: &mut F,
+    input: &mut S,
+    output: &mut W,
+) -> Status
+    ensures runs { Runs (store_path (map string_bytes words.now)) (map string_bytes words.now)
+        (record {
+          files = F.look_up files.old;
+          input = S.left input.old;
+          output = W.so_far output.old;
+          files_faults = F.faults files.old;
+          input_faults = S.faults input.old;
+          output_faults = W.faults output.old;
+          absences = F.absences files.old;
+        })
+        (record {
+          files = F.look_up files.new;
+          input = S.left input.new;
+          output = W.so_far output.new;
+          files_faults = F.faults files.new;
+          input_faults = S.faults input.new;
+          output_faults = W.faults output.new;
+          absences = F.absences files.new;
+        }) result }
+    // Where the one command of the words can't read a file, nothing is written, told or not.
+    ensures unread { IsUntouched (kind_of_words (map string_bytes words.now)) (W.so_far output.old) (W.so_far output.new) result }
+    ensures same_files { F.look_up files.new ≡ F.look_up files.old }
+{
+    match store_word(words) {
+        Some(path) => run_over_store(rt, alloc, path, words, files, input, output),
+        None => run_in_memory(alloc, words, files, input, output),
+    }
+}
+
+// A run over the file of this path.
+fn run_over_store<F: Files, S: Source, W: Sink>(
+    rt: &HostRuntime,
+    alloc: Global,
+    path: &str,
+    words: &[String],
+    files: &mut F,
+    input: &mut S,
+    output: &mut W,
+) -> Status
+    ensures runs { RunsOverStore (map string_bytes words.now)
+        (record {
+          files = F.look_up files.old;
+          input = S.left input.old;
+          output = W.so_far output.old;
+          files_faults = F.faults files.old;
+          input_faults = S.faults input.old;
+          output_faults = W.faults output.old;
+          absences = F.absences files.old;
+        })
+        (record {
+          files = F.look_up files.new;
+          input = S.left input.new;
+          output = W.so_far output.new;
+          files_faults = F.faults files.new;
+          input_faults = S.faults input.new;
+          output_faults = W.faults output.new;
+          absences = F.absences files.new;
+        }) result }
+    ensures unread { IsUntouched (kind_of_words (map string_bytes words.now)) (W.so_far output.old) (W.so_far output.new) result }
+    ensures same_files { F.look_up files.new ≡ F.look_up files.old }
+{
+    let mut store = SqlKeeper::at(rt, path);
+    top(alloc, words, files, input, output, &mut store)
+}
+
+// A run over empty tables.
+fn run_in_memory<F: Files, S: Source, W: Sink>(
+    alloc: Global,
+    words: &[String],
+    files: &mut F,
+    input: &mut S,
+    output: &mut W,
+) -> Status
+    ensures runs { RunsInMemory (map string_bytes words.now)
+        (record {
+          files = F.look_up files.old;
+          input = S.left input.old;
+          output = W.so_far output.old;
+          files_faults = F.faults files.old;
+          input_faults = S.faults input.old;
+          output_faults = W.faults output.old;
+          absences = F.absences files.old;
+        })
+        (record {
+          files = F.look_up files.new;
+          input = S.left input.new;
+          output = W.so_far output.new;
+          files_faults = F.faults files.new;
+          input_faults = S.faults input.new;
+          output_faults = W.faults output.new;
+          absences = F.absences files.new;
+        }) result }
+    ensures unread { IsUntouched (kind_of_words (map string_bytes words.now)) (W.so_far output.old) (W.so_far output.new) result }
+    ensures same_files { F.look_up files.new ≡ F.look_up files.old }
+{
+    let mut keeper = SureKeeper::new(Tables::new(alloc));
+    top(alloc, words, files, input, output, &mut keeper)
+}
