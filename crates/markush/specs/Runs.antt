@@ -20,7 +20,8 @@ pub record Outside : Type 0 where
   pub output_faults : ℕ
   pub absences : ℕ
 
--- these, with a keeper of which this is told, and of which so many calls failed
+-- what is told of files, input and output, with a keeper of which this is told, and of which so
+-- many calls failed
 abbrev pub with_keeper : Outside → Option Tables → ℕ → World
 with_keeper outside tables faults = record {
   files = outside.files;

@@ -1,4 +1,5 @@
 -- What lending a code leaves.
+--     Ends s P     the lender ends at a value of which P holds
 use Rattle.std.specs.Prelude.{[], ⊤}
 use Rattle.std.specs.Borrow.{Fml, MutBor, follows_so}
 use mathlib.Core.Option.{none}

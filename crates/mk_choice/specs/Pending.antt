@@ -1,4 +1,5 @@
 -- For the code: the slots that are still open, as one list.
+--     open_slots pending     these slots, in the order in which numbers are chosen for them
 use Rattle.std.specs.Prelude.{List, [], ◌++◌}
 use Rattle.mk_model.specs.declared.template.Slot.{Slot}
 use Rattle.mk_choice.specs.declared.pending.Pending.{Pending, Nothing, Slots'}

@@ -15,7 +15,8 @@ IsCodeWithin query numbers (Some n) = (n ≤ length numbers) × IsCode query 0 (
 
 -- ---- for the code
 
--- so many of the first numbers choose at these slots; none where none do
+-- so many of the first numbers choose at these slots; none where the numbers begin with no such
+-- choice
 abbrev pub AreChosenWithin : QueryView → List Slot → List ℕ → Option ℕ → Type 0
 AreChosenWithin query slots numbers None = (code behind : List ℕ) → Chooses query slots code → numbers ≡ code ++ behind → ⊥
 AreChosenWithin query slots numbers (Some n) = (n ≤ length numbers) × Chooses query slots (take n numbers)

@@ -18,7 +18,7 @@ pub record IsOfLine (aside : Bool) (line : RawAtom) (electrons : Electrons) : Ty
   pub charge : electrons.charge ≡ charge_of_column (column_of aside line)
   pub radical : pos electrons.radical ≡ radical_of_column (column_of aside line)
 
--- those of all atom lines
+-- the list has the charge and the radical of each atom line, in order, which may be set aside
 pub record AreOfLines (aside : Bool) (lines : List RawAtom) (list : List Electrons) : Type 0 where
   pub size : length list ≡ length lines
   pub each : (i : ℕ) (line : RawAtom) (electrons : Electrons) → i < length lines → IsOfLine aside (slice_index_or lines i line) (slice_index_or list i electrons)

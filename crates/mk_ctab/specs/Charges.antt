@@ -79,17 +79,18 @@ charge_at table n line =
     if lists_values table.props then last_or (pos 0) (values_for n (charge_pairs table.props))
     else charge_of_column (natural line.charge)
 
--- the radical of atom n, in the same way
+-- The radical of atom n: the last that an `M  RAD` lists for it, or 0. Only where nothing gives
+-- charges or radicals is it that of the atom line.
 abbrev pub radical_at : RawTable → ℕ → RawAtom → ℤ
 radical_at table n line =
     if lists_values table.props then last_or (pos 0) (values_for n (radical_pairs table.props))
     else radical_of_column (natural line.charge)
 
--- a radical that there is
+-- the radical is one of 0 to 3
 abbrev pub HasRadical : Electrons → Type 0
 HasRadical electrons = electrons.radical ≤ 3
 
--- they are those of atom n
+-- the charge and the radical are those of atom n
 pub record HasElectrons (table : RawTable) (n : ℕ) (line : RawAtom) (electrons : Electrons) : Type 0 where
   pub charge : electrons.charge ≡ charge_at table n line
   pub radical : pos electrons.radical ≡ radical_at table n line

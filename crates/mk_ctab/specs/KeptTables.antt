@@ -40,7 +40,8 @@ HoldNoTexts props = All HoldsNoText props
 abbrev pub KeptLinesAreTheTable : Type 0
 KeptLinesAreTheTable = (lines : List Line) (table : RawTable) → IsTable lines table → KeepsItsText table → IsTable (map without_crs lines) table
 
--- and so are those of a table that begins at a line
+-- where the table that begins at a line keeps its text, the same table begins there once CR bytes
+-- are taken from the ends of all lines
 abbrev pub KeptLinesAreTheTableFrom : Type 0
 KeptLinesAreTheTableFrom =
     (at : ℕ) (lines : List Line) (next : ℕ) (table : RawTable) → IsTableFrom at lines next table → KeepsItsText table

@@ -36,12 +36,12 @@ pub record IsPassedOver (lines : List Line) : Type 0 where
   pub whole : lines ≡ line ∷ after
   pub is : IsProperty line (kinds.Passed (length after))
 
--- one or the other
+-- the lines are one property that is kept, or a line that is passed over with those after it
 abbrev pub IsBlock : List Line → Option Property → Type 0
 IsBlock lines (Some property) = IsKeptLine lines property
 IsBlock lines None = IsPassedOver lines
 
--- the values that are there
+-- the values of a list in which some are missing, in order
 abbrev pub values_of : {V : Type 0} → List (Option V) → List V
 values_of [] = []
 values_of (Some v ∷ others) = v ∷ values_of others

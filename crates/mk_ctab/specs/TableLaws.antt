@@ -1,4 +1,11 @@
 -- What holds of the tables in a text: the statements that functions of `src/laws.rt` ensure.
+--     IsTableFrom at lines next table     a table begins behind the first `at` lines
+--     IsBadFrom at lines k                line k is the first that no table can have there
+--     IsV3000From at lines k              line k is the counts line of that table, and says V3000
+--     OneTable, BadWhereNoTable, OneBadLine     there is one table, or one bad line
+--     table_form                          the form of tables, of which forms that hold tables are made
+--     TablesAreExact                      tables are read exactly, whatever follows them
+--     BlankIsNoCountsLine                 a blank line is no counts line
 use Rattle.std.specs.Prelude.{◌≡◌, ◌↔◌, ℕ, ◌≤◌, true, None, List, length}
 use Rattle.mk_form.specs.Exact.{Part, Exact, Anything, AtOnce}
 use Rattle.mk_form.specs.Fronts.{IsPartFrom, IsBadLineFrom, IsNamedFrom}
@@ -31,7 +38,7 @@ OneTable = (at : ℕ) (lines : List Line) (m n : ℕ) (a b : RawTable) → IsTab
 abbrev pub BadWhereNoTable : Type 0
 BadWhereNoTable = (at : ℕ) (lines : List Line) → at ≤ length lines → ((k : ℕ) × IsBadFrom at lines k) ↔ ((next : ℕ) (table : RawTable) → ¬ (IsTableFrom at lines next table))
 
--- and only one
+-- behind the first `at` lines there is at most one bad line
 abbrev pub OneBadLine : Type 0
 OneBadLine = (at : ℕ) (lines : List Line) (j k : ℕ) → IsBadFrom at lines j → IsBadFrom at lines k → j ≡ k
 

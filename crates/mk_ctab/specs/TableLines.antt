@@ -34,7 +34,7 @@ natural_of line a b = field_of line a b >>= not_negative
 abbrev pub is_v3000 : Line → Bool
 is_v3000 line = bytes_eq (word_of line 34 39) (codes "V3000")
 
--- or they say V2000 or nothing
+-- columns 34 to 39 say V2000 or nothing
 abbrev pub is_v2000_or_none : Line → Bool
 is_v2000_or_none line = (length (word_of line 34 39) == 0) || bytes_eq (word_of line 34 39) (codes "V2000")
 

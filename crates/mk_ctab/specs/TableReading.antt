@@ -2,7 +2,7 @@
 --     table_part                      the composed part: what stands behind one line depends on what it says
 --     table_at lines                  what reading a table from the first of the lines on gives
 --     Answers lines answer reading    a reader that goes by an index answered what the reading gives
---     AnswersText lines answer reading     and so did one that reads the lines to the last
+--     AnswersText lines answer reading     a reader to the last line answered what the reading gives
 use Rattle.std.specs.Prelude.{◌≡◌, ℕ, ◌+◌, ◌*◌, Bool, true, false, List, [], Option, Some, None, Result, Ok, Err}
 use Rattle.mk_form.specs.Exact.{Part}
 use Rattle.mk_form.specs.Lines.{give, line, counts_line, line_where}
@@ -27,10 +27,12 @@ use Rattle.mk_ctab.specs.Table.{values_of}
 
 -- ---- property lines
 
+-- the property is `M  END`
 abbrev pub is_end : Property → Bool
 is_end kinds.End = true
 is_end p = false
 
+-- there is a property, and it is `M  END`
 abbrev pub is_some_end : Option Property → Bool
 is_some_end (Some p) = is_end p
 is_some_end None = false
@@ -58,41 +60,45 @@ after_property p = give (Some p)
 abbrev pub block : Part Line (Option Property)
 block = sequence (line property_before_end) after_property
 
+-- property lines with what they pass over, up to `M  END`
 abbrev pub blocks_part : Part Line (List (Option Property) × Unit {0})
 blocks_part = until is_end_line block (line_where is_end_line)
 
+-- the properties that are kept, without the lines passed over
 abbrev pub kept_in : List (Option Property) × Unit {0} → List Property
 kept_in v = values_of v.0
 
--- property lines up to `M  END`
+-- the properties that are kept, up to `M  END`
 abbrev pub properties_part : Part Line (List Property)
 properties_part = seen_as kept_in blocks_part
 
 -- ---- the table
 
+-- the table of these atoms, bonds, atom lists and properties
 abbrev pub table_with : List RawAtom → List RawBond → List RawList → List Property → RawTable
 table_with atoms bonds lists props = record { atoms = atoms; bonds = bonds; lists = lists; props = props }
 
--- behind the lines of stext entries
+-- the property lines, where atoms, bonds and atom lists are known
 abbrev pub after_stext : List RawAtom → List RawBond → List RawList → Part Line RawTable
 after_stext atoms bonds lists = seen_as (table_with atoms bonds lists) properties_part
 
--- behind the atom-list lines
+-- the stext entries, of two lines each, and the property lines
 abbrev pub after_lists : Counts → List RawAtom → List RawBond → List RawList → Part Line RawTable
 after_lists n atoms bonds lists = sequence (any_lines (2 * n.stext)) (λ _. after_stext atoms bonds lists)
 
--- behind the bond lines
+-- the atom-list lines and all behind them
 abbrev pub after_bonds : Counts → List RawAtom → List RawBond → Part Line RawTable
 after_bonds n atoms bonds = sequence (rows n.lists (line list_of)) (after_lists n atoms bonds)
 
--- behind the atom lines
+-- the bond lines and all behind them
 abbrev pub after_atoms : Counts → List RawAtom → Part Line RawTable
 after_atoms n atoms = sequence (rows n.bonds (line raw_bond_of)) (after_bonds n atoms)
 
--- behind the counts line
+-- the atom lines and all behind them
 abbrev pub after_counts : Counts → Part Line RawTable
 after_counts n = sequence (rows n.atoms (line raw_atom_of)) (after_atoms n)
 
+-- a table from its counts line to `M  END`
 abbrev pub table_part : Part Line RawTable
 table_part = sequence (counts_line is_v3000 counts_of) after_counts
 
@@ -118,12 +124,12 @@ abbrev pub AnswersText : {V : Type 0} → List Line → Result V TableFault → 
 AnswersText lines (Ok value) reading = reading ≡ Took value []
 AnswersText lines (Err fault) reading = Fails lines fault reading
 
--- the same of one line, that of index `at`
+-- the reading gave this value and took the one line of index `at`
 abbrev pub AnswersLine : {V : Type 0} → List Line → ℕ → Result V TableFault → Reading Line V → Type 0
 AnswersLine lines at (Ok value) reading = TakesLines lines (at + 1) value reading
 AnswersLine lines at (Err fault) reading = Fails lines fault reading
 
--- the same of lines that aren't looked at
+-- the reading took the lines up to this index, which aren't looked at
 abbrev pub AnswersIndex : List Line → Result ℕ TableFault → Reading Line (Unit {0}) → Type 0
 AnswersIndex lines (Ok next) reading = TakesLines lines next tt reading
 AnswersIndex lines (Err fault) reading = Fails lines fault reading

@@ -31,7 +31,7 @@ use Rattle.mk_ctab.specs.TableLines.{Line}
 unfoldable pub three : ℤ → List ℕ
 three z = signed_right_in 3 z
 
--- the same behind a blank
+-- a blank, and a number at the right of three columns
 abbrev pub spaced : ℤ → List ℕ
 spaced z = codes " " ++ three z
 
@@ -90,7 +90,8 @@ abbrev pub wide_symbols_line : AtomList → Line
 wide_symbols_line list =
     codes "M  ALS" ++ (spaced list.atom ++ (count_text list.symbols ++ (codes " " ++ (flag_text list.not ++ (codes " " ++ flat_map (at_left 4) list.symbols)))))
 
--- the same without them: where the last symbol is empty, nothing stands for it
+-- `M  ALS aaannn k ssss..` without blanks at its end: where the last symbol is empty, nothing
+-- stands for it
 unfoldable pub symbols_line : AtomList → Line
 symbols_line list = trimmed (wide_symbols_line list)
 
@@ -99,7 +100,8 @@ abbrev pub wide_logic_line : LogicLine → Line
 wide_logic_line logic =
     codes "M  LOG  1" ++ (spaced logic.group ++ (spaced logic.then_group ++ (spaced logic.rest ++ (codes " " ++ logic.range))))
 
--- the same without it: where the range is empty, the line ends with the last number
+-- `M  LOG  1 rrr iii hhh range` without blanks at its end: where the range is empty, the line ends
+-- with the last number
 unfoldable pub logic_line : LogicLine → Line
 logic_line logic = trimmed (wide_logic_line logic)
 
@@ -137,68 +139,68 @@ spelling table = text_of (table_lines table)
 
 -- ---- which tables can be spelt
 
--- -99 to 999
+-- a number from -99 to 999, which three columns can hold
 pub record FitsThree (z : ℤ) : Type 0 where
   pub from : neg_ℤ (pos 99) ≤ℤ z
   pub to : z ≤ℤ pos 999
 
--- the columns of an atom
+-- the numbers of an atom fit their columns
 pub record AtomFits (atom : RawAtom) : Type 0 where
   pub charge : FitsThree atom.charge
   pub hydrogens : FitsThree atom.hydrogens
   pub valence : FitsThree atom.valence
 
--- the columns of a bond
+-- the numbers of a bond fit their columns
 pub record BondFits (bond : RawBond) : Type 0 where
   pub first : FitsThree bond.first
   pub second : FitsThree bond.second
   pub kind : FitsThree bond.kind
   pub topology : FitsThree bond.topology
 
--- so many entries as one line holds, and at least one
+-- the entries are at least one, and no more than a line holds
 pub record IsCounted {X : Type 0} (most : ℕ) (entries : List X) : Type 0 where
   pub some : 1 ≤ length entries
   pub no_more : length entries ≤ most
 
--- an atom list: its columns, and one to five numbers
+-- the numbers of an atom list fit their columns, and the listed ones are one to five
 pub record ListFits (list : RawList) : Type 0 where
   pub atom : FitsThree list.atom
   pub count : IsCounted 5 list.numbers
   pub numbers : All FitsThree list.numbers
 
--- an atom and its value
+-- the two numbers of a pair fit their columns
 pub record PairFits (pair : Pair) : Type 0 where
   pub atom : FitsThree pair.atom
   pub value : FitsThree pair.value
 
--- one or more pairs
+-- the pairs are at least one, no more than a line holds, and fit their columns
 pub record PairsFit (most : ℕ) (pairs : List Pair) : Type 0 where
   pub count : IsCounted most pairs
   pub each : All PairFits pairs
 
--- a link entry
+-- the four numbers of a link entry fit their columns
 pub record LinkFits (link : LinkEntry) : Type 0 where
   pub atom : FitsThree link.atom
   pub most : FitsThree link.most
   pub from : FitsThree link.from
   pub to : FitsThree link.to
 
--- one to four of them
+-- the link entries are one to four, and fit their columns
 pub record LinksFit (links : List LinkEntry) : Type 0 where
   pub count : IsCounted 4 links
   pub each : All LinkFits links
 
--- the atom of an `M  ALS`, and the number of its symbols
+-- the atom of an `M  ALS` fits its columns, and its symbols are one to sixteen
 pub record AtomListFits (list : AtomList) : Type 0 where
   pub atom : FitsThree list.atom
   pub count : IsCounted 16 list.symbols
 
--- the site of an `M  AAL`, and its entries
+-- the site of an `M  AAL` fits its columns, and its entries are one or two that fit theirs
 pub record OrderFits (order : SiteOrder) : Type 0 where
   pub atom : FitsThree order.atom
   pub entries : PairsFit 2 order.entries
 
--- the three numbers of an `M  LOG`
+-- the three numbers of an `M  LOG` fit their columns
 pub record LogicFits (logic : LogicLine) : Type 0 where
   pub group : FitsThree logic.group
   pub then_group : FitsThree logic.then_group
@@ -227,12 +229,12 @@ pub record IsSymbol (width : ℕ) (symbol : List ℕ) : Type 0 where
   pub no_lf : ¬ (Contains symbol 10)
   pub fits : length symbol ≤ width
 
--- so do the symbols of an `M  ALS`
+-- each symbol of an `M  ALS` has no outer blanks, holds no LF and fits four columns
 abbrev pub SymbolsFit : Property → Type 0
 SymbolsFit (kinds.List list) = All (IsSymbol 4) list.symbols
 SymbolsFit p = Unit {0}
 
--- and none of them ends with CR, byte 13
+-- no symbol of an `M  ALS` ends with CR, byte 13
 abbrev pub SymbolsEnd : Property → Type 0
 SymbolsEnd (kinds.List list) = All (λ symbol. ¬ (EndsWith 13 symbol)) list.symbols
 SymbolsEnd p = Unit {0}
@@ -243,7 +245,7 @@ pub record IsRangeText (range : List ℕ) : Type 0 where
   pub no_cr : ¬ (EndsWith 13 range)
   pub no_blank : ¬ (EndsWith 32 range)
 
--- that of an `M  LOG` is one
+-- the range of an `M  LOG` holds no LF, and ends neither with CR nor with a blank
 abbrev pub RangeFits : Property → Type 0
 RangeFits (kinds.Logic logic) = IsRangeText logic.range
 RangeFits p = Unit {0}
@@ -271,6 +273,6 @@ pub record CanBeSpelt (table : RawTable) : Type 0 where
 abbrev pub SpellingIsRead : Type 0
 SpellingIsRead = (table : RawTable) → CanBeSpelt table → IsTable (lines_of (spelling table)) table
 
--- and none of them ends with a blank, byte 32
+-- no line of what is written ends with a blank, byte 32
 abbrev pub EndsWithNoBlank : Type 0
 EndsWithNoBlank = (table : RawTable) → CanBeSpelt table → All (λ line. ¬ (EndsWith 32 line)) (lines_of (spelling table))

@@ -47,7 +47,8 @@ abbrev pub weighed_from : ℕ → List (List ℕ) → ℕ
 weighed_from i [] = 0
 weighed_from i (key ∷ keys) = i * sum key + weighed_from (i + 1) keys
 
--- the same with the hits numbered from 1, modulo 1,000,000
+-- the number of each hit, from 1 on, times the sum of its key's numbers, all together modulo
+-- 1,000,000
 abbrev pub fold : List (List ℕ) → ℕ
 fold hits = weighed_from 1 hits % 1000000
 

@@ -7,6 +7,7 @@ pub record Row : Type 0 where
   pub element : ℕ
   pub valences : List ℕ
 
+-- the row of element z with these valences
 abbrev pub row : ℕ → List ℕ → Row
 row z valences = record { element = z; valences = valences }
 

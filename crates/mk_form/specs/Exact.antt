@@ -20,21 +20,21 @@ pub record Part (L V : Type 0) : Type 1 where
 
 -- ---- what may follow a text of a part
 
--- any lines: the part ends by itself
+-- any lines may stand behind a part that ends by itself
 abbrev pub Anything : {L : Type 0} → List L → Type 0
 Anything lines = Unit {0}
 
--- none: the part runs to the end
+-- no line may stand behind a part that runs to the end
 abbrev pub NoLines : {L : Type 0} → List L → Type 0
 NoLines lines = lines ≡ []
 
 -- ---- where in a part a line is due that may say its name
 
--- nowhere
+-- nowhere is a line due that may say its name
 abbrev pub Never : {L : Type 0} → List L → Type 0
 Never lines = ⊥
 
--- before any line of the part
+-- a line that may say its name is due before any line of the part
 abbrev pub AtOnce : {L : Type 0} → List L → Type 0
 AtOnce lines = lines ≡ []
 

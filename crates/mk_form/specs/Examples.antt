@@ -1,5 +1,6 @@
--- Each part on two or three lines. A line is a number here: a number below 10 spells itself, 30 says its name, and 99 is an
--- end or a separator. What each reader gives is computed.
+-- Each part on two or three lines. A line is a number here: a number below 10 spells itself, 30
+-- says its name, and 99 is an end or a separator. What each reader gives is computed.
+--     digit, says, is_end            what a line is in the examples
 use Rattle.std.specs.Prelude.{◌≡◌, refl, ℕ, zero, suc, nat_eq, nat_lt, Bool, true, false, if◌then◌else◌, Option, Some, None, List, [], ◌∷◌, length, sum}
 use Rattle.mk_form.specs.Reading.{Took, Stop}
 use Rattle.mk_form.specs.Exact.{Part}
@@ -44,7 +45,7 @@ line_is_wanted = refl
 pub line_is_named : (counts_line says digit).read (30 ∷ 5 ∷ []) ≡ Stop true (30 ∷ 5 ∷ [])
 line_is_named = refl
 
--- and not where another line is due
+-- a line that says its name isn't named where another line is due
 pub line_is_not_named : (line digit).read (30 ∷ 5 ∷ []) ≡ Stop false (30 ∷ 5 ∷ [])
 line_is_not_named = refl
 

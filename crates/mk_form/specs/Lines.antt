@@ -25,7 +25,7 @@ pub record OneLine {L V : Type 0} (f : L → Option V) (lines : List L) (value :
   pub whole : lines ≡ line ∷ []
   pub spells : f line ≡ Some value
 
--- no line yet, or the one
+-- the lines are none, or the one line of the part
 abbrev pub UpToOneLine : {L V : Type 0} → (L → Option V) → List L → Type 0
 UpToOneLine {L} {V} f lines = (lines ≡ []) ⊎ ((v : V) × OneLine f lines v)
 

@@ -5,6 +5,7 @@
 --     StopsAtLine lines named k reading  the reading stopped at line k
 use Rattle.std.specs.Prelude.{◌≡◌, ℕ, ◌+◌, ◌-◌, ◌≤◌, Bool, List, length, drop}
 
+-- what reading lines from the left gives: a value and the lines left, or the place where it stops
 pub data Reading (L V : Type 0) : Type 0 where
   -- this value was read, and these lines are left
   Took : (value : V) (rest : List L) → Reading L V

@@ -1,4 +1,12 @@
--- What holds for every form that is read exactly: the statements that the functions of `src/stopping.rt` ensure.
+-- What holds for every form that is read exactly: the statements that the functions of
+-- `src/stopping.rt` ensure.
+--     HasOneStop, LivesAreFronts     what is live, and the line that ends it
+--     HasOneValue, TextIsTaken       a text has one value, which the reader gives
+--     BadLineIsStop, IsTextOrBad, BadIsNoText, HasOneBadLine     of the bad line of lines
+--     HasOnePart, PartIsTaken, BadLineOfPartIsStop, IsPartOrBad     of a part that lines begin with
+--     HasOnePartFrom, PartFromIsTaken, BadLineFromIsStop, BadFromIsNoPart, HasOneBadLineFrom
+--                                    of a part behind the first lines of a longer text
+--     NamedIsDue, NamedFromIsDue, StopIsNamed, StopFromIsNamed     of the name of a line
 use Rattle.std.specs.Prelude.{◌≡◌, ◌↔◌, ℕ, ◌≤◌, ◌<◌, Bool, true, List, [], length, drop, ◌⊎◌, IsTrue}
 use Rattle.mk_form.specs.Fronts.{IsFront, IsStop, IsBadLineWhere, IsPart, IsPartFrom, IsBadLineOfPartWhere, IsBadLineFromWhere, IsNamed, IsNamedFrom}
 use Rattle.mk_form.specs.Reading.{Took, TakesLines, StopsAtLine}
@@ -6,7 +14,7 @@ use Rattle.mk_form.specs.Exact.{Part}
 
 -- ---- the first line with which the lines are no longer live
 
--- there is at most one
+-- there is at most one line with which the lines are no longer live
 abbrev pub HasOneStop : {L : Type 0} → (List L → Type 0) → Type 0
 HasOneStop {L} Live = (lines : List L) (j k : ℕ) → IsStop Live lines j → IsStop Live lines k → j ≡ k
 
@@ -32,11 +40,11 @@ BadLineIsStop {L} p = (lines : List L) (k : ℕ) → IsBadLineWhere p.live p.is 
 abbrev pub IsTextOrBad : {L V : Type 0} → Part L V → Type 0
 IsTextOrBad {L} {V} p = (lines : List L) → ((v : V) × p.is lines v) ⊎ ((k : ℕ) × IsBadLineWhere p.live p.is lines k)
 
--- they have a bad line exactly where they are no text of the form
+-- lines have a bad line exactly where they are no text of the form
 abbrev pub BadIsNoText : {L V : Type 0} → Part L V → Type 0
 BadIsNoText {L} {V} p = (lines : List L) → ((k : ℕ) × IsBadLineWhere p.live p.is lines k) ↔ ((v : V) → ¬ (p.is lines v))
 
--- and only one
+-- lines have at most one bad line
 abbrev pub HasOneBadLine : {L V : Type 0} → Part L V → Type 0
 HasOneBadLine {L} p = (lines : List L) (j k : ℕ) → IsBadLineWhere p.live p.is lines j → IsBadLineWhere p.live p.is lines k → j ≡ k
 
@@ -58,12 +66,12 @@ BadLineOfPartIsStop {L} p = (lines : List L) (k : ℕ) → IsBadLineOfPartWhere 
 abbrev pub IsPartOrBad : {L V : Type 0} → Part L V → Type 0
 IsPartOrBad {L} {V} p = (lines : List L) → ((count : ℕ) × (v : V) × IsPart p.is lines count v) ⊎ ((k : ℕ) × IsBadLineOfPartWhere p.live p.is lines k)
 
--- the same for a part behind the first lines of a longer text
+-- behind the first lines of a longer text, a text of the form is what the reader takes
 abbrev pub PartFromIsTaken : {L V : Type 0} → Part L V → Type 0
 PartFromIsTaken {L} {V} p =
     (at : ℕ) (lines : List L) (next : ℕ) (v : V) → at ≤ length lines → IsPartFrom p.is at lines next v ↔ ((at ≤ next) × TakesLines lines next v (p.read (drop at lines)))
 
--- and where the reader stops behind the first lines is the bad line there
+-- behind the first lines of a longer text, where the reader stops is the bad line
 abbrev pub BadLineFromIsStop : {L V : Type 0} → Part L V → Type 0
 BadLineFromIsStop {L} p =
     (at : ℕ) (lines : List L) (k : ℕ) → at ≤ length lines → IsBadLineFromWhere p.live p.is at lines k ↔ ((at < k) × (named : Bool) × StopsAtLine lines named k (p.read (drop at lines)))
@@ -77,7 +85,7 @@ abbrev pub BadFromIsNoPart : {L V : Type 0} → Part L V → Type 0
 BadFromIsNoPart {L} {V} p =
     (at : ℕ) (lines : List L) → at ≤ length lines → ((k : ℕ) × IsBadLineFromWhere p.live p.is at lines k) ↔ ((next : ℕ) (v : V) → ¬ (IsPartFrom p.is at lines next v))
 
--- and only one
+-- behind the first lines of a longer text there is at most one bad line
 abbrev pub HasOneBadLineFrom : {L V : Type 0} → Part L V → Type 0
 HasOneBadLineFrom {L} p = (at : ℕ) (lines : List L) (j k : ℕ) → IsBadLineFromWhere p.live p.is at lines j → IsBadLineFromWhere p.live p.is at lines k → j ≡ k
 
@@ -87,7 +95,8 @@ HasOneBadLineFrom {L} p = (at : ℕ) (lines : List L) (j k : ℕ) → IsBadLineF
 abbrev pub NamedIsDue : {L V : Type 0} → (L → Bool) → Part L V → Type 0
 NamedIsDue {L} says p = (lines : List L) (k : ℕ) → IsNamed p.due says lines k ↔ StopsAtLine lines true k (p.read lines)
 
--- the same for a part behind the first lines of a longer text
+-- behind the first lines of a longer text, the reader names its stop exactly where a line is due
+-- that may say its name, and the line says it
 abbrev pub NamedFromIsDue : {L V : Type 0} → (L → Bool) → Part L V → Type 0
 NamedFromIsDue {L} says p =
     (at : ℕ) (lines : List L) (k : ℕ) → at ≤ length lines → IsNamedFrom p.due says at lines k ↔ ((at < k) × StopsAtLine lines true k (p.read (drop at lines)))
@@ -96,7 +105,8 @@ NamedFromIsDue {L} says p =
 abbrev pub StopIsNamed : {L V : Type 0} → (L → Bool) → Part L V → Type 0
 StopIsNamed {L} says p = (lines : List L) (k : ℕ) (named : Bool) → StopsAtLine lines named k (p.read lines) → IsTrue named ↔ IsNamed p.due says lines k
 
--- the same for a part behind the first lines of a longer text
+-- behind the first lines of a longer text, a stop is named exactly where a line is due that may say
+-- its name, and the line says it
 abbrev pub StopFromIsNamed : {L V : Type 0} → (L → Bool) → Part L V → Type 0
 StopFromIsNamed {L} says p =
     (at : ℕ) (lines : List L) (k : ℕ) (named : Bool) → at ≤ length lines → at < k → StopsAtLine lines named k (p.read (drop at lines)) → IsTrue named ↔ IsNamedFrom p.due says at lines k

@@ -6,15 +6,19 @@ use Rattle.std.specs.List.{AllByRecursion}
 use Rattle.mk_outside.specs.declared.tables.RecordRow.{RecordRow}
 use Rattle.mk_library.specs.Records.{text_bytes}
 
+-- how many bytes a molecules' file may have
 abbrev pub file_bytes : ℕ
 file_bytes = 67108864
 
+-- how many records a library may hold
 abbrev pub most_records : ℕ
 most_records = 100000
 
+-- how many bytes of text the records of a library may have together
 abbrev pub most_bytes : ℕ
 most_bytes = 134217728
 
+-- the greatest number that a record may have
 abbrev pub most_number : ℕ
 most_number = 999999999
 

@@ -58,7 +58,7 @@ pub record PendingFits (library : LibraryView) (pending : PendingView) : Type 0 
 
 -- ---- a law
 
--- it puts or drops a record
+-- the change puts or drops a record
 abbrev pub IsOfRecords : Change → Type 0
 IsOfRecords (PutRecord number text) = ⊤
 IsOfRecords (DropRecord number) = ⊤

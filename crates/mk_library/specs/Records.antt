@@ -57,9 +57,10 @@ text_bytes (row ∷ records) = length row.text + text_bytes records
 
 -- ---- for the code
 
--- texts under their numbers, as record rows
+-- a text under its number, as a record row
 abbrev pub record_of : Numbered (List ℕ) → RecordRow
 record_of row = record { number = row.number; text = row.item }
 
+-- texts under their numbers, as record rows
 abbrev pub records_of : List (Numbered (List ℕ)) → List RecordRow
 records_of rows = map record_of rows

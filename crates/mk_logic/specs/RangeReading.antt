@@ -1,4 +1,4 @@
--- For code alone: the same, computed.
+-- For code alone: range texts, computed.
 --     numeral text        the number of one to three digits
 --     range_item text     the interval of an item
 --     range_of text       the intervals of a range text
@@ -15,7 +15,7 @@ use Rattle.mk_logic.specs.RangeTexts.{from_to, above, below}
 unfoldable pub digits_number : List ℕ → Option ℕ
 digits_number digits = when (nat_le 1 (length digits) && (nat_le (length digits) 3 && list_all is_ascii_digit digits)) (Some (digits_value 10 digits))
 
--- and with blanks around them
+-- the number of one to three digits, with or without blanks around them
 abbrev pub numeral : List ℕ → Option ℕ
 numeral text = digits_number (trimmed text)
 

@@ -24,7 +24,7 @@ meets_all graph mol x m asked atom =
     && (substitution_fits asked.test.substitution (drawn_others graph x) asked.free (others_at mol m)
     && unsaturation_fits asked.test.unsaturated (is_unsaturated_at mol m))))
 
--- the same, where there are such atoms
+-- there are such atoms, and every test of atom x is met by atom m
 abbrev pub meets_some : GraphView → Molecule → ℕ → ℕ → Option GraphAtom → Option Atom → Bool
 meets_some graph mol x m None atom = false
 meets_some graph mol x m (Some asked) None = false
@@ -64,6 +64,6 @@ is_hit graph mol hit = are_distinct hit && (atoms_fit graph mol 1 hit && bonds_f
 unfoldable pub hits_of : GraphView → Molecule → List (List ℕ)
 hits_of graph mol = filter (is_hit graph mol) (choices (length mol.atoms) (length graph.atoms))
 
--- they are the rising list of all hits: so there is such a list for every graph and molecule
+-- `hits_of` is the rising list of all hits: so there is such a list for every graph and molecule
 abbrev pub HitsAreListed : Type 0
 HitsAreListed = (graph : GraphView) (mol : Molecule) → AreHits graph mol (hits_of graph mol)

@@ -41,12 +41,12 @@ is_inside template bond = not (taker template bond.first == 0) && (taker templat
 unfoldable pub copied : QueryBond → ℕ → ℕ → ℕ → List QueryBond
 copied bond x y n = map (λ j. bond_between (x + j) (y + j) bond.kind bond.topology) (numbers_to n)
 
--- nothing stands there
+-- the piece is nothing
 abbrev pub is_nothing : Piece → Bool
 is_nothing Nothing = true
 is_nothing piece = false
 
--- hydrogens stand there
+-- the piece is hydrogens
 abbrev pub is_hydrogens : Piece → Bool
 is_hydrogens (Hydrogens n) = true
 is_hydrogens piece = false

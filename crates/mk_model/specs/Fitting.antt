@@ -48,7 +48,7 @@ hydrogens_at mol m = count_at edge_of (λ bond. is_hydrogen mol.atoms (other_end
 abbrev pub others_at : Molecule → ℕ → ℕ
 others_at mol m = count_at edge_of (λ bond. not (is_hydrogen mol.atoms (other_end m (edge_of bond)))) mol.bonds m
 
--- the ring bonds of atom m
+-- how many ring bonds atom m of the molecule has
 abbrev pub rings_at : Molecule → ℕ → ℕ
 rings_at mol m = count_at edge_of (λ bond. bond.ring) mol.bonds m
 
@@ -75,7 +75,7 @@ drawn_hydrogens graph x = count_at graph_edge (λ bond. is_drawn_hydrogen graph.
 abbrev pub drawn_others : GraphView → ℕ → ℕ
 drawn_others graph x = count_at graph_edge (λ bond. not (is_drawn_hydrogen graph.atoms (other_end x (graph_edge bond)))) graph.bonds x
 
--- the ring bonds of atom x
+-- how many ring bonds atom x of the graph has
 abbrev pub drawn_rings : GraphView → ℕ → ℕ
 drawn_rings graph x = count_at graph_edge (λ bond. bond.ring) graph.bonds x
 

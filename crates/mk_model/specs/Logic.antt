@@ -38,7 +38,8 @@ abbrev pub MeetsRange : QueryView → (ℕ → ℕ) → (ℕ → ℕ) → ℕ �
 MeetsRange query sites_in filled_in g =
     (group : Group) → IsGroupAt query g group → 0 < sites_in g → IsAsked query filled_in g → IsTrue (is_in_range group.range (filled_in g))
 
--- each group does
+-- each group that has a site and whose range is asked for has so many filled sites as its range
+-- lets pass
 abbrev pub IsAllowed : QueryView → (ℕ → ℕ) → (ℕ → ℕ) → Type 0
 IsAllowed query sites_in filled_in = (g : ℕ) → MeetsRange query sites_in filled_in g
 

@@ -77,7 +77,7 @@ abbrev pub is_far : Slot → ℕ → ℕ → Bool
 is_far (Link atom most from to) x y = (atom == x) && (to == y)
 is_far (Site atom group first second) x y = (atom == x) && (second == y)
 
--- the same of slot number k; where there is no slot no end is far
+-- slot number k stands at x, and y is its second neighbour; where there is no slot no end is far
 abbrev pub is_far_of : List Slot → ℕ → ℕ → ℕ → Bool
 is_far_of slots zero x y = false
 is_far_of slots (suc k) x y = far (slice_get slots k)

@@ -50,6 +50,7 @@ is_allowed_code query code =
 unfoldable pub valid_codes : QueryView → List (List ℕ)
 valid_codes query = filter (is_allowed_code query) (codes_of 512 query (slots_of query 0))
 
--- they are the rising list of all valid codes: so there is such a list for every query
+-- `valid_codes` is the rising list of all valid codes of a query: so there is such a list for every
+-- query
 abbrev pub ValidCodesAreListed : Type 0
 ValidCodesAreListed = (query : QueryView) → QueryFits query → IsRisingListOfAll (IsValid query) (valid_codes query)

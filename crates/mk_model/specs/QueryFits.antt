@@ -25,7 +25,7 @@ use Rattle.mk_model.specs.Sizes.{IsSizing}
 
 -- ---- words
 
--- the number is one of an atom's
+-- the number is that of an atom of the template
 abbrev pub IsAtomOf : TemplateView → ℕ → Type 0
 IsAtomOf template x = (1 ≤ x) × (x ≤ length template.atoms)
 
@@ -67,7 +67,8 @@ pub record IsInRange (template : TemplateView) : Type 0 where
   pub points : All (IsAtomOf template) template.points
   pub few_points : length template.points ≤ 2
 
--- and so are the members of the groups: templates other than the root
+-- the numbers of all templates are in range, and the members of the groups are templates other than
+-- the root
 pub record AreInRange (query : QueryView) : Type 0 where
   pub templates : All IsInRange query.templates
   pub members : All (λ group. All (λ u. (1 ≤ u) × (u < length query.templates)) group.members) query.groups
@@ -89,6 +90,7 @@ pub record IsBetweenNamed (template : TemplateView) (atom first second : ℕ) : 
   pub differ : first ≢ second
   pub neighbours : (y : ℕ) → AreJoined template atom y ↔ ((y ≡ first) ⊎ ((y ≡ second) × (second ≢ 0)))
 
+-- a site names the atoms that it is bonded to; nothing is asked of a link here
 abbrev pub NamesItsNeighbours : TemplateView → Slot → Type 0
 NamesItsNeighbours template (Link atom most from to) = Unit {0}
 NamesItsNeighbours template (Site atom group first second) = IsBetweenNamed template atom first second

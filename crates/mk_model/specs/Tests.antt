@@ -61,7 +61,7 @@ accepts Anything element = true
 abbrev pub charge_fits : ℤ → ℤ → Bool
 charge_fits asked charge = int_eq asked (pos 0) || int_eq asked charge
 
--- and so has a radical
+-- a radical other than 0 has to be the same
 abbrev pub radical_fits : ℕ → ℕ → Bool
 radical_fits asked radical = (asked == 0) || (asked == radical)
 
@@ -97,7 +97,7 @@ is_unsaturated bond = bond.aromatic || ((bond.kind == 2) || ((bond.kind == 3) ||
 abbrev pub is_single : MolBond → Bool
 is_single bond = (bond.kind == 1) && not bond.aromatic
 
--- a double bond outside it
+-- a double bond outside the aromatic set
 abbrev pub is_double : MolBond → Bool
 is_double bond = (bond.kind == 2) && not bond.aromatic
 

@@ -22,11 +22,11 @@ pub record IsKnownAtom (atom : RawAtom) : Type 0 where
   pub charge : IsWithin (pos 0) (pos 7) atom.charge
   pub valence : IsWithin (pos 0) (pos 15) atom.valence
 
--- type 1 to 4
+-- the bond has type 1, 2, 3 or 4
 abbrev pub HasKnownType : RawBond → Type 0
 HasKnownType bond = IsWithin (pos 1) (pos 4) bond.kind
 
--- it is an `M  CHG`, an `M  RAD` or an `M  ISO`
+-- the property is an `M  CHG`, an `M  RAD` or an `M  ISO`
 abbrev pub IsOfMolecules : Property → Type 0
 IsOfMolecules (kinds.Charge pairs) = Unit {0}
 IsOfMolecules (kinds.Radical pairs) = Unit {0}

@@ -37,7 +37,7 @@ pub record AreWrittenAtoms (table : RawTable) (atoms : List Atom) : Type 0 where
 abbrev pub gained_by : RawTable → ℕ → RawAtom → Atom → ℕ
 gained_by table n line atom = added_hydrogens atom.element atom.charge atom.radical (natural line.valence) (kinds_at (edges_of table.bonds) n)
 
--- these are the numbers of hydrogens that the written atoms gain
+-- for each written atom, in order, the list has the number of hydrogens that it gains
 pub record AreGains (table : RawTable) (atoms : List Atom) (gains : List ℕ) : Type 0 where
   pub size : length gains ≡ length table.atoms
   pub each : (i : ℕ) (line : RawAtom) (atom : Atom) → slice_get table.atoms i ≡ Some line → slice_get atoms i ≡ Some atom → slice_get gains i ≡ Some (gained_by table (i + 1) line atom)

@@ -13,6 +13,7 @@ pub record IsSound (atom : Atom) : Type 0 where
 
 -- ---- types of bonds
 
+-- an edge for numbers that no bond has
 abbrev pub no_edge : Edge
 no_edge = record { first = 0; second = 0; kind = 0 }
 

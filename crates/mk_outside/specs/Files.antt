@@ -1,6 +1,6 @@
 -- Files in memory.
 --     file_named rows name             the bytes of the first row of the name
---     sure_file rows name              the same, with no bytes under every other name
+--     sure_file rows name              these bytes, and no bytes under every other name
 --     files_after f name result        files in memory after `read`
 use Rattle.std.specs.Prelude.{ℕ, List, [], ◌∷◌, Option, Some, None, Result, unwrap_or, bytes_eq, if◌then◌else◌}
 use Rattle.mk_outside.specs.declared.files.FileRow.{FileRow}
@@ -20,7 +20,7 @@ abbrev pub file_named : List FileRow → List ℕ → Option (List ℕ)
 file_named [] name = None
 file_named (row ∷ rows) name = if bytes_eq row.name name then Some row.bytes else file_named rows name
 
--- the same, with no bytes under every other name
+-- the bytes of the first row of the name, and no bytes under every other name
 abbrev pub sure_file : List FileRow → List ℕ → Option (List ℕ)
 sure_file rows name = Some (unwrap_or (file_named rows name) [])
 

@@ -26,13 +26,13 @@ record_puts [] = 0
 record_puts (PutRecord number text ∷ batch) = record_puts batch + 1
 record_puts (change ∷ batch) = record_puts batch
 
--- how many queries
+-- how many queries the batch puts
 abbrev pub query_puts : List Change → ℕ
 query_puts [] = 0
 query_puts (PutQuery number name text ∷ batch) = query_puts batch + 1
 query_puts (change ∷ batch) = query_puts batch
 
--- how many cursors
+-- how many cursors the batch puts
 abbrev pub cursor_puts : List Change → ℕ
 cursor_puts [] = 0
 cursor_puts (PutCursor number name place ∷ batch) = cursor_puts batch + 1

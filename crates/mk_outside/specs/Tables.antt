@@ -19,12 +19,15 @@ use Rattle.mk_outside.specs.Rows.{put, without}
 abbrev pub no_tables : Tables
 no_tables = record { records = []; queries = []; cursors = []; next_record = 1; next_cursor = 1 }
 
+-- the number of a record
 abbrev pub record_number : RecordRow → ℕ
 record_number row = row.number
 
+-- the number of a query
 abbrev pub query_number : QueryRow → ℕ
 query_number row = row.number
 
+-- the number of a cursor
 abbrev pub cursor_number : CursorRow → ℕ
 cursor_number row = row.number
 

@@ -33,6 +33,7 @@ Puts (Some old) new piece (Ok done) = new ≡ Some (old ++ piece)
 Puts (Some old) new piece (Err put.Failed) = AppendsPrefix old new piece
 Puts (Some old) new piece (Err put.Memory) = new ≡ Some old
 
+-- the put failed, which want of memory is not
 abbrev pub is_failed_put : {A : Type 0} → Result A PutFail → Bool
 is_failed_put (Ok done) = false
 is_failed_put (Err put.Failed) = true
@@ -54,6 +55,7 @@ Fills most out (Ok Whole) = length out ≤ most
 Fills most out (Ok TooLong) = out ≡ []
 Fills most out (Err fail) = out ≡ []
 
+-- the read of a file failed, which want of memory is not
 abbrev pub is_failed_read : {A : Type 0} → Result A FileFail → Bool
 is_failed_read (Ok done) = false
 is_failed_read (Err file.Failed) = true
@@ -66,6 +68,7 @@ is_absence found result = false
 
 -- ---- keepers
 
+-- the call on the keeper failed, which want of memory is not
 abbrev pub is_failed_keep : {A : Type 0} → Result A KeepFail → Bool
 is_failed_keep (Ok done) = false
 is_failed_keep (Err keep.Failed) = true

@@ -46,6 +46,7 @@ count_of most line at = field_of line at (at + 2) >>= count_in most
 
 -- ---- entries
 
+-- the atom and the value of an entry that begins at this column
 unfoldable pub pair_of : List ℕ → ℕ → Option Pair
 pair_of line at = number_of line at >>= λ atom. number_of line (at + 4) >>= λ value. Some (record { atom = atom; value = value })
 
@@ -53,14 +54,17 @@ pair_of line at = number_of line at >>= λ atom. number_of line (at + 4) >>= λ 
 unfoldable pub pairs_of : ℕ → List ℕ → ℕ → Option (List Pair)
 pairs_of most line at = count_of most line at >>= λ n. entries_of (λ i. pair_of line (at + 3 + 8 * i)) n 0
 
+-- the atom, the most copies and the two neighbours of a link entry that begins at this column
 unfoldable pub link_of : List ℕ → ℕ → Option LinkEntry
 link_of line at =
     number_of line at >>= λ atom. number_of line (at + 4) >>= λ most. number_of line (at + 8) >>= λ from. number_of line (at + 12) >>= λ to.
     Some (record { atom = atom; most = most; from = from; to = to })
 
+-- the one to four link entries of an `M  LIN`
 unfoldable pub links_of : List ℕ → Option (List LinkEntry)
 links_of line = count_of 4 line 7 >>= λ n. entries_of (λ i. link_of line (10 + 16 * i)) n 0
 
+-- the site of an `M  AAL` and its one or two entries
 unfoldable pub order_of : List ℕ → Option SiteOrder
 order_of line = number_of line 7 >>= λ atom. pairs_of 2 line 11 >>= λ entries. Some (record { atom = atom; entries = entries })
 
@@ -72,9 +76,11 @@ flag_of line =
     when (is_space (cell_of line 14) && is_space (cell_of line 16))
     (if spells line 15 (codes "T") then Some true else (if spells line 15 (codes "F") then Some false else None))
 
+-- the one to sixteen symbols of an `M  ALS`
 unfoldable pub symbols_of : List ℕ → Option (List (List ℕ))
 symbols_of line = count_of 16 line 11 >>= λ n. entries_of (λ i. Some (symbol_of line i)) n 0
 
+-- the atom, the flag and the symbols of an `M  ALS`
 unfoldable pub list_of : List ℕ → Option AtomList
 list_of line =
     number_of line 7 >>= λ atom. flag_of line >>= λ not. symbols_of line >>= λ symbols.
@@ -82,6 +88,7 @@ list_of line =
 
 -- ---- logic
 
+-- the group, its THEN group, its RestH and its range text of an `M  LOG`
 unfoldable pub logic_of : List ℕ → Option LogicLine
 logic_of line =
     count_of 1 line 7 >>= λ one. number_of line 10 >>= λ group. number_of line 14 >>= λ then_group. number_of line 18 >>= λ rest.

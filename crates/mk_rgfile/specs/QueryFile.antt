@@ -87,7 +87,7 @@ pub record IsMolfileQuery (lines : List Line) (query : RawQuery) : Type 0 where
   pub none : query.groups ≡ []
   pub blanks : AreBlankLines blank_lines
 
--- one or the other
+-- the lines are an RGfile, or a molfile and blank lines
 abbrev pub IsQueryFile : List Line → RawQuery → Type 0
 IsQueryFile lines query = IsRgfile lines query ⊎ IsMolfileQuery lines query
 
@@ -158,10 +158,10 @@ IsV3000Line lines k = IsNamed IsCountsDue is_v3000 lines k
 abbrev pub HasOneQuery : Type 0
 HasOneQuery = (lines : List Line) (a b : RawQuery) → IsQueryFile lines a → IsQueryFile lines b → a ≡ b
 
--- there is a bad line exactly where they are none
+-- lines have a bad line exactly where they are no query file
 abbrev pub HasBadLine : Type 0
 HasBadLine = (lines : List Line) → ((k : ℕ) × IsBadQueryLine lines k) ↔ ((query : RawQuery) → ¬ (IsQueryFile lines query))
 
--- and only one
+-- lines have at most one bad line
 abbrev pub HasOneBadLine : Type 0
 HasOneBadLine = (lines : List Line) (j k : ℕ) → IsBadQueryLine lines j → IsBadQueryLine lines k → j ≡ k

@@ -24,6 +24,6 @@ pub record IsGroupNumber (line : Line) (number : ℕ) : Type 0 where
   pub from_one : 1 ≤ number
   pub to_32 : number ≤ 32
 
--- the same, computed
+-- the number, from 1 to 32, that the line as a whole spells, or None
 unfoldable pub group_number_of : Line → Option ℕ
 group_number_of line = field_in line >>= count_in 32

@@ -77,11 +77,11 @@ IsV3000Line lines k = IsNamed IsCountsLineDue is_v3000 lines k
 abbrev pub HasOneValue : Type 0
 HasOneValue = (lines : List Line) (a b : List RawRecord) → IsSdfile lines a → IsSdfile lines b → a ≡ b
 
--- there is a bad line exactly where they are none
+-- lines have a bad line exactly where they are no SDfile
 abbrev pub HasBadLine : Type 0
 HasBadLine = (lines : List Line) → ((k : ℕ) × IsBadSdfileLine lines k) ↔ ((records : List RawRecord) → ¬ (IsSdfile lines records))
 
--- and only one
+-- lines have at most one bad line
 abbrev pub HasOneBadLine : Type 0
 HasOneBadLine = (lines : List Line) (j k : ℕ) → IsBadSdfileLine lines j → IsBadSdfileLine lines k → j ≡ k
 

@@ -53,6 +53,7 @@ abbrev pub steps : ℕ → Part Line (List RawRecord)
 steps zero = blanks_part
 steps (suc n) = file_part (steps n)
 
+-- an SDfile of any number of blocks
 abbrev pub sdfile_part : Part Line (List RawRecord)
 sdfile_part = limit steps
 

@@ -44,7 +44,8 @@ pub record TakesBlock (text : List ℕ) (at : ℕ) (r : RawRecord) (next : LineS
   pub not_blank : (k : ℕ) → StopsAtLine (lines_of text) false k (read_all are_blank (drop at (lines_of text))) → k ≤ next.line
   pub took : (block_part sdfile_part).read (drop at (lines_of text)) ≡ and_then (sdfile_at (drop next.line (lines_of text))) (λ records. Took (r ∷ records))
 
--- the same, or the last record, or the fault of the block
+-- one record was taken and the next block begins there, or the record is the last, or the block has
+-- this fault
 abbrev pub AnswersBlock : List ℕ → ℕ → Result (RawRecord × Option LineStart) TableFault → Type 0
 AnswersBlock text at (Ok answer) =
     MatchOption answer.1 ((block_part sdfile_part).read (drop at (lines_of text)) ≡ Took (answer.0 ∷ []) []) (TakesBlock text at answer.0)

@@ -15,7 +15,7 @@ pub data Sign : Type 0 where
   Plus : Sign
   Minus : Sign
 
--- how it is written
+-- the bytes of a sign: none, `+` or `-`
 abbrev pub sign_text : Sign → List ℕ
 sign_text NoSign = []
 sign_text Plus = 43 ∷ []

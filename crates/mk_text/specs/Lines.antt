@@ -48,6 +48,7 @@ pub record IsWholeLine (line : List ℕ) : Type 0 where
 
 -- ---- words
 
+-- there is at least one byte
 abbrev pub has_bytes : List ℕ → Bool
 has_bytes [] = false
 has_bytes (c ∷ cs) = true

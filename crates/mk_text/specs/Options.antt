@@ -6,7 +6,7 @@
 --     not_negative z             a number from 0 on
 use Rattle.std.specs.Prelude.{ℕ, zero, suc, ◌+◌, nat_le, ◌&&◌, Bool, if◌then◌else◌, List, [], ◌∷◌, Option, Some, None, ℤ, pos, negsuc}
 
--- first one and then another that depends on it
+-- what f makes of the value, and None where there is no value
 infixl 10 ◌>>=◌
 abbrev pub ◌>>=◌ : {A B : Type 0} → Option A → (A → Option B) → Option B
 (Some x) >>= f = f x
@@ -16,7 +16,7 @@ None >>= f = None
 abbrev pub when : {X : Type 0} → Bool → Option X → Option X
 when test value = if test then value else None
 
--- so many entries, from the one of this number on
+-- so many entries, from the one of number i on, and None where one of them is missing
 abbrev pub entries_of : {X : Type 0} → (ℕ → Option X) → ℕ → ℕ → Option (List X)
 entries_of entry zero i = Some []
 entries_of entry (suc n) i = entry i >>= λ x. entries_of entry n (i + 1) >>= λ xs. Some (x ∷ xs)

@@ -10,7 +10,7 @@ use Rattle.mk_elements.specs.Valences.{valences_of}
 abbrev pub order : ℕ → ℕ
 order kind = if kind == 4 then 0 else kind
 
--- so many bonds of type 4 add together one more than they are, and a single one adds 1
+-- two or more bonds of type 4 add together one more than they are, and a single one adds 1
 abbrev pub aromatic_orders : ℕ → ℕ
 aromatic_orders zero = 0
 aromatic_orders (suc zero) = 1
