@@ -1,11 +1,16 @@
 //! The plain types that the crates above share, and what their parts mean.
 //!
-//! Callers use one promise: a `Mol` keeps in its type that its lists are a molecule (`IsMolecule` in
-//! `specs/Molecules.antt`), with the marks of its bonds those of the definitions, and its readers give its parts exactly.
-//! What a ring bond is stands in `specs/Rings.antt`, the aromatic set in `specs/Aromatic.antt`. `Steps` counts calls in
-//! proofs and takes no bytes.
+//! Callers use one promise: each of the types `Mol`, `Graph` and `Query` keeps in itself what makes
+//! it one (`IsMolecule` in `specs/Molecules.antt`, `IsGraph` in `specs/Graphs.antt`, `QueryFits` in
+//! `specs/QueryFits.antt`), and its readers give its parts exactly.
 //!
-//! How the marks are found is left to mk_rings, and how a table becomes a molecule to the crates above.
+//! Ring bonds are defined in `specs/Rings.antt`, the aromatic set in `specs/Aromatic.antt`, codes and
+//! valid codes in `specs/Codes.antt` and `specs/Logic.antt`, what a query becomes by a code in
+//! `specs/Expansions.antt`, hits in `specs/Hits.antt`, and keys in `specs/Keys.antt`. `Steps` counts
+//! calls in proofs and takes no bytes.
+//!
+//! How the marks of bonds are found is left to mk_rings, and how a table becomes a molecule or a
+//! query to the crates above.
 #![tactic(auto)]
 
 mod atom_test;
