@@ -1,5 +1,6 @@
 -- What a run of the program leaves, with a store and without one.
---     Outside                         what is told of files, input and output, and how many of their calls failed
+--     Outside                         what is told of files, input and output, and how many of
+--                                     their calls failed
 --     RunsInMemory .., RunsOverStore ..       a run without a store, and one with a store
 --     Runs path ..                    the one or the other
 use Rattle.std.specs.Prelude.{◌≢◌, ℕ, List, Option, Some, None, ⊤}
@@ -10,7 +11,8 @@ use Rattle.mk_session.specs.declared.status.Status.TheVariants as status
 use Rattle.mk_session.specs.Files.{Look}
 use Rattle.mk_session.specs.Headline.{Headline, World}
 
--- what is told of files, input and output, how many of their calls failed, and how many on a name that isn't there
+-- what is told of files, input and output, how many of their calls failed, and how many on a name
+-- that isn't there
 pub record Outside : Type 0 where
   pub files : Option Look
   pub input : Option (List ℕ)
@@ -39,7 +41,8 @@ pub record RunsInMemory (words : List (List ℕ)) (old new : Outside) (ends : St
   pub run : Headline ⊤ words (with_keeper old (Some no_tables) 0) (with_keeper new (Some left) 0) ends
   pub no_store : ends ≢ status.Store
 
--- A run over the tables of a file, of which nothing is told. So many of the calls on the file failed.
+-- A run over the tables of a file, of which nothing is told. So many of the calls on the file
+-- failed.
 pub record RunsOverStore (words : List (List ℕ)) (old new : Outside) (ends : Status) : Type 0 where
   pub faults : ℕ
   pub run : Headline ⊤ words (with_keeper old None 0) (with_keeper new None faults) ends

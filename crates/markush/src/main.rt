@@ -1,7 +1,8 @@
-//! The program `markush`: the words of the command line, and the real files, input and output, handed to `run`.
+//! The program `markush`: the words of the command line, and the real files, input and output,
+//! handed to `run`.
 //!
-//! `run` does what the words or the input say, over the store that the words name or over empty tables in memory. Its
-//! promise is that of `top` of mk_session (`Runs` in `specs/Runs.antt`).
+//! `run` does what the words or the input say, over the store that the words name or over empty
+//! tables in memory. Its promise is that of `top` of mk_session (`Runs` in `specs/Runs.antt`).
 #![tactic(auto)]
 
 ghost use Rattle.std.specs.Prelude.{◌≡◌};

@@ -10,8 +10,8 @@ use mk_session::{Status, store_word, top};
 use mk_sqlite::SqlKeeper;
 use std::alloc::Global;
 
-/// Does what the words or the input say, over the store that the words name, or over empty tables that are let go at the
-/// end.
+/// Does what the words or the input say, over the store that the words name, or over empty tables
+/// that are let go at the end.
 pub fn run<F: Files, S: Source, W: Sink>(
     rt: &HostRuntime,
     alloc: Global,

@@ -21,12 +21,14 @@ pub record HasRows (ahead : Ahead) : Type 0 where
   pub sites : length ahead.sites ≡ 32
   pub filled : length ahead.filled ≡ 32
 
--- for each group how many of the open slots are its sites, and how often it can be filled there at most
+-- for each group how many of the open slots are its sites, and how often it can be filled there at
+-- most
 pub record IsAhead (most : List ℕ) (slots : List Slot) (ahead : Ahead) : Type 0 where
   pub sites : (i : ℕ) → i < 32 → slice_index ahead.sites i ≡ open_sites slots (i + 1)
   pub filled : (i : ℕ) → i < 32 → slice_index ahead.filled i ≡ most_filled (bound_in most) slots (i + 1)
 
--- whatever the slots are that these lists are of, nothing that is chosen there makes the counts allowed
+-- whatever the slots are that these lists are of, nothing that is chosen there makes the counts
+-- allowed
 abbrev pub IsLost : QueryView → List Count → Ahead → Type 0
 IsLost query counts ahead =
     (most : List ℕ) (slots : List Slot) → AreBounds query most → IsAhead most slots ahead → CantComplete query counts slots

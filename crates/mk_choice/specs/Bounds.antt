@@ -1,7 +1,8 @@
 -- For the code: how often a group can be filled at most at some slots, whatever is chosen there.
 --     bound_in most h g           the bound for groups h and g in a list of 32 rows of 32 numbers
 --     most_filled bound slots g   at these slots group g is filled at most so often
---     IsBound query bound         a filled site of group h fills group g at most so often, with all that stands inside
+--     IsBound query bound         a filled site of group h fills group g at most so often, with all
+--                                 that stands inside
 --     AreBounds query most        the list holds such bounds
 --     Misses range filled more    the range holds no number from what is filled to what can be
 use Rattle.std.specs.Prelude.{◌≡◌, ◌≤◌, ◌<◌, ◌+◌, ◌-◌, ◌*◌, ◌==◌, ◌||◌, ◌⊎◌, nat_lt, ℕ, Bool, List, length, sum_by, Contains, slice_index, IsTrue, if◌then◌else◌}
@@ -24,8 +25,8 @@ most_filled_at bound g (Site atom group first second) = bound group g
 abbrev pub most_filled : (ℕ → ℕ → ℕ) → List Slot → ℕ → ℕ
 most_filled bound slots g = sum_by (most_filled_at bound g) slots
 
--- A filled site of group h fills group g at most so often: once where h is g, and as often as the slots of the member do. A bound
--- above 512 says nothing.
+-- A filled site of group h fills group g at most so often: once where h is g, and as often as the
+-- slots of the member do. A bound above 512 says nothing.
 abbrev pub IsBound : QueryView → (ℕ → ℕ → ℕ) → Type 0
 IsBound query bound =
     (h g u : ℕ) → 1 ≤ g → g ≤ 32 → bound h g ≤ 512 → Contains (members_of query h) u
@@ -51,8 +52,9 @@ pub record AreBounds (query : QueryView) (most : List ℕ) : Type 0 where
 abbrev pub lies_apart : ℕ → ℕ → Interval → Bool
 lies_apart low high interval = nat_lt interval.most low || nat_lt high interval.least
 
--- Where so many sites are filled and so many more can be, the range is missed: each interval ends below what is filled, or it begins
--- above all that can be. A number above 512 of what can be says nothing.
+-- Where so many sites are filled and so many more can be, the range is missed: each interval ends
+-- below what is filled, or it begins above all that can be. A number above 512 of what can be says
+-- nothing.
 abbrev pub Misses : List Interval → ℕ → ℕ → Type 0
 Misses range filled more =
     IsTrue (list_all (λ interval. nat_lt interval.most filled) range)

@@ -1,6 +1,7 @@
 -- The codes that are left from a place on, as `Codes` gives them.
 --     CodesLeft            what is seen of a `Codes`: its query and its place
---     IsTaken old new b    the least code that is left is taken, and the place is behind it; or there is none
+--     IsTaken old new b    the least code that is left is taken, and the place is behind it; or
+--                          there is none
 --     AreLeft left codes   these are the codes that are left, in rising order
 use Rattle.std.specs.Prelude.{◌≡◌, ◌≤◌, ℕ, Bool, true, false, List, [], ◌∷◌, ◌++◌, Option, Some, None, length}
 use Rattle.std.specs.Borrow.{Bor}

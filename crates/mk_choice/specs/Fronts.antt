@@ -5,7 +5,8 @@
 use Rattle.std.specs.Prelude.{◌==◌, ◌≤◌, ℕ, List, [], ◌∷◌, if◌then◌else◌}
 use Rattle.mk_text.specs.Rising.{IsBelow}
 
--- what a front leaves to the numbers behind a first one: its others, where it begins with that number, and else nothing
+-- what a front leaves to the numbers behind a first one: its others, where it begins with that
+-- number, and else nothing
 abbrev pub rest_after : List ℕ → ℕ → List ℕ
 rest_after [] a = []
 rest_after (r ∷ rest) a = if r == a then rest else []

@@ -1,11 +1,13 @@
 -- For the code: what a search for codes keeps for the numbers chosen so far.
 --     IsKnown slot                    a slot as queries have them
---     Completes query counts slots others    the others choose at the open slots, and make the counts allowed
+--     Completes query counts slots others    the others choose at the open slots, and make the
+--                                            counts allowed
 --     CompletesWith query counts slots number others    a number and the others behind it do
 --     CantComplete query counts slots        nothing does
 --     AreCounts k counts              the counts of 32 groups, each at most k
 --     AreNone counts                  counts of nothing
---     LeavesRoom query slots k        what can be chosen at the open slots has room behind k numbers
+--     LeavesRoom query slots k        what can be chosen at the open slots has room behind k
+--                                     numbers
 use Rattle.std.specs.Prelude.{◌≡◌, ◌≤◌, ◌+◌, ℕ, List, ◌∷◌, length, All}
 use Rattle.mk_model.specs.declared.query.Count.{Count}
 use Rattle.mk_model.specs.declared.template.Slot.{Slot}
@@ -28,7 +30,8 @@ sites_with counts more g = sites_at counts g + sites_of more g
 abbrev pub filled_with : QueryView → List Count → List Standing → ℕ → ℕ
 filled_with query counts more g = filled_at counts g + filled_of query more g
 
--- the numbers choose at the open slots, and together with the sites that stand there the counts are allowed
+-- the numbers choose at the open slots, and together with the sites that stand there the counts are
+-- allowed
 pub record Completes (query : QueryView) (counts : List Count) (slots : List Slot) (others : List ℕ) : Type 0 where
   pub chooses : Chooses query slots others
   pub logic :

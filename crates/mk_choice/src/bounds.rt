@@ -7,8 +7,8 @@ use crate::numbers::{members_of, slots_of};
 use mk_model::{Memory, Query, Slot};
 use std::alloc::Global;
 
-/// The bounds of a query, 32 rows of 32 numbers. They are found by rounds, each from those of the round before, and then tested:
-/// where they fail, all are 513, which says nothing.
+/// The bounds of a query, 32 rows of 32 numbers. They are found by rounds, each from those of the
+/// round before, and then tested: where they fail, all are 513, which says nothing.
 pub fn bounds_of(alloc: Global, query: &Query) -> Result<Vec<u32>, Memory>
     ensures { IfOk result (λ most. AreBounds query.now most.items) }
 {
@@ -93,7 +93,8 @@ fn is_row_of_bounds(query: &Query, most: &[u32], h: usize) -> bool
     true
 }
 
-// How often group g + 1 can be filled by a member of group h + 1, where the bounds hold; at most 513.
+// How often group g + 1 can be filled by a member of group h + 1, where the bounds hold; at most
+// 513.
 fn needed(query: &Query, most: &[u32], h: usize, g: usize) -> u32
     requires size { length most.now ≡ 1024 }
     requires row { h < 32 }

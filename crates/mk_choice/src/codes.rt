@@ -1,4 +1,5 @@
-// The valid codes of a query: the least from a front on, and all from a place on, one after another.
+// The valid codes of a query: the least from a front on, and all from a place on, one after
+// another.
 ghost use Rattle.std.specs.Prelude.{◌≡◌, ◌+◌, ◌<◌, ◌≤◌, ◌∷◌, ◌++◌, [], IfOk, length, take};
 ghost use Rattle.std.specs.Borrow.{sem};
 ghost use Rattle.mk_text.specs.Rising.{IsLeastFrom};

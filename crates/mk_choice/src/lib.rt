@@ -1,13 +1,15 @@
 //! The valid codes of a query, in order, from a front or a place on.
 //!
-//! Callers use one promise: `least_code` gives the least valid code that isn't below a front, and None exactly where there is
-//! none (`IsValid` in mk_model's `specs/Logic.antt`, `IsLeastFrom` in mk_text's `specs/Rising.antt`). `Codes` gives the valid
-//! codes from a place on, one after another, and its place (`specs/Codes.antt`).
+//! Callers use one promise: `least_code` gives the least valid code that isn't below a front, and
+//! None exactly where there is none (`IsValid` in mk_model's `specs/Logic.antt`, `IsLeastFrom` in
+//! mk_text's `specs/Rising.antt`). `Codes` gives the valid codes from a place on, one after
+//! another, and its place (`specs/Codes.antt`).
 //!
-//! A search goes from the left, one number after another, along the front as long as it fits. What is still to be chosen is one
-//! list of open slots: a number that fills a site puts the slots of the member in front. A choice is dropped where some group
-//! can no longer be filled as often as its range says; only that nothing is lost by this is proved. Expansions and molecules
-//! aren't known here.
+//! A search goes from the left, one number after another, along the front as long as it fits. What
+//! is still to be chosen is one list of open slots: a number that fills a site puts the slots of
+//! the member in front. A choice is dropped where some group can no longer be filled as often as
+//! its range says; only that nothing is lost by this is proved. Expansions and molecules aren't
+//! known here.
 #![tactic(auto)]
 
 mod bounds;

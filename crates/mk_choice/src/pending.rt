@@ -8,7 +8,8 @@ pub enum Pending<'a> {
     Slots(&'a [Slot], &'a Pending<'a>),
 }
 
-/// For each group from 1 on how many of the open slots are its sites, and how often it can be filled there at most.
+/// For each group from 1 on how many of the open slots are its sites, and how often it can be
+/// filled there at most.
 #[derive(Clone, Copy)]
 pub struct Ahead {
     pub sites: [u32; 32],

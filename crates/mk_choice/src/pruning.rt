@@ -9,7 +9,8 @@ use crate::pending::Ahead;
 use mk_logic::{ends_below, is_asked};
 use mk_model::{Count, Query, Range};
 
-/// Some group can't be filled as often as its range says, whatever is chosen further. Where it answers false, nothing is said.
+/// Some group can't be filled as often as its range says, whatever is chosen further. Where it
+/// answers false, nothing is said.
 pub fn cant_complete(query: &Query, counts: &[Count], ahead: &Ahead) -> bool
     requires counts { AreCounts 512 counts.now }
     requires rows { HasRows ahead.now }
@@ -48,8 +49,8 @@ fn stands(standing: u32, ahead: u32) -> bool
     standing > 0 || ahead > 0
 }
 
-// Each interval ends below the first number, or begins above it and the second together; where the second is above 512, nothing is
-// known of it.
+// Each interval ends below the first number, or begins above it and the second together; where the
+// second is above 512, nothing is known of it.
 fn misses(range: &Range, filled: u32, more: u32) -> bool
     requires { filled ≤ 512 }
     ensures { IsTrue result → Misses range.now filled more }

@@ -18,8 +18,8 @@ use crate::pruning::cant_complete;
 use mk_logic::allowed;
 use mk_model::{Count, Query, Slot};
 
-/// Puts the least valid code that isn't below the front in the first places, and tells how many numbers it has, where there is
-/// one.
+/// Puts the least valid code that isn't below the front in the first places, and tells how many
+/// numbers it has, where there is one.
 pub fn put_least(query: &Query, most: &[u32], code: &mut Vec<u32>, front: &[u32]) -> Option<usize>
     requires bounds { AreBounds query.now most.now }
     requires room { length code.old.items ≡ 512 }
@@ -34,8 +34,8 @@ pub fn put_least(query: &Query, most: &[u32], code: &mut Vec<u32>, front: &[u32]
     search(query, most, &root, &ahead, code, 0, no_counts(), front)
 }
 
-// Puts the least numbers behind the first k that choose at the open slots, are allowed and aren't below the front, and tells how
-// many they are, where there are any.
+// Puts the least numbers behind the first k that choose at the open slots, are allowed and aren't
+// below the front, and tells how many they are, where there are any.
 #[cycle(search)]
 fn search(
     query: &Query,

@@ -1,5 +1,5 @@
-// The codes of the query of the example: `[C R# R# | 1-2 1-3]` with the groups 1 and 2, `[F | ]` and `[Cl | ]`, IF R1 THEN R2,
-// R1 `0-1`, R2 `1`.
+// The codes of the query of the example: `[C R# R# | 1-2 1-3]` with the groups 1 and 2, `[F | ]`
+// and `[Cl | ]`, IF R1 THEN R2, R1 `0-1`, R2 `1`.
 use crate::{Codes, code_within, least_code};
 use mk_fixtures::query_of_two_sites;
 use mk_model::{Memory, Query};

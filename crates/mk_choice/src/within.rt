@@ -6,7 +6,8 @@ use crate::numbers::{first, most_at, opened, slots_of};
 use crate::pending::Pending;
 use mk_model::Query;
 
-/// How many of the first numbers are a structural code of the root. None exactly where the numbers begin with no structural code.
+/// How many of the first numbers are a structural code of the root. None exactly where the numbers
+/// begin with no structural code.
 pub fn code_within(query: &Query, numbers: &[u32]) -> Option<usize>
     ensures code { IsCodeWithin query.now numbers.now result }
 {

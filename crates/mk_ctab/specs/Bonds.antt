@@ -1,10 +1,12 @@
--- What is demanded of the bonds of any table, and its bonds as the definitions of graphs see them. Atoms and bonds count from 1.
+-- What is demanded of the bonds of any table, and its bonds as the definitions of graphs see them.
+-- Atoms and bonds count from 1.
 --     HasTwoEnds atoms bond                between two of the atoms
 --     IsNewBond atoms earlier bond         between two of the atoms that no earlier bond joins
 --     IsNewBondAt atoms bonds item         the bond of this number is new
 --     HasFewBonds atoms edges item         the atom of this number has at most 20 bonds
 --     edges_of bonds                       the bonds as the definitions of graphs see them
---     IsEdgeFront atoms bonds edges        the edges of the bonds before the first whose ends aren't two atoms
+--     IsEdgeFront atoms bonds edges        the edges of the bonds before the first whose ends
+--                                          aren't two atoms
 use Rattle.std.specs.Prelude.{◌≡◌, ◌≢◌, ◌≤◌, ◌<◌, ◌+◌, ◌-◌, ◌⊎◌, ℕ, List, All, length, map, take}
 use Rattle.mk_text.specs.Items.{OfItem}
 use Rattle.mk_model.specs.declared.edge.Edge.{Edge}
@@ -37,8 +39,8 @@ HasFewBonds atoms edges item = 1 ≤ item → item ≤ atoms → degree edges it
 
 -- ---- as edges
 
--- The bond as the definitions of graphs see it. A number below 0 is 0 there, and so is a type above 255: no atom and no type
--- that passes has it.
+-- The bond as the definitions of graphs see it. A number below 0 is 0 there, and so is a type above
+-- 255: no atom and no type that passes has it.
 abbrev pub edge_of : RawBond → Edge
 edge_of bond = record { first = natural bond.first; second = natural bond.second; kind = byte bond.kind }
 

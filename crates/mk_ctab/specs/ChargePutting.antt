@@ -1,7 +1,9 @@
 -- What the code does to charges and radicals. For the code alone.
---     IsOfLine aside line electrons             the charge and the radical of an atom line, which may be set aside
+--     IsOfLine aside line electrons             the charge and the radical of an atom line, which
+--                                               may be set aside
 --     AreOfLines aside lines list               those of all atom lines
---     ArePut charges radicals old new           what they are after the values of these pairs were put
+--     ArePut charges radicals old new           what they are after the values of these pairs were
+--                                               put
 use Rattle.std.specs.Prelude.{◌≡◌, ◌<◌, ◌+◌, ℕ, pos, Bool, List, length, slice_index_or, if◌then◌else◌}
 use Rattle.mk_props.specs.declared.property.Pair.{Pair}
 use Rattle.mk_ctab.specs.declared.charges.Electrons.{Electrons}
@@ -23,7 +25,8 @@ pub record AreOfLines (aside : Bool) (lines : List RawAtom) (list : List Electro
   pub size : length list ≡ length lines
   pub each : (i : ℕ) (line : RawAtom) (electrons : Electrons) → i < length lines → IsOfLine aside (slice_index_or lines i line) (slice_index_or list i electrons)
 
--- what atom n has after the values for it were put, the charges of some pairs and the radicals of others
+-- what atom n has after the values for it were put, the charges of some pairs and the radicals of
+-- others
 pub record HasPut (charges radicals : List Pair) (n : ℕ) (old new : Electrons) : Type 0 where
   pub charge : new.charge ≡ last_or old.charge (values_for n charges)
   pub radical : pos new.radical ≡ last_or (pos old.radical) (values_for n radicals)

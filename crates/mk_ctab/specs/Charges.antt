@@ -1,5 +1,6 @@
 -- The charges and radicals of a table's atoms.
---     lists_values props            some property is an `M  CHG` or an `M  RAD`: the atom lines' charges are set aside
+--     lists_values props            some property is an `M  CHG` or an `M  RAD`: the atom lines'
+--                                   charges are set aside
 --     charge_at table n line        the charge of atom n, of which this is the atom line
 --     radical_at table n line       its radical
 --     AreElectrons table list       the list has them for each atom
@@ -58,7 +59,8 @@ last_or none (value ∷ values) = last_or value values
 
 -- ---- charges and radicals
 
--- what the charge column of an atom line says: 1 to 3 are +3 to +1, and 5 to 7 are -1 to -3 (`negsuc 0` is -1)
+-- what the charge column of an atom line says: 1 to 3 are +3 to +1, and 5 to 7 are -1 to -3
+-- (`negsuc 0` is -1)
 abbrev pub charge_of_column : ℕ → ℤ
 charge_of_column column =
     if column == 1 then pos 3 else (
@@ -72,8 +74,8 @@ charge_of_column column =
 abbrev pub radical_of_column : ℕ → ℤ
 radical_of_column column = if column == 4 then pos 2 else pos 0
 
--- The charge of atom n: the last that an `M  CHG` lists for it, or 0. Only where nothing gives charges or radicals is it that
--- of the atom line.
+-- The charge of atom n: the last that an `M  CHG` lists for it, or 0. Only where nothing gives
+-- charges or radicals is it that of the atom line.
 abbrev pub charge_at : RawTable → ℕ → RawAtom → ℤ
 charge_at table n line =
     if lists_values table.props then last_or (pos 0) (values_for n (charge_pairs table.props))

@@ -1,7 +1,9 @@
 -- Tables whose text can be kept: the lines without the CR bytes at their ends are the same table.
---     KeepsItsText table            no atom symbol, no symbol of an `M  ALS` and no range text ends with CR
+--     KeepsItsText table            no atom symbol, no symbol of an `M  ALS` and no range text ends
+--                                   with CR
 --     HoldNoTexts props             no `M  ALS` and no `M  LOG` among these properties
---     KeptLinesAreTheTable          the law, for a whole list of lines and for a table that begins at a line
+--     KeptLinesAreTheTable          the law, for a whole list of lines and for a table that begins
+--                                   at a line
 use Rattle.std.specs.Prelude.{ℕ, List, map, All}
 use Rattle.mk_text.specs.KeptLines.{without_crs}
 use Rattle.mk_text.specs.Lines.{EndsWith}
@@ -18,8 +20,8 @@ EndsWithoutCr (kinds.List list) = All (λ symbol. ¬ (EndsWith 13 symbol)) list.
 EndsWithoutCr (kinds.Logic logic) = ¬ (EndsWith 13 logic.range)
 EndsWithoutCr p = Unit {0}
 
--- No atom symbol, no symbol of an `M  ALS` and no range text ends with CR. Who keeps the text of a table with no CR at a line's
--- end asks for it.
+-- No atom symbol, no symbol of an `M  ALS` and no range text ends with CR. Who keeps the text of a
+-- table with no CR at a line's end asks for it.
 pub record KeepsItsText (table : RawTable) : Type 0 where
   pub symbols : All (λ atom. ¬ (EndsWith 13 atom.symbol)) table.atoms
   pub properties : All EndsWithoutCr table.props

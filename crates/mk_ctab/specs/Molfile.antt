@@ -1,4 +1,5 @@
--- Molfiles: three header lines, and then a table. They begin the records of other files, and a query may be one.
+-- Molfiles: three header lines, and then a table. They begin the records of other files, and a
+-- query may be one.
 --     IsMolfile lines table      the lines are, in order, three header lines and those of the table
 --     molfile                    the form, with its reader
 use Rattle.std.specs.Prelude.{◌≡◌, List, ◌++◌, length}

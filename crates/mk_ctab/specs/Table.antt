@@ -1,6 +1,7 @@
 -- Connection tables: a relation between a whole list of lines and a table.
 --     IsTable lines table      the lines are, in order, those of the table
--- Which numbers the columns hold is said in TableLines.antt, and what a property line is in mk_props.
+-- Which numbers the columns hold is said in TableLines.antt, and what a property line is in
+-- mk_props.
 use Rattle.std.specs.Prelude.{◌≡◌, ℕ, ◌*◌, List, [], ◌∷◌, ◌++◌, length, Option, Some, None}
 use Rattle.mk_form.specs.Lines.{OneLine}
 use Rattle.mk_form.specs.Rows.{Series}
@@ -55,8 +56,8 @@ pub record AreProperties (lines : List Line) (properties : List Property) : Type
 
 -- ---- the table
 
--- the counts line, a line for each atom, for each bond and for each atom list, two lines for each stext entry, property
--- lines, and `M  END`
+-- the counts line, a line for each atom, for each bond and for each atom list, two lines for each
+-- stext entry, property lines, and `M  END`
 pub record IsTable (lines : List Line) (table : RawTable) : Type 0 where
   pub counts_line : Line
   pub atom_lines : List Line

@@ -11,7 +11,8 @@ abbrev pub HasSymbols : Property → Type 0
 HasSymbols (kinds.List list) = (1 ≤ length list.symbols) × (length list.symbols ≤ 16)
 HasSymbols p = Unit {0}
 
--- few atoms, bonds and lists, 1 to 5 numbers in each list, 1 to 16 symbols in each `M  ALS`, no line passed over and no end
+-- few atoms, bonds and lists, 1 to 5 numbers in each list, 1 to 16 symbols in each `M  ALS`, no
+-- line passed over and no end
 pub record IsRawTable (table : RawTable) : Type 0 where
   pub few_atoms : length table.atoms ≤ 999
   pub few_bonds : length table.bonds ≤ 999

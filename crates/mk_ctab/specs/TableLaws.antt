@@ -3,7 +3,8 @@
 --     IsBadFrom at lines k                line k is the first that no table can have there
 --     IsV3000From at lines k              line k is the counts line of that table, and says V3000
 --     OneTable, BadWhereNoTable, OneBadLine     there is one table, or one bad line
---     table_form                          the form of tables, of which forms that hold tables are made
+--     table_form                          the form of tables, of which forms that hold tables are
+--                                         made
 --     TablesAreExact                      tables are read exactly, whatever follows them
 --     BlankIsNoCountsLine                 a blank line is no counts line
 use Rattle.std.specs.Prelude.{◌≡◌, ◌↔◌, ℕ, ◌≤◌, true, None, List, length}
@@ -22,11 +23,13 @@ use Rattle.mk_ctab.specs.TableReading.{table_at}
 abbrev pub IsTableFrom : ℕ → List Line → ℕ → RawTable → Type 0
 IsTableFrom at lines next table = IsPartFrom IsTable at lines next table
 
--- line k is the first that no table's front can have behind the first `at`, or one more than the number of lines
+-- line k is the first that no table's front can have behind the first `at`, or one more than the
+-- number of lines
 abbrev pub IsBadFrom : ℕ → List Line → ℕ → Type 0
 IsBadFrom at lines k = IsBadLineFrom IsTable at lines k
 
--- line k says V3000, and behind the first `at` lines a counts line is due there: it is the first of them
+-- line k says V3000, and behind the first `at` lines a counts line is due there: it is the first of
+-- them
 abbrev pub IsV3000From : ℕ → List Line → ℕ → Type 0
 IsV3000From at lines k = IsNamedFrom AtOnce is_v3000 at lines k
 
@@ -44,8 +47,8 @@ OneBadLine = (at : ℕ) (lines : List Line) (j k : ℕ) → IsBadFrom at lines j
 
 -- ---- tables in other forms
 
--- The form of tables: a line may say V3000 where a counts line is due, and that is before any line. A form that holds tables
--- is made of this part.
+-- The form of tables: a line may say V3000 where a counts line is due, and that is before any line.
+-- A form that holds tables is made of this part.
 abbrev pub table_form : Part Line RawTable
 table_form = form IsTable AtOnce table_at
 

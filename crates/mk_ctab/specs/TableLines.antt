@@ -38,8 +38,8 @@ is_v3000 line = bytes_eq (word_of line 34 39) (codes "V3000")
 abbrev pub is_v2000_or_none : Line → Bool
 is_v2000_or_none line = (length (word_of line 34 39) == 0) || bytes_eq (word_of line 34 39) (codes "V2000")
 
--- 1-3 atoms, not all blank, 4-6 bonds, 7-9 atom lists, 13-15 chiral flag, 16-18 stext entries, 34-39 the version; only the
--- flag may be negative
+-- 1-3 atoms, not all blank, 4-6 bonds, 7-9 atom lists, 13-15 chiral flag, 16-18 stext entries,
+-- 34-39 the version; only the flag may be negative
 unfoldable pub counts_of : Line → Option Counts
 counts_of line =
     when (not (length (word_of line 1 3) == 0) && is_v2000_or_none line)
@@ -56,7 +56,8 @@ counts_of line =
 abbrev pub is_coordinate : ℕ → Bool
 is_coordinate c = is_ascii_digit c || ((c == 43) || ((c == 45) || ((c == 46) || (c == 32))))
 
--- 35-36 mass difference, 37-39 charge, 40-42 parity, 43-45 hydrogens, 46-48 stereo care, 49-51 valence
+-- 35-36 mass difference, 37-39 charge, 40-42 parity, 43-45 hydrogens, 46-48 stereo care, 49-51
+-- valence
 unfoldable pub atom_numbers_of : Line → Option AtomNumbers
 atom_numbers_of line =
     field_of line 35 36 >>= λ mass.

@@ -1,8 +1,11 @@
 -- A table by its parts, read from the left.
---     table_part                      the composed part: what stands behind one line depends on what it says
+--     table_part                      the composed part: what stands behind one line depends on
+--                                     what it says
 --     table_at lines                  what reading a table from the first of the lines on gives
---     Answers lines answer reading    a reader that goes by an index answered what the reading gives
---     AnswersText lines answer reading     a reader to the last line answered what the reading gives
+--     Answers lines answer reading    a reader that goes by an index answered what the reading
+--                                     gives
+--     AnswersText lines answer reading     a reader to the last line answered what the reading
+--                                          gives
 use Rattle.std.specs.Prelude.{◌≡◌, ℕ, ◌+◌, ◌*◌, Bool, true, false, List, [], Option, Some, None, Result, Ok, Err}
 use Rattle.mk_form.specs.Exact.{Part}
 use Rattle.mk_form.specs.Lines.{give, line, counts_line, line_where}

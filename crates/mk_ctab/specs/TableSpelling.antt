@@ -1,7 +1,8 @@
 -- How a table is written.
 --     three z, at_left n text      a number in three columns, a text in so many
 --     counts_line table            the counts line
---     atom_line, bond_line, numbers_line, property_line      the line of an atom, a bond, an atom list, a property
+--     atom_line, bond_line, numbers_line, property_line      the line of an atom, a bond, an atom
+--                                                            list, a property
 --     spelling table               all lines of a table, each with LF behind it
 --     CanBeSpelt table             what is written so is that table again
 --     SpellingIsRead, EndsWithNoBlank      two laws of it
@@ -49,7 +50,8 @@ at_left width text = text ++ replicate (width - length text) 32
 unfoldable pub counts_line : RawTable → Line
 counts_line table = count_text table.atoms ++ (count_text table.bonds ++ (count_text table.lists ++ codes "  0  0  0            999 V2000"))
 
--- `    0.0000    0.0000    0.0000 aaa 0ccc  0hhh  0vvv`: the symbol, and the columns of charge, hydrogens and valence
+-- `    0.0000    0.0000    0.0000 aaa 0ccc  0hhh  0vvv`: the symbol, and the columns of charge,
+-- hydrogens and valence
 unfoldable pub atom_line : RawAtom → Line
 atom_line atom =
     codes "    0.0000    0.0000    0.0000 " ++ (at_left 3 atom.symbol ++ (codes " 0" ++ (three atom.charge ++ (codes "  0" ++ (three atom.hydrogens ++ (codes "  0" ++ three atom.valence))))))
@@ -250,9 +252,9 @@ abbrev pub RangeFits : Property → Type 0
 RangeFits (kinds.Logic logic) = IsRangeText logic.range
 RangeFits p = Unit {0}
 
--- A table whose spelling is that table again: few atoms, bonds and lists; columns, entries and counts in their ranges;
--- symbols that fit; none of an `M  ALS` that ends with CR; range texts that end as they should; no line passed over and
--- no end among the properties.
+-- A table whose spelling is that table again: few atoms, bonds and lists; columns, entries and
+-- counts in their ranges; symbols that fit; none of an `M  ALS` that ends with CR; range texts that
+-- end as they should; no line passed over and no end among the properties.
 pub record CanBeSpelt (table : RawTable) : Type 0 where
   pub few_atoms : length table.atoms ≤ 999
   pub few_bonds : length table.bonds ≤ 999

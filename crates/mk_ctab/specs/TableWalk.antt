@@ -1,6 +1,8 @@
--- What the readers answer that go through a text line by line, from where a line begins. It serves the code of these readers
--- alone: the lines of the text are those of `lines_of`, and the readings those of TableReading.antt.
---     AnswersAt text answer reading       the reading gave this value, and the next line begins there
+-- What the readers answer that go through a text line by line, from where a line begins. It serves
+-- the code of these readers alone: the lines of the text are those of `lines_of`, and the readings
+-- those of TableReading.antt.
+--     AnswersAt text answer reading       the reading gave this value, and the next line begins
+--                                         there
 --     AnswersPast text answer reading     lines that aren't looked at were passed over, up to there
 use Rattle.std.specs.Prelude.{◌≡◌, ℕ, ◌+◌, ◌<◌, List, [], length, drop, slice_index_or, Option, Some, None, Result, Ok, Err}
 use Rattle.mk_form.specs.Reading.{Reading, TakesLines}

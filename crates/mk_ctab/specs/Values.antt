@@ -1,7 +1,9 @@
--- What property lines give to atoms: whether the atoms are there, and within which bounds the values lie.
+-- What property lines give to atoms: whether the atoms are there, and within which bounds the
+-- values lie.
 --     AreForAtoms atoms pairs          each pair is for an atom
 --     HaveValues low high pairs        their values are within these bounds
---     NamesAtoms atoms property        what gives charges, radicals or isotopes names atoms of the table
+--     NamesAtoms atoms property        what gives charges, radicals or isotopes names atoms of the
+--                                      table
 --     HasKnownValues property          charges and radicals that there are
 use Rattle.std.specs.Prelude.{ℕ, ℤ, pos, negsuc, List, All}
 use Rattle.mk_props.specs.declared.property.Pair.{Pair}

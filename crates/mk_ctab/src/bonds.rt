@@ -11,8 +11,8 @@ use mk_model::{Edge, Neighbours};
 // How many bonds an atom may have.
 const MOST_BONDS: usize = 20;
 
-/// The first bond whose ends aren't two atoms, or whose pair has an earlier bond. The edges are those of `edges_between`, and
-/// the neighbours theirs.
+/// The first bond whose ends aren't two atoms, or whose pair has an earlier bond. The edges are
+/// those of `edges_between`, and the neighbours theirs.
 pub fn first_no_new_bond(edges: &[Edge], near: &Neighbours, bonds: &[RawBond]) -> Option<u32>
     requires few { length bonds.now ≤ 999 }
     requires front { IsEdgeFront (length near.now) bonds.now edges.now }

@@ -11,15 +11,16 @@ use mk_props::{Pair, Property};
 use mk_text::Memory;
 use std::alloc::Global;
 
-/// What an atom has more or fewer of than the element, and whether some of it are alone: 2 is a doublet, 1 and 3 are the
-/// singlet and the triplet, and 0 is none.
+/// What an atom has more or fewer of than the element, and whether some of it are alone: 2 is a
+/// doublet, 1 and 3 are the singlet and the triplet, and 0 is none.
 #[derive(Clone, Copy, Debug, PartialEq, Eq)]
 pub struct Electrons {
     pub charge: i8,
     pub radical: u8,
 }
 
-/// The charges and radicals of the atoms: those that properties list, or those of the atom lines where none lists any.
+/// The charges and radicals of the atoms: those that properties list, or those of the atom lines
+/// where none lists any.
 pub fn charges_and_radicals(alloc: Global, table: &RawTable) -> Result<Vec<Electrons>, Memory>
     requires for_atoms { All (NamesAtoms (length table.now.atoms)) table.now.props }
     requires values { All HasKnownValues table.now.props }

@@ -8,8 +8,8 @@ use thiserror::Error;
 /// Why lines are no table. They count from 1, in the whole text.
 #[derive(Clone, Copy, Debug, PartialEq, Eq, Error)]
 pub enum TableFault {
-    /// This is the first line that no table's front can have there, or one more than the number of lines where the text
-    /// ends before the table does.
+    /// This is the first line that no table's front can have there, or one more than the number of
+    /// lines where the text ends before the table does.
     #[error("line {line} is no line of a table there")]
     Bad { line: usize },
     /// This line is bad in the same sense. It stands where a counts line is due, and says V3000.

@@ -1,13 +1,16 @@
-//! Connection tables of the format V2000: `read_table` reads a whole one, and `write_table` writes it.
+//! Connection tables of the format V2000: `read_table` reads a whole one, and `write_table` writes
+//! it.
 //!
-//! Callers use one promise of each. `read_table` gives exactly the table that begins at a line of a text, or names exactly the
-//! first line that no table can have there, and whether that line says V3000 (`IsTable` in `specs/Table.antt` over the
-//! lines of `specs/TableLines.antt`; the bad line as in mk_form; the columns in docs/FORMAT.md). Every table that it gives
-//! keeps what `IsRawTable` in `specs/TableFacts.antt` says. `table_at` in `specs/TableReading.antt` is the same, computed,
+//! Callers use one promise of each. `read_table` gives exactly the table that begins at a line of a
+//! text, or names exactly the first line that no table can have there, and whether that line says
+//! V3000 (`IsTable` in `specs/Table.antt` over the lines of `specs/TableLines.antt`; the bad line
+//! as in mk_form; the columns in docs/FORMAT.md). Every table that it gives keeps what `IsRawTable`
+//! in `specs/TableFacts.antt` says. `table_at` in `specs/TableReading.antt` is the same, computed,
 //! and readers of longer texts go on from it.
 //!
-//! `write_table` appends exactly the spelling of a table that can be spelt (`spelling` and `CanBeSpelt` in
-//! `specs/TableSpelling.antt`), and that spelling is the table again (`spelling_is_read`).
+//! `write_table` appends exactly the spelling of a table that can be spelt (`spelling` and
+//! `CanBeSpelt` in `specs/TableSpelling.antt`), and that spelling is the table again
+//! (`spelling_is_read`).
 //!
 //! What a table means for a molecule, a query or a search isn't said here.
 #![tactic(auto)]

@@ -2,8 +2,8 @@
 use mk_props::Property;
 use mk_text::{Bytes, Listed};
 
-/// An atom by its symbol and three of its columns. The charge is the column's number: 1 to 3 for +3 to +1, 5 to 7 for
-/// -1 to -3.
+/// An atom by its symbol and three of its columns. The charge is the column's number: 1 to 3 for +3
+/// to +1, 5 to 7 for -1 to -3.
 #[derive(Debug, Drop)]
 pub struct RawAtom {
     pub symbol: Bytes,
@@ -38,7 +38,8 @@ pub type RawLists = Listed<RawList>;
 /// A list of numbers with signs.
 pub type Signed = Listed<i32>;
 
-/// The properties of a table in the order of their lines, without the lines passed over and the end.
+/// The properties of a table in the order of their lines, without the lines passed over and the
+/// end.
 pub type Properties = Listed<Property>;
 
 /// What the lines of a table hold.

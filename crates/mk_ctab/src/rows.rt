@@ -1,4 +1,5 @@
-// What a line of a block is: an atom, a bond or an atom list. The blocks of all three are read alike.
+// What a line of a block is: an atom, a bond or an atom list. The blocks of all three are read
+// alike.
 ghost use Rattle.std.specs.Prelude.{List, ℕ, Option};
 ghost use Rattle.mk_props.specs.Reading.{Gives};
 ghost use Rattle.mk_ctab.specs.TableLines.{raw_atom_of, raw_bond_of, list_of};

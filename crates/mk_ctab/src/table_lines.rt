@@ -47,8 +47,8 @@ fn has_version(line: &[u8]) -> bool
     version.is_empty() || version == b"V2000".as_slice()
 }
 
-// aaabbblll   cccsss               vvvvvv   columns 1-3 atoms, 4-6 bonds, 7-9 atom lists, 13-15 chiral flag,
-//                                           16-18 stext entries, 34-39 the version
+// aaabbblll   cccsss               vvvvvv   columns 1-3 atoms, 4-6 bonds, 7-9 atom lists, 13-15
+//                                           chiral flag, 16-18 stext entries, 34-39 the version
 #[tactic(auto, unfolding(crate::specs::TableLines::counts_of))]
 pub fn read_counts(line: &[u8]) -> Option<Counts>
     ensures { result ≡ counts_of line.now }
@@ -91,8 +91,9 @@ pub struct AtomNumbers {
     pub valence: i32,
 }
 
-// xxxxx.xxxxyyyyy.yyyyzzzzz.zzzz aaaddcccssshhhbbbvvv   columns 35-36 mass difference, 37-39 charge, 40-42 parity,
-//                                                       43-45 hydrogens, 46-48 stereo care, 49-51 valence
+// xxxxx.xxxxyyyyy.yyyyzzzzz.zzzz aaaddcccssshhhbbbvvv   columns 35-36 mass difference, 37-39
+//                                                       charge, 40-42 parity, 43-45 hydrogens,
+//                                                       46-48 stereo care, 49-51 valence
 #[tactic(auto, unfolding(crate::specs::TableLines::atom_numbers_of))]
 fn atom_numbers(line: &[u8]) -> Option<AtomNumbers>
     ensures { result ≡ atom_numbers_of line.now }
@@ -110,7 +111,8 @@ fn atom_numbers(line: &[u8]) -> Option<AtomNumbers>
     })
 }
 
-// xxxxx.xxxxyyyyy.yyyyzzzzz.zzzz aaadd..   columns 1-30 the coordinates, 32-34 the symbol, from 35 on the numbers
+// xxxxx.xxxxyyyyy.yyyyzzzzz.zzzz aaadd..   columns 1-30 the coordinates, 32-34 the symbol, from 35
+//                                          on the numbers
 #[tactic(auto, unfolding(crate::specs::TableLines::raw_atom_of))]
 pub fn read_atom(alloc: Global, line: &[u8]) -> Result<RawAtom, LineFault>
     ensures { Gives result (raw_atom_of line.now) }
@@ -130,7 +132,8 @@ pub fn read_atom(alloc: Global, line: &[u8]) -> Result<RawAtom, LineFault>
     })
 }
 
-// 111222tttsss   rrr   columns 1-3 and 4-6 the atoms, 7-9 the type, 10-12 the stereo, 16-18 the topology
+// 111222tttsss   rrr   columns 1-3 and 4-6 the atoms, 7-9 the type, 10-12 the stereo, 16-18 the
+//                      topology
 #[tactic(auto, unfolding(crate::specs::TableLines::raw_bond_of))]
 pub fn read_bond(line: &[u8]) -> Option<RawBond>
     ensures { result ≡ raw_bond_of line.now }
@@ -194,7 +197,8 @@ fn list_numbers(alloc: Global, line: &[u8]) -> Result<Signed, LineFault>
     Ok(Listed::of(numbers))
 }
 
-// aaa k    n 111 222 333 444 555   columns 1-3 the atom, 5 T or F, 10 the count, from 12 on the atomic numbers
+// aaa k    n 111 222 333 444 555   columns 1-3 the atom, 5 T or F, 10 the count, from 12 on the
+//                                  atomic numbers
 #[tactic(auto, unfolding(crate::specs::TableLines::list_of))]
 pub fn read_list(alloc: Global, line: &[u8]) -> Result<RawList, LineFault>
     ensures { Gives result (list_of line.now) }

@@ -29,8 +29,8 @@ fn table_of_line(
     Ok((table, next.line))
 }
 
-/// Reads the table that begins at the line of the index `at`, and gives the index of the line behind its `M  END`. Indexes
-/// count from 0, and the lines that a fault names from 1.
+/// Reads the table that begins at the line of the index `at`, and gives the index of the line
+/// behind its `M  END`. Indexes count from 0, and the lines that a fault names from 1.
 pub fn read_table(
     alloc: Global,
     text: &[u8],

@@ -4,7 +4,8 @@ use mk_props::Property;
 use mk_text::lines;
 use std::test::Fail;
 
-// The number of atoms, bonds, lists and properties and the index behind the table, or the line that is named.
+// The number of atoms, bonds, lists and properties and the index behind the table, or the line that
+// is named.
 #[derive(Clone, Copy, Debug, PartialEq, Eq)]
 enum Want {
     Table(usize, usize, usize, usize, usize),

@@ -125,8 +125,8 @@ fn properties_from(
     Err(TableFault::Bad { line: at.line + 1 })
 }
 
-/// Reads the table that begins there, and gives where the line behind its `M  END` begins. The lines that a fault names
-/// count from 1, in the whole text.
+/// Reads the table that begins there, and gives where the line behind its `M  END` begins. The
+/// lines that a fault names count from 1, in the whole text.
 pub fn table_from(
     alloc: Global,
     text: &[u8],
@@ -150,8 +150,9 @@ pub fn table_from(
     Ok((table, next))
 }
 
-/// Reads the molfile that begins there, which is three header lines and a table, and gives where the line behind its
-/// `M  END` begins. The lines that a fault names count from 1, in the whole text.
+/// Reads the molfile that begins there, which is three header lines and a table, and gives where
+/// the line behind its `M  END` begins. The lines that a fault names count from 1, in the whole
+/// text.
 pub fn molfile_from(
     alloc: Global,
     text: &[u8],

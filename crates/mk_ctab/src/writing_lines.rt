@@ -24,8 +24,8 @@ pub fn put_counts(alloc: Global, out: &mut Vec<u8>, table: &RawTable) -> Result<
     out.extend_from_slice(b"\n")
 }
 
-//     0.0000    0.0000    0.0000 aaa 0ccc  0hhh  0vvv   columns 32-34 the symbol, 37-39 the charge, 43-45 the hydrogens,
-//                                                       49-51 the valence
+//     0.0000    0.0000    0.0000 aaa 0ccc  0hhh  0vvv   columns 32-34 the symbol, 37-39 the charge,
+//                                                       43-45 the hydrogens, 49-51 the valence
 #[tactic(auto, unfolding(crate::specs::TableSpelling::atom_line))]
 pub fn put_atom(alloc: Global, out: &mut Vec<u8>, atom: &RawAtom) -> Result<(), Memory>
     requires { AtomFits atom.now }
@@ -67,7 +67,8 @@ fn put_numbers(alloc: Global, out: &mut Vec<u8>, numbers: &[i32]) -> Result<(), 
     Ok(())
 }
 
-// aaa k    n 111 222 ..   columns 1-3 the atom, 5 T or F, 10 the count, and from 11 on a blank and three for each number
+// aaa k    n 111 222 ..   columns 1-3 the atom, 5 T or F, 10 the count, and from 11 on a blank and
+//                         three for each number
 #[tactic(auto, unfolding(crate::specs::TableSpelling::numbers_line))]
 pub fn put_list(alloc: Global, out: &mut Vec<u8>, list: &RawList) -> Result<(), Memory>
     requires { ListFits list.now }

@@ -120,7 +120,8 @@ fn put_trimmed(out: &mut Vec<u8>, line: &[u8]) -> Result<(), Memory>
     out.extend_from_slice(b"\n")
 }
 
-// M  ALS aaannn k ssss..   columns 8-10 the atom, 11-13 the count, 15 T or F, and from 17 on four for each symbol
+// M  ALS aaannn k ssss..   columns 8-10 the atom, 11-13 the count, 15 T or F, and from 17 on four
+//                          for each symbol
 fn wide_symbols(alloc: Global, list: &AtomList) -> Result<Vec<u8>, Memory>
     requires { AtomListFits list.now }
     ensures { IfOk result (λ line. line.items ≡ wide_symbols_line list.now) }
@@ -145,7 +146,8 @@ fn put_atom_list(alloc: Global, out: &mut Vec<u8>, list: &AtomList) -> Result<()
     put_trimmed(out, &line)
 }
 
-// M  LOG  1 rrr iii hhh range   columns 11-13 the group, 15-17 the THEN group, 19-21 RestH, and from 23 on the range
+// M  LOG  1 rrr iii hhh range   columns 11-13 the group, 15-17 the THEN group, 19-21 RestH, and
+//                               from 23 on the range
 fn wide_logic(alloc: Global, logic: &LogicLine) -> Result<Vec<u8>, Memory>
     requires { LogicFits logic.now }
     ensures { IfOk result (λ line. line.items ≡ wide_logic_line logic.now) }

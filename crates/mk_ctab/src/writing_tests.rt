@@ -24,8 +24,8 @@ enum Sketched {
     Logic(i32, i32, i32, &'static str),
 }
 
-// The symbol, charge, hydrogens and valence of atoms; the ends, type and topology of bonds; the atom, the flag and the
-// numbers of atom lists; and the properties.
+// The symbol, charge, hydrogens and valence of atoms; the ends, type and topology of bonds; the
+// atom, the flag and the numbers of atom lists; and the properties.
 #[derive(Clone, Copy, Debug)]
 struct Sketch {
     atoms: &'static [(&'static str, i32, i32, i32)],
@@ -271,7 +271,8 @@ fn has_lists(table: &RawTable, sketch: &[(i32, bool, &[i32])]) -> bool {
     table.lists.as_slice().len() == sketch.len()
 }
 
-// Of a charge its value, of an `M  ALS` its flag and the number of its symbols, and of an `M  LOG` its numbers and its range.
+// Of a charge its value, of an `M  ALS` its flag and the number of its symbols, and of an `M  LOG`
+// its numbers and its range.
 fn is_sketched(property: &Property, sketch: Sketched) -> bool {
     match (property, sketch) {
         (Property::Charge(pairs), Sketched::Charge([(_, value)])) => match pairs.as_slice() {

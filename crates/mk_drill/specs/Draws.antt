@@ -63,7 +63,8 @@ with_atom symbol x table = record table {
 abbrev pub with_methoxy : ℕ → RawTable → RawTable
 with_methoxy x table = with_atom (codes "C") (length table.atoms + 1) (with_atom (codes "O") x table)
 
--- what a draw puts on atom x: 0 a chlorine, 1 a bromine, 2 an oxygen with a carbon, any other nothing
+-- what a draw puts on atom x: 0 a chlorine, 1 a bromine, 2 an oxygen with a carbon, any other
+-- nothing
 abbrev pub substituted : ℕ → ℕ → RawTable → RawTable
 substituted x draw table =
     if draw == 0 then with_atom (codes "Cl") x table

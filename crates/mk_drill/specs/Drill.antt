@@ -1,8 +1,10 @@
--- The drill: a search of drilled molecules page by page, with records removed behind the first page.
+-- The drill: a search of drilled molecules page by page, with records removed behind the first
+-- page.
 --     IsHeld start count n mol         the molecule is held under the number n at first
 --     IsLeft start count n mol         it is held there behind the removal
 --     AreHits start count query hits   the hits that are listed
---     fold hits                        a number that each hit's place and each number of its key changes
+--     fold hits                        a number that each hit's place and each number of its key
+--                                      changes
 --     drill_line count hits            the line
 --     IsDrill start count line         the line of the drill
 --     AppendsDrill start count before after     the line is appended
@@ -30,8 +32,8 @@ pub record IsLeft (start count n : ℕ) (mol : Molecule) : Type 0 where
 
 -- ---- the hits
 
--- A page of 100 from the opening place. Where it is full the records whose number is a multiple of 5 are removed, and all keys
--- follow that remain from the place behind the page.
+-- A page of 100 from the opening place. Where it is full the records whose number is a multiple of
+-- 5 are removed, and all keys follow that remain from the place behind the page.
 pub record AreHits (start count : ℕ) (query : QueryView) (hits : List (List ℕ)) : Type 0 where
   pub page : List (List ℕ)
   pub others : List (List ℕ)
@@ -42,7 +44,8 @@ pub record AreHits (start count : ℕ) (query : QueryView) (hits : List (List �
 
 -- ---- the line
 
--- the number of each hit, where the first has the number i, times the sum of its key's numbers, all together
+-- the number of each hit, where the first has the number i, times the sum of its key's numbers, all
+-- together
 abbrev pub weighed_from : ℕ → List (List ℕ) → ℕ
 weighed_from i [] = 0
 weighed_from i (key ∷ keys) = i * sum key + weighed_from (i + 1) keys

@@ -1,4 +1,5 @@
--- The query of the drill: a benzene with one substituent or more, each of them chlorine, bromine or methoxy.
+-- The query of the drill: a benzene with one substituent or more, each of them chlorine, bromine or
+-- methoxy.
 --     query_text                   its RGfile
 --     IsDrillQuery query           the query is the one of that file
 use Rattle.std.specs.Prelude.{ℕ, List, [], ◌∷◌, ◌++◌, codes}

@@ -1,7 +1,8 @@
 -- For code alone: the library of the drill's molecules.
 --     drilled_text table           the text that is loaded
 --     record_text table            the text of its one record
---     IsLoadable table             its text is a file of one record that is a molecule, and is short
+--     IsLoadable table             its text is a file of one record that is a molecule, and is
+--                                  short
 --     IsCounted library            the records have the numbers from 1 on, and short texts
 --     drilled_records start count  the records of the molecules, under the numbers from 1 on
 --     left_below k rows            the rows without the first k multiples of 5
@@ -38,7 +39,8 @@ pub record IsLoadable (table : RawTable) : Type 0 where
 
 -- ---- libraries
 
--- The next number is one more than there are records, theirs are below it, and each has a short text.
+-- The next number is one more than there are records, theirs are below it, and each has a short
+-- text.
 pub record IsCounted (library : LibraryView) : Type 0 where
   pub counted : library.next_record ≡ length library.records + 1
   pub below : AllByRecursion (λ (row : RecordRow). row.number < library.next_record) library.records

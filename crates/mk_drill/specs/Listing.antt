@@ -1,5 +1,6 @@
 -- For code alone: hits page by page.
---     AreOthers rows query place former hits     behind the former hits stand all keys that remain from the place on
+--     AreOthers rows query place former hits     behind the former hits stand all keys that remain
+--                                                from the place on
 use Rattle.std.specs.Prelude.{◌≡◌, ℕ, List, ◌++◌}
 use Rattle.mk_text.specs.Rising.{IsRisingListOfAll}
 use Rattle.mk_model.specs.Keys.{Remains}

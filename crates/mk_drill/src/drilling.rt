@@ -10,8 +10,8 @@ use std::alloc::Global;
 use std::marker::Brand;
 use std::sync::ledger::Blank;
 
-/// Appends the line of the drill of so many molecules, made from the start on. It has a library of its own. Where memory
-/// doesn't suffice, nothing is appended.
+/// Appends the line of the drill of so many molecules, made from the start on. It has a library of
+/// its own. Where memory doesn't suffice, nothing is appended.
 pub fn drill(alloc: Global, start: u32, count: u32, answer: &mut Vec<u8>) -> Result<(), Memory>
     requires some { 1 ≤ count }
     requires few { count ≤ 10000 }

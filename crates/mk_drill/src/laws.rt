@@ -1,4 +1,5 @@
-// A law over the definitions alone, carried by a function that does nothing but cite the law that it rests on.
+// A law over the definitions alone, carried by a function that does nothing but cite the law that
+// it rests on.
 ghost use Rattle.mk_drill.specs.Drill.{OneDrill};
 
 use mk_query::one_query;

@@ -1,10 +1,13 @@
-//! The drill: molecules made by a generator, loaded, and searched page by page, with records removed behind the first page.
+//! The drill: molecules made by a generator, loaded, and searched page by page, with records
+//! removed behind the first page.
 //!
-//! Callers use one promise. `drill` appends the one line of a start and a count (`IsDrill` in `specs/Drill.antt`), over the
-//! molecules that the generator makes (`specs/Draws.antt`) and the query of one file (`specs/DrillQuery.antt`). It tells in a moment, on
-//! any machine, whether reading, filling, searching and removing give what they should, and how long they take.
+//! Callers use one promise. `drill` appends the one line of a start and a count (`IsDrill` in
+//! `specs/Drill.antt`), over the molecules that the generator makes (`specs/Draws.antt`) and the
+//! query of one file (`specs/DrillQuery.antt`). It tells in a moment, on any machine, whether
+//! reading, filling, searching and removing give what they should, and how long they take.
 //!
-//! How files are read, what a molecule is and how keys are found is left to the crates below, through their promises alone.
+//! How files are read, what a molecule is and how keys are found is left to the crates below,
+//! through their promises alone.
 #![tactic(auto)]
 
 mod draws;

@@ -1,5 +1,5 @@
-// The first draws, and lines of the drill. The first line is worked out by hand, and the others by a program of twenty lines that
-// knows which hits benzenes with such substituents have.
+// The first draws, and lines of the drill. The first line is worked out by hand, and the others by
+// a program of twenty lines that knows which hits benzenes with such substituents have.
 use crate::draws::{Draws, draw_below};
 use crate::drill;
 use std::alloc::Global;

@@ -1,5 +1,6 @@
 -- The table from letters to numbers and the text of symbols, as the code reads them.
---     at_letters first second     the element of these two letters, where 96 as the second stands for none
+--     at_letters first second     the element of these two letters, where 96 as the second stands
+--                                 for none
 --     by_letters symbol           the element of these bytes
 --     columns_of text z           the columns of element z in a text of symbols
 use Rattle.std.specs.Prelude.{◌+◌, ◌*◌, ◌-◌, ◌==◌, ◌||◌, nat_lt, ℕ, Option, Some, None, List, [], ◌∷◌, take, drop, if◌then◌else◌, slice_index}

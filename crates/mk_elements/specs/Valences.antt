@@ -16,7 +16,8 @@ abbrev pub row_of : ℕ → List Row → List ℕ
 row_of z [] = []
 row_of z (r ∷ rows) = if z == r.element then r.valences else row_of z rows
 
--- uncharged: B 3; C 4; N 3, 5; O 2; F 1; Si 4; P 3, 5; S 2, 4, 6; Cl 1; As 3, 5; Se 2, 4, 6; Br 1; I 1
+-- uncharged: B 3; C 4; N 3, 5; O 2; F 1; Si 4; P 3, 5; S 2, 4, 6; Cl 1; As 3, 5; Se 2, 4, 6; Br 1;
+-- I 1
 abbrev pub uncharged : List Row
 uncharged =
     row 5 (3 ∷ [])

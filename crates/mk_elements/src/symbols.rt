@@ -3,7 +3,8 @@ ghost use Rattle.std.specs.Prelude.{◌≡◌, ◌≤◌, ◌<◌, ◌+◌, ◌*
 ghost use Rattle.mk_elements.specs.Symbols.{IsSymbol, Names};
 ghost use Rattle.mk_elements.specs.Letters.{at_letters, by_letters, columns_of};
 
-// Two columns for each element, by rising atomic number. A symbol of one letter has a blank behind it.
+// Two columns for each element, by rising atomic number. A symbol of one letter has a blank behind
+// it.
 const SYMBOLS: &[u8; 236] =
     b"H HeLiBeB C N O F NeNaMgAlSiP S ClArK CaScTiV CrMnFeCoNiCuZnGaGeAsSeBrKrRbSrY ZrNbMoTcRuRhPdAgCdInSnSbTeI XeCsBaLaCePrNdPmSmEuGdTbDyHoErTmYbLuHfTaW ReOsIrPtAuHgTlPbBiPoAtRnFrRaAcThPaU NpPuAmCmBkCfEsFmMdNoLrRfDbSgBhHsMtDsRgCnNhFlMcLvTsOg";
 

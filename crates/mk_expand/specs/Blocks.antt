@@ -1,5 +1,6 @@
 -- For the code: the blocks of all links at once, by labels of atoms.
---     stays slot bond           the bond stays where those from a link to the two neighbours that it names are taken away
+--     stays slot bond           the bond stays where those from a link to the two neighbours that
+--                               it names are taken away
 --     stay slots bond           it stays where those of all links are
 --     merged old new label      the label where `new` takes the place of `old`
 --     AreLabels bonds labels    two atoms have one label exactly where they hang together
@@ -40,6 +41,7 @@ abbrev pub takes : List ℕ → Slot → ℕ → Bool
 takes labels (Link atom most from to) x = (atom == x) || (slice_index labels (atom - 1) == slice_index labels (x - 1))
 takes labels (Site atom group first second) x = atom == x
 
--- the slot that takes an atom, where it was `taker` so far and the slot of this number takes it or doesn't
+-- the slot that takes an atom, where it was `taker` so far and the slot of this number takes it or
+-- doesn't
 abbrev pub taken_by : ℕ → ℕ → Bool → ℕ
 taken_by number taker takes = if (taker == 0) && takes then number else taker

@@ -1,6 +1,7 @@
 -- For the code: a code from a place on.
 --     Begins query slots code               the code begins with a choice at the slots
---     AreChosen query slots code rest pieces    the slots have become these pieces by the choice before the rest
+--     AreChosen query slots code rest pieces    the slots have become these pieces by the choice
+--                                               before the rest
 --     IsExpanded query t code rest part     and template t this part
 --     IsSmallTemplate query t               the size of the template is at most 512
 use Rattle.std.specs.Prelude.{◌≡◌, ◌≤◌, ◌<◌, ◌++◌, ◌==◌, ℕ, Bool, List, length, Contains, if◌then◌else◌}

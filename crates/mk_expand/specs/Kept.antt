@@ -1,5 +1,6 @@
 -- For the code: what a query keeps of one of its templates, in one record.
---     IsSlotOf template slot     a slot of the template: a link, or a site between the neighbours that it names
+--     IsSlotOf template slot     a slot of the template: a link, or a site between the neighbours
+--                                that it names
 --     IsTemplate template        all that is kept of a template
 use Rattle.std.specs.Prelude.{◌≤◌, ◌<◌, ℕ, length, All, AllPairs, Contains}
 use Rattle.mk_model.specs.declared.template.Slot.{Slot}

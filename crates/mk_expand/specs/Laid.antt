@@ -1,6 +1,7 @@
 -- For the code: what it keeps of a template whose slots have become these pieces.
 --     AreTakers template takers              for each atom the number of the slot that takes it
---     IsLaid template pieces takers befores  and for each atom how many atoms stand before those that it becomes
+--     IsLaid template pieces takers befores  and for each atom how many atoms stand before those
+--                                            that it becomes
 use Rattle.std.specs.Prelude.{◌≡◌, ◌≢◌, ◌≤◌, ◌<◌, ◌+◌, ◌++◌, ℕ, zero, suc, Bool, List, [], ◌∷◌, length, replicate, slice_index, All}
 use Rattle.mk_model.specs.Pieces.{Piece}
 use Rattle.mk_model.specs.Pieces.Piece.{Copies, Member, Hydrogens, Nothing}
@@ -73,7 +74,8 @@ abbrev pub HasNeighbours : TemplateView → Slot → Type 0
 HasNeighbours template (Link atom most from to) = Unit {0}
 HasNeighbours template (Site atom group first second) = (first ≤ length template.atoms) × (second ≤ length template.atoms)
 
--- the atoms of a piece behind place x, where copies have this test and the free ends that stand in the list
+-- the atoms of a piece behind place x, where copies have this test and the free ends that stand in
+-- the list
 abbrev pub piece_atoms : List ℕ → AtomTest → ℕ → Piece → List GraphAtom
 piece_atoms frees test x (Copies n) = with_frees frees test x n
 piece_atoms frees test x (Member part) = part.atoms

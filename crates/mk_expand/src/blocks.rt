@@ -8,8 +8,9 @@ use crate::bonds::joins;
 use mk_model::{Memory, QueryBond, Slot, Template};
 use std::alloc::Global;
 
-/// For each atom the number of the slot that takes it, and 0 where none does. The blocks of all links are found at
-/// once: no block holds another link, so the bonds of all links may be taken away together.
+/// For each atom the number of the slot that takes it, and 0 where none does. The blocks of all
+/// links are found at once: no block holds another link, so the bonds of all links may be taken
+/// away together.
 pub fn takers_of(alloc: Global, template: &Template) -> Result<Vec<u32>, Memory>
     requires few { length template.now.slots ≤ 512 }
     requires kept { IsTemplate template.now }

@@ -10,7 +10,8 @@ use crate::piece::Piece;
 use mk_model::{Group, Memory, Query, Slot};
 use std::alloc::Global;
 
-/// What template t becomes by the choice with which the code goes on at a place, and the place behind the choice.
+/// What template t becomes by the choice with which the code goes on at a place, and the place
+/// behind the choice.
 #[cycle(expansion)]
 pub fn expanded(
     alloc: Global,

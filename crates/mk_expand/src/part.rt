@@ -4,7 +4,8 @@ ghost use Rattle.std.specs.Prelude.{◌≡◌};
 use mk_model::{GraphAtom, QueryBond};
 use std::marker::Model;
 
-/// What a template becomes: its atoms, its bonds in any order, and the atoms with attachment point 1 and 2.
+/// What a template becomes: its atoms, its bonds in any order, and the atoms with attachment point
+/// 1 and 2.
 #[derive(Debug, Drop)]
 pub struct Part {
     atoms: Vec<GraphAtom>,

@@ -8,7 +8,8 @@ use crate::piece::Piece;
 use mk_model::{Memory, Slot, Template};
 use std::alloc::Global;
 
-/// For each atom how many atoms stand before those that it becomes, and behind the last one how many there are.
+/// For each atom how many atoms stand before those that it becomes, and behind the last one how
+/// many there are.
 pub fn befores_of(
     alloc: Global,
     template: &Template,

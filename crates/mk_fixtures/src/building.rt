@@ -30,7 +30,8 @@ pub fn mol_of(alloc: Global, atoms: Vec<Atom>, drawn: &[Edge]) -> Result<Mol, Fa
     Ok(Mol::over(count, atoms, bonds, near))
 }
 
-/// Builds a graph. Each bond has its lower end first, and the bonds are in order. Their marks are found anew.
+/// Builds a graph. Each bond has its lower end first, and the bonds are in order. Their marks are
+/// found anew.
 pub fn graph_of(alloc: Global, atoms: Vec<GraphAtom>, bonds: Vec<GraphBond>) -> Result<Graph, Fail>
     ensures atoms { IfOk result (λ graph. graph.atoms ≡ atoms.items) }
     ensures bonds { IfOk result (λ graph. bare_bonds graph.bonds ≡ bare_bonds bonds.items) }

@@ -1,4 +1,5 @@
-// The texts of sketches, as files hold them. The shorthand is that of docs/TESTING.md, "Tables of tests".
+// The texts of sketches, as files hold them. The shorthand is that of docs/TESTING.md, "Tables of
+// tests".
 use crate::words::{DrawnAtom, drawn_atom, drawn_bond, parts_of};
 use mk_model::GraphBond;
 use mk_text::put_number;

@@ -1,9 +1,9 @@
 //! Molecules, graphs and files for tests. It serves tests alone.
 //!
-//! Most tests draw by a text, as `C O C | 1-2 2-3`: `mol_of_sketch` gives its molecule, `graph_of_sketch` its graph, and
-//! `molfile_of_sketch`, `rgfile_of_sketches` and `table_of_sketch` what a file holds of it. The shorthand stands in
-//! docs/TESTING.md, "Tables of tests". `mol_of` and `graph_of` build a molecule and a graph of lists. The marks of bonds are found
-//! here.
+//! Most tests draw by a text, as `C O C | 1-2 2-3`: `mol_of_sketch` gives its molecule,
+//! `graph_of_sketch` its graph, and `molfile_of_sketch`, `rgfile_of_sketches` and `table_of_sketch`
+//! what a file holds of it. The shorthand stands in docs/TESTING.md, "Tables of tests". `mol_of`
+//! and `graph_of` build a molecule and a graph of lists. The marks of bonds are found here.
 //!
 //! What can't be built is a failure of the test that asks for it.
 #![tactic(auto)]

@@ -1,5 +1,5 @@
-// A query of two sites, for tests: `[C R# R# | 1-2 1-3]` with the groups 1 and 2, `[F | ]` and `[Cl | ]`, of which group 1 is filled
-// once or not, and then asks that group 2 is filled.
+// A query of two sites, for tests: `[C R# R# | 1-2 1-3]` with the groups 1 and 2, `[F | ]` and
+// `[Cl | ]`, of which group 1 is filled once or not, and then asks that group 2 is filled.
 ghost use Rattle.std.specs.Prelude.{◌≡◌, ◌∷◌, [], IfOk, pos, false};
 ghost use Rattle.mk_model.specs.declared.template.Slot.TheVariants.{Site};
 ghost use Rattle.mk_model.proofs.OnLiterals.{group, plain_group, range, single, then_query, two_sites};

@@ -1,4 +1,5 @@
-// Molecules and graphs that are drawn as texts. The shorthand is that of docs/TESTING.md, "Tables of tests".
+// Molecules and graphs that are drawn as texts. The shorthand is that of docs/TESTING.md, "Tables
+// of tests".
 use crate::building::{graph_of, mol_of};
 use crate::words::{Parts, drawn_bond, parts_of};
 use mk_elements::number_of;
@@ -8,7 +9,8 @@ use mk_model::{
 use std::alloc::Global;
 use std::test::Fail;
 
-/// The molecule of a sketch, all of whose atoms are elements without columns. Its bonds stand as they are drawn.
+/// The molecule of a sketch, all of whose atoms are elements without columns. Its bonds stand as
+/// they are drawn.
 pub fn mol_of_sketch(alloc: Global, sketch: &str) -> Result<Mol, Fail> {
     let mut atoms = Vec::new(alloc);
     for word in parts_without_lines(sketch)?.atoms.split_whitespace() {
@@ -34,7 +36,8 @@ pub fn bonds_of_sketch(alloc: Global, sketch: &str) -> Result<Vec<Edge>, Fail> {
     Ok(bonds)
 }
 
-/// The graph of a sketch: elements, `A`, `Q` and `*`, each alone asked for, and bonds with their topologies, put in order.
+/// The graph of a sketch: elements, `A`, `Q` and `*`, each alone asked for, and bonds with their
+/// topologies, put in order.
 pub fn graph_of_sketch(alloc: Global, sketch: &str) -> Result<Graph, Fail> {
     let atoms = asked_atoms(alloc, sketch)?;
     let bonds = asked_bonds(alloc, sketch)?;

@@ -216,8 +216,8 @@ fn agrees(graph: &Graph, mol: &Mol) -> bool {
     graph.bonds().len() == mol.bonds().len()
 }
 
-// Ladders of 100 fused six-rings, drawn so that each ring is aromatic only once the next one is: the types of the rungs, of the
-// two bonds of a rail in each ring, and of the last rung.
+// Ladders of 100 fused six-rings, drawn so that each ring is aromatic only once the next one is:
+// the types of the rungs, of the two bonds of a rail in each ring, and of the last rung.
 const LADDERS: [(&str, u8, u8, u8, u8); 2] = [
     ("rails of types 2 and 1", 1, 2, 1, 2),
     (
@@ -254,8 +254,9 @@ fn ladders(rt: HostRuntime) -> Result<(), Fail> {
     Ok(())
 }
 
-// Four layers of 25 atoms, each bonded to ten of the next layer, and to ten of the one before, with types 1 and 2 in turn: a way
-// that takes the labels in turn goes on from layer to layer, so none comes back after six bonds.
+// Four layers of 25 atoms, each bonded to ten of the next layer, and to ten of the one before, with
+// types 1 and 2 in turn: a way that takes the labels in turn goes on from layer to layer, so none
+// comes back after six bonds.
 #[test]
 fn layers_without_six_rings(rt: HostRuntime) -> Result<(), Fail> {
     let mut bonds = Vec::new(rt.alloc());

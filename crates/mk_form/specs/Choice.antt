@@ -15,7 +15,8 @@ abbrev pub FirstMayBe : {L : Type 0} → (L → Bool) → Bool → List L → Ty
 FirstMayBe b t [] = Unit {0}
 FirstMayBe b t (l ∷ lines) = b l ≡ t
 
--- The first line of the part shows what stands here: the test says t of it, and no line is named before it.
+-- The first line of the part shows what stands here: the test says t of it, and no line is named
+-- before it.
 pub record Shows {L V : Type 0} (b : L → Bool) (t : Bool) (p : Part L V) : Type 0 where
   pub text : (lines : List L) (v : V) → p.is lines v → FirstIs b t lines
   pub live : (lines : List L) → p.live lines → FirstMayBe b t lines

@@ -1,4 +1,5 @@
--- One of two parts that no single line tells apart: both are read, and where neither reads, the farther stop counts.
+-- One of two parts that no single line tells apart: both are read, and where neither reads, the
+-- farther stop counts.
 --     either p q       a text of p or of q
 use Rattle.std.specs.Prelude.{nat_lt, if◌then◌else◌, length, ◌⊎◌}
 use Rattle.mk_form.specs.Reading.{Reading, Took, Stop}

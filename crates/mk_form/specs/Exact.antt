@@ -1,5 +1,6 @@
 -- What it is to read a form exactly. The laws that follow from it stand in StopLaws.antt.
---     Part L V                  a form with its reader: its texts, what may go on, where a line may be named, how it is read
+--     Part L V                  a form with its reader: its texts, what may go on, where a line may
+--                               be named, how it is read
 --     Exact says Follows p      the reader of the part p reads it exactly, up to what may follow it
 --     Completes p               what is live in the part p is a front
 --     NeverDue p                no line of the part p may say its name
@@ -63,7 +64,8 @@ pub record NamedAt {L : Type 0} (says : L → Bool) (Due : List L → Type 0) (l
   pub due : Due front
   pub says_so : IsTrue (says line)
 
--- The reader of the part reads it exactly. `Follows` says which lines may stand behind a text of the part.
+-- The reader of the part reads it exactly. `Follows` says which lines may stand behind a text of
+-- the part.
 pub record Exact {L V : Type 0} (says : L → Bool) (Follows : List L → Type 0) (p : Part L V) : Type 0 where
   -- what is read is a text of the part, and what is left may follow it
   pub took : (lines rest : List L) (v : V) → p.read lines ≡ Took v rest → TakesText Follows p.is lines rest v

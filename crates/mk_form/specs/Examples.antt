@@ -189,7 +189,8 @@ abbrev pub blocks_within : ℕ → Part ℕ (List ℕ)
 blocks_within zero = seen_as (λ _. []) (lines_to_end is_blank)
 blocks_within (suc n) = either (seen_as (λ _. []) (lines_to_end is_blank)) (sequence (line digit) (λ x. seen_as (digits_of x) (up_to is_end (blocks_within n))))
 
--- Blocks, each a digit and further lines, with a separator behind each but perhaps the last; or blank lines.
+-- Blocks, each a digit and further lines, with a separator behind each but perhaps the last; or
+-- blank lines.
 abbrev pub blocks : Part ℕ (List ℕ)
 blocks = limit blocks_within
 
@@ -201,7 +202,8 @@ two_blocks = refl
 pub last_block : blocks.read (5 ∷ 99 ∷ 6 ∷ 50 ∷ []) ≡ Took (5 ∷ 6 ∷ []) []
 last_block = refl
 
--- line 3 is no block, but it may begin blank lines to the end, and line 4 is no blank line: line 4 is bad
+-- line 3 is no block, but it may begin blank lines to the end, and line 4 is no blank line: line 4
+-- is bad
 pub behind_a_blank : blocks.read (5 ∷ 99 ∷ 40 ∷ 6 ∷ []) ≡ Stop false (6 ∷ [])
 behind_a_blank = refl
 
@@ -223,6 +225,7 @@ three_lines_as_one = refl
 pub not_three : three.read (4 ∷ 7 ∷ []) ≡ Stop false (7 ∷ [])
 not_three = refl
 
--- the text is cut behind a line that goes on: the line behind the last is bad, though no further line could make them three
+-- the text is cut behind a line that goes on: the line behind the last is bad, though no further
+-- line could make them three
 pub cut_behind : three.read (4 ∷ 4 ∷ 4 ∷ 4 ∷ []) ≡ Stop false []
 cut_behind = refl

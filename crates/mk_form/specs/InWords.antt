@@ -7,7 +7,8 @@ use Rattle.mk_form.specs.Fronts.{IsFront}
 use Rattle.mk_form.specs.Reading.{Reading}
 use Rattle.mk_form.specs.Exact.{Part}
 
--- The form of this relation, with the places where a line is due that may say its name, and its reader.
+-- The form of this relation, with the places where a line is due that may say its name, and its
+-- reader.
 abbrev pub form : {L V : Type 0} → (List L → V → Type 0) → (List L → Type 0) → (List L → Reading L V) → Part L V
 form Is Due read = record { is = Is; live = IsFront Is; due = Due; read = read }
 
@@ -15,7 +16,8 @@ form Is Due read = record { is = Is; live = IsFront Is; due = Due; read = read }
 abbrev pub plain : {L V : Type 0} → Part L V → Part L V
 plain p = form p.is p.due p.read
 
--- The texts of the part are those of the relation, and a line that may say its name is due in it where `Due` says so.
+-- The texts of the part are those of the relation, and a line that may say its name is due in it
+-- where `Due` says so.
 pub record SameForm {L V : Type 0} (p : Part L V) (Is : List L → V → Type 0) (Due : List L → Type 0) : Type 0 where
   pub is_to : (lines : List L) (v : V) → p.is lines v → Is lines v
   pub is_from : (lines : List L) (v : V) → Is lines v → p.is lines v

@@ -1,7 +1,8 @@
 -- Several lines that are read as one: each but the last goes on.
---     joined goes_on closes f     lines that go on, and one that closes; f says what they spell together
--- A text may be cut behind a line that goes on. Such lines are live even where no further line can make them spell a value:
--- here what is live is more than the fronts.
+--     joined goes_on closes f     lines that go on, and one that closes; f says what they spell
+--                                 together
+-- A text may be cut behind a line that goes on. Such lines are live even where no further line can
+-- make them spell a value: here what is live is more than the fronts.
 use Rattle.std.specs.Prelude.{◌≡◌, Bool, true, false, if◌then◌else◌, Option, Some, List, [], ◌∷◌, ◌++◌, ◌⊎◌}
 use Rattle.mk_form.specs.Reading.{Reading, Stop}
 use Rattle.mk_form.specs.Exact.{Part, Never}
@@ -22,7 +23,8 @@ pub record Joined {L V : Type 0} (goes_on closes : L → Bool) (f : List L → O
 abbrev pub UpToJoined : {L V : Type 0} → (L → Bool) → (L → Bool) → (List L → Option V) → List L → Type 0
 UpToJoined {L} {V} goes_on closes f lines = EachIs goes_on true lines ⊎ ((v : V) × Joined goes_on closes f lines v)
 
--- lines are read up to one that doesn't go on; f says what those still to come spell together with those before
+-- lines are read up to one that doesn't go on; f says what those still to come spell together with
+-- those before
 abbrev pub read_joined : {L V : Type 0} → (L → Bool) → (L → Bool) → (List L → Option V) → List L → Reading L V
 read_joined goes_on closes f [] = Stop false []
 read_joined goes_on closes f (l ∷ lines) =

@@ -1,4 +1,5 @@
--- Parts that are made by steps, as a form that speaks of itself is: `steps n` is the form that goes down no more than n times.
+-- Parts that are made by steps, as a form that speaks of itself is: `steps n` is the form that goes
+-- down no more than n times.
 --     limit steps         what holds of some step
 --     IsBelow p q         what holds of the part p holds of the part q
 --     Grows steps         each step is below the next, and enough of them read alike
@@ -21,13 +22,14 @@ pub record IsBelow {L V : Type 0} (p q : Part L V) : Type 0 where
   pub live : (lines : List L) → p.live lines → q.live lines
   pub due : (lines : List L) → p.due lines → q.due lines
 
--- What holds of a step holds of the next, and for lines that are no more than n the next step reads as the step n does.
+-- What holds of a step holds of the next, and for lines that are no more than n the next step reads
+-- as the step n does.
 pub record Grows {L V : Type 0} (steps : ℕ → Part L V) : Type 0 where
   pub more : (n : ℕ) → IsBelow (steps n) (steps (suc n))
   pub reads : (n : ℕ) (lines : List L) → length lines ≤ n → (steps (suc n)).read lines ≡ (steps n).read lines
 
--- What holds of q holds of all steps that are large enough, and the other way round. For lines that are no more than n the
--- step n reads as q does.
+-- What holds of q holds of all steps that are large enough, and the other way round. For lines that
+-- are no more than n the step n reads as q does.
 pub record IsLimit {L V : Type 0} (steps : ℕ → Part L V) (q : Part L V) : Type 0 where
   pub is_to : (n : ℕ) (lines : List L) (v : V) → (steps n).is lines v → q.is lines v
   pub is_from : (lines : List L) (v : V) → q.is lines v → (m : ℕ) × ((n : ℕ) → m ≤ n → (steps n).is lines v)

@@ -1,4 +1,5 @@
--- The smallest parts: no line, and one line. A function f from a line to an optional value says what a line spells.
+-- The smallest parts: no line, and one line. A function f from a line to an optional value says
+-- what a line spells.
 --     give v                 no line, and this value
 --     line f                 one line, which spells a value
 --     counts_line says f     one line, which spells a value or may say its name

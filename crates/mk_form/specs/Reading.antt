@@ -1,5 +1,6 @@
 -- Reading lines from the left. A reading carries the lines that are left, and no counter.
---     Reading L V                        what reading some lines gives: a value, or the place where it stops
+--     Reading L V                        what reading some lines gives: a value, or the place where
+--                                        it stops
 --     and_then reading f                 where a value was read, f goes on with the lines behind it
 --     TakesLines lines count v reading   the reading gave the value v and took so many of the lines
 --     StopsAtLine lines named k reading  the reading stopped at line k
@@ -9,7 +10,8 @@ use Rattle.std.specs.Prelude.{◌≡◌, ℕ, ◌+◌, ◌-◌, ◌≤◌, Bool,
 pub data Reading (L V : Type 0) : Type 0 where
   -- this value was read, and these lines are left
   Took : (value : V) (rest : List L) → Reading L V
-  -- The first of these lines doesn't fit, or a line is wanted and none is left. A stop is named or isn't.
+  -- The first of these lines doesn't fit, or a line is wanted and none is left. A stop is named or
+  -- isn't.
   Stop : (named : Bool) (rest : List L) → Reading L V
 
 -- where a value was read, f goes on with it and the lines behind it
@@ -22,7 +24,8 @@ pub record TakesLines {L V : Type 0} (lines : List L) (count : ℕ) (value : V) 
   pub within : count ≤ length lines
   pub took : reading ≡ Took value (drop count lines)
 
--- The reading of these lines stopped at line k, counted from 1, or behind the last line where k is their number plus 1.
+-- The reading of these lines stopped at line k, counted from 1, or behind the last line where k is
+-- their number plus 1.
 pub record StopsAtLine {L V : Type 0} (lines : List L) (named : Bool) (k : ℕ) (reading : Reading L V) : Type 0 where
   pub counted : (1 ≤ k) × (k ≤ length lines + 1)
   pub stop : reading ≡ Stop named (drop (k - 1) lines)

@@ -1,11 +1,13 @@
 -- One part and then another.
---     Then P Q lines value      a text of P, and then a text of Q, which depends on the value of the first
+--     Then P Q lines value      a text of P, and then a text of Q, which depends on the value of
+--                               the first
 --     sequence p q              the part p, and then a part that depends on its value
 use Rattle.std.specs.Prelude.{◌≡◌, List, ◌++◌, ◌⊎◌}
 use Rattle.mk_form.specs.Reading.{and_then}
 use Rattle.mk_form.specs.Exact.{Part}
 
--- The lines are a text of the first, and then a text of the second, which depends on the value of the first.
+-- The lines are a text of the first, and then a text of the second, which depends on the value of
+-- the first.
 pub record Then {L X V : Type 0} (P : List L → X → Type 0) (Q : X → List L → V → Type 0) (lines : List L) (value : V) : Type 0 where
   pub front : List L
   pub back : List L

@@ -76,7 +76,8 @@ abbrev pub BadLineFromIsStop : {L V : Type 0} → Part L V → Type 0
 BadLineFromIsStop {L} p =
     (at : ℕ) (lines : List L) (k : ℕ) → at ≤ length lines → IsBadLineFromWhere p.live p.is at lines k ↔ ((at < k) × (named : Bool) × StopsAtLine lines named k (p.read (drop at lines)))
 
--- at most one text of the form begins behind the first lines of a longer text, with one end and one value
+-- at most one text of the form begins behind the first lines of a longer text, with one end and one
+-- value
 abbrev pub HasOnePartFrom : {L V : Type 0} → Part L V → Type 0
 HasOnePartFrom {L} {V} p = (at : ℕ) (lines : List L) (m n : ℕ) (v w : V) → IsPartFrom p.is at lines m v → IsPartFrom p.is at lines n w → (m ≡ n) × (v ≡ w)
 

@@ -1,6 +1,7 @@
 -- Parts that run to the end of the text.
 --     lines_to_end b        lines that all pass the test b, to the end
---     up_to b p             lines up to one that passes the test b, and the part p behind it; or lines of which none does, to the end
+--     up_to b p             lines up to one that passes the test b, and the part p behind it; or
+--                           lines of which none does, to the end
 use Rattle.std.specs.Prelude.{◌≡◌, Bool, true, false, if◌then◌else◌, List, [], ◌∷◌, ◌++◌, Option, Some, None, MatchOption, ◌⊎◌}
 use Rattle.mk_form.specs.Reading.{Reading, Took, Stop, and_then}
 use Rattle.mk_form.specs.Exact.{Part, Never}
@@ -35,7 +36,8 @@ pub record Separated {L V : Type 0} (b : L → Bool) (Q : List L → V → Type 
   pub separates : b separator ≡ true
   pub after : Q back v
 
--- The first lines don't pass the test. They are all the lines, or a line that passes stands behind them, and then a text of Q.
+-- The first lines don't pass the test. They are all the lines, or a line that passes stands behind
+-- them, and then a text of Q.
 pub record UpTo {L V : Type 0} (b : L → Bool) (Q : List L → V → Type 0) (lines : List L) (d : List L × Option V) : Type 0 where
   pub none : EachIs b false d.0
   pub rest : MatchOption d.1 (lines ≡ d.0) (Separated b Q lines d.0)

@@ -16,7 +16,8 @@ pub record Ended {L X U : Type 0} (P : List L → X → Type 0) (E : List L → 
   pub items : Series P front value.0
   pub last : E back value.1
 
--- The lines are some texts of P, and then end within one more, where M holds, or within the end, where N holds.
+-- The lines are some texts of P, and then end within one more, where M holds, or within the end,
+-- where N holds.
 pub record EndsInUntil {L X : Type 0} (M : List L → Type 0) (P : List L → X → Type 0) (N : List L → Type 0) (lines : List L) : Type 0 where
   pub values : List X
   pub front : List L

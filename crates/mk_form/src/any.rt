@@ -25,7 +25,8 @@ pub trait AnySteps<L, V> {
     ghost steps: { ℕ → Part L V };
 }
 
-/// Any relation between lines and a value, with the places where a line is due that may say its name.
+/// Any relation between lines and a value, with the places where a line is due that may say its
+/// name.
 pub trait AnyForm<L, V> {
     ghost is: { List L → V → Type 0 };
 

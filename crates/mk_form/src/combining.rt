@@ -1,7 +1,8 @@
 //! The laws of the combinators: each part made of parts that are read exactly is read exactly.
 //!
-//! Each function here has an empty body and a contract that is the law. What it ensures for a trait's ghost member, it ensures
-//! for every value of that member. The clauses say under these labels:
+//! Each function here has an empty body and a contract that is the law. What it ensures for a
+//! trait's ghost member, it ensures for every value of that member. The clauses say under these
+//! labels:
 //!
 //! - `exact`: the part is read exactly
 //! - `completes`: what is live in it is a front, where that holds of the parts that it is made of
@@ -56,8 +57,8 @@ pub fn limit_is_exact<L, V, T: AnyText<L>, S: AnySteps<L, V>, P: AnyPart<L, V>>(
     ensures grows { Grows S.steps → IsLimit S.steps (limit S.steps) }
 {}
 
-/// What holds of one part and so of another holds of the parts that are made of them. So the steps of a form that speaks of
-/// itself grow.
+/// What holds of one part and so of another holds of the parts that are made of them. So the steps
+/// of a form that speaks of itself grow.
 pub fn below_is_kept<
     L,
     X,
@@ -231,7 +232,8 @@ pub fn up_to_is_exact<L, V, T: AnyText<L>, B: AnyTest<L>, P: AnyPart<L, V>>()
     ensures unnamed { NeverDue P.part → NeverDue (up_to B.passes P.part) }
 {}
 
-/// One of two parts that no single line tells apart. No text is one of both, and no line of the first says a name.
+/// One of two parts that no single line tells apart. No text is one of both, and no line of the
+/// first says a name.
 pub fn either_is_exact<L, V, T: AnyText<L>, P: AnyPart<L, V>, Q: AnyPart<L, V>>()
     ensures exact { Exact T.says NoLines P.part → Exact T.says NoLines Q.part → NeverDue P.part
         → ((lines : List L) (v w : V) → P.part.is lines v → ¬ (Q.part.is lines w))

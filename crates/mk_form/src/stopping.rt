@@ -1,4 +1,5 @@
-//! What follows for each form that is read exactly: its value, its bad line, and the name of a line.
+//! What follows for each form that is read exactly: its value, its bad line, and the name of a
+//! line.
 
 ghost use Rattle.std.specs.Prelude.{List};
 ghost use Rattle.mk_form.specs.Exact.{Exact, Completes, Anything, NoLines};
@@ -75,7 +76,8 @@ pub fn part_or_bad_line<L, V, T: AnyText<L>, P: AnyPart<L, V>>()
 
 // ---- the name of a line
 
-/// A line is due that may say its name, and says it, exactly where the reader stops and names the line.
+/// A line is due that may say its name, and says it, exactly where the reader stops and names the
+/// line.
 pub fn named_line_is_due<L, V, T: AnyText<L>, P: AnyPart<L, V>>()
     ensures here { Exact T.says T.follows P.part → NamedIsDue T.says P.part }
     ensures behind { Exact T.says T.follows P.part → NamedFromIsDue T.says P.part }

@@ -1,5 +1,6 @@
 -- Rows by rising number.
---     Rows T                       what is seen of a `ByNumber`: its rows, and how many more it has room for
+--     Rows T                       what is seen of a `ByNumber`: its rows, and how many more it has
+--                                  room for
 --     IsRising rows                each number is below all later ones
 --     holds n rows                 some row has the number
 --     item_at n rows               the item under the number

@@ -51,7 +51,8 @@ impl<T: Drop> ByNumber<T> {
         Ok(())
     }
 
-    /// Puts an item under a number that isn't held. It takes at most 1 from the room to spare, and no memory.
+    /// Puts an item under a number that isn't held. It takes at most 1 from the room to spare, and
+    /// no memory.
     pub fn insert(&mut self, number: u32, item: T)
         requires spare { 1 ≤ self.old.spare }
         requires new { holds number self.old.rows ≡ false }
@@ -73,7 +74,8 @@ impl<T: Drop> ByNumber<T> {
         mem::replace(&mut self.rows[at].item, item)
     }
 
-    /// Takes the item under a number out. Where the number is held there is room for one more behind it.
+    /// Takes the item under a number out. Where the number is held there is room for one more
+    /// behind it.
     pub fn remove(&mut self, number: u32) -> Option<T>
         ensures item { item_at number self.old.rows ≡ result }
         ensures rows { self.new.rows ≡ without number self.old.rows }

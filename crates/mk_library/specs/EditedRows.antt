@@ -17,7 +17,8 @@ pub record ReadOn (next : ℕ) (rows : List RecordRow) : Type 0 where
   pub read : AllRead next rows
   pub least : 1 ≤ next
 
--- an edit that is allowed leaves rows that read, where those before it did and their next number was at least 1
+-- an edit that is allowed leaves rows that read, where those before it did and their next number
+-- was at least 1
 abbrev pub EditsKeepReading : Type 0
 EditsKeepReading = (t : Tables) (edit : Edit) (changes : List Change) → ReadOn t.next_record t.records → IsAllowed t.records t.next_record edit changes
     → ReadOn (after_batch changes t).next_record (after_batch changes t).records

@@ -1,6 +1,7 @@
 -- Edits of a library, and what each changes.
 --     Edit                         a load of a file, a replacement of a record, or a removal
---     AreChanges next edit changes     the changes that the edit makes, where this is the next number
+--     AreChanges next edit changes     the changes that the edit makes, where this is the next
+--                                      number
 use Rattle.std.specs.Prelude.{◌≡◌, ℕ, ◌+◌, List, [], ◌∷◌, map}
 use Rattle.mk_text.specs.Lines.{lines_of}
 use Rattle.mk_outside.specs.declared.tables.Change.{Change}
@@ -8,7 +9,8 @@ use Rattle.mk_outside.specs.declared.tables.Change.TheVariants.{PutRecord, DropR
 use Rattle.mk_sdfile.specs.declared.raw_record.RawRecord.{RawRecord}
 use Rattle.mk_sdfile.specs.Sdfile.{IsSdfile}
 
--- The records of a file are added; the one record of a file takes the place of the one of the number; that one is taken out.
+-- The records of a file are added; the one record of a file takes the place of the one of the
+-- number; that one is taken out.
 pub data Edit : Type 0 where
   Load : (text : List ℕ) → Edit
   Replace : (number : ℕ) (text : List ℕ) → Edit

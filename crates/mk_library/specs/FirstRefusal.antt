@@ -1,8 +1,10 @@
 -- What is demanded of an edit, in order, and the first demand that it doesn't meet.
 --     Demand                                   the six demands; `order` gives their places
---     Demands records next edit demand         what a demand asks of the edit of a library with these records and next number
+--     Demands records next edit demand         what a demand asks of the edit of a library with
+--                                              these records and next number
 --     IsAllowed records next edit changes      every demand is met, and these are the changes
---     IsFirstRefusal records next edit refusal     the first demand that isn't met, and what is said of it
+--     IsFirstRefusal records next edit refusal     the first demand that isn't met, and what is
+--                                                  said of it
 use Rattle.std.specs.Prelude.{◌≡◌, ◌↔◌, ℕ, ◌+◌, ◌<◌, ◌≤◌, Bool, true, List, [], ◌∷◌, ◌++◌, length, All, IsTrue, Result, Ok, Err, ⊤}
 use Rattle.mk_text.specs.Lines.{lines_of}
 use Rattle.mk_outside.specs.declared.tables.Change.{Change}
@@ -18,8 +20,8 @@ use Rattle.mk_library.specs.Limits.{IsWithinLimits, file_bytes}
 use Rattle.mk_library.specs.Library.{record_tables}
 use Rattle.mk_library.specs.Edits.{AreChanges, Edit, Load, Replace, Remove}
 
--- The number is held; the file is short; it is an SDfile; it holds one record; its records are molecules; the limits of the
--- library are kept.
+-- The number is held; the file is short; it is an SDfile; it holds one record; its records are
+-- molecules; the limits of the library are kept.
 pub data Demand : Type 0 where
   held_number : Demand
   short_file : Demand
@@ -46,7 +48,8 @@ abbrev pub KeepsTheLimits : List RecordRow → ℕ → Edit → Type 0
 KeepsTheLimits records next edit =
     (changes : List Change) → AreChanges next edit changes → IsWithinLimits (after_batch changes (record_tables records next)).records
 
--- What a demand asks of an edit. A load asks for no number and for any number of records, a removal for no file.
+-- What a demand asks of an edit. A load asks for no number and for any number of records, a removal
+-- for no file.
 abbrev pub Demands : List RecordRow → ℕ → Edit → Demand → Type 0
 Demands records next (Load text) held_number = ⊤
 Demands records next (Load text) short_file = length text ≤ file_bytes

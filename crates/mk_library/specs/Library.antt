@@ -1,7 +1,8 @@
 -- What a library stands for.
 --     LibraryView                  what is seen of a `Library`
 --     IsLibrary library            what every `Library` keeps
---     tables_of library            its record rows and next number, as tables without queries and cursors
+--     tables_of library            its record rows and next number, as tables without queries and
+--                                  cursors
 --     IsSame a b                   two libraries hold the same, whatever room they have
 --     IsLeastHeld from records n   the number is the least that is held, from there on
 --     NoneHeld from records        from there on none is held
@@ -16,14 +17,16 @@ use Rattle.mk_outside.specs.Tables.{no_tables}
 use Rattle.mk_library.specs.Records.{AreHeld, AreRising, is_held, records_of, text_bytes}
 use Rattle.mk_library.specs.Limits.{IsWithinLimits}
 
--- what is seen of a `Library`: its records, their molecules, the number that comes next, and how many more records it has room for
+-- what is seen of a `Library`: its records, their molecules, the number that comes next, and how
+-- many more records it has room for
 pub record LibraryView : Type 0 where
   pub records : List RecordRow
   pub rows : List (Numbered Molecule)
   pub next_record : ℕ
   pub spare : ℕ
 
--- the records rise and are below the next number and within the limits, and each molecule is the filled one of its text
+-- the records rise and are below the next number and within the limits, and each molecule is the
+-- filled one of its text
 pub record IsLibrary (library : LibraryView) : Type 0 where
   pub rising : AreRising library.records
   pub below_next : AllByRecursion (λ (row : RecordRow). row.number < library.next_record) library.records

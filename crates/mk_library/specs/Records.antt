@@ -1,5 +1,6 @@
 -- Records: rows of numbers and texts, and the molecule of each.
---     IsRecordText text            the text is that of one record, which passes the checks of molecules
+--     IsRecordText text            the text is that of one record, which passes the checks of
+--                                  molecules
 --     IsMoleculeOf text mol        the molecule is that record's, filled
 --     is_held n records            some record has the number
 --     text_of n records            the text under the number
@@ -16,7 +17,8 @@ use Rattle.mk_mol.specs.Filled.{IsFilled}
 use Rattle.mk_mol.specs.FirstFault.{PassesAll}
 use Rattle.mk_index.specs.declared.by_number.Numbered.{Numbered}
 
--- the text is an SDfile of one record, is that record's own text, and its table passes the checks of molecules
+-- the text is an SDfile of one record, is that record's own text, and its table passes the checks
+-- of molecules
 pub record IsRecordText (text : List ℕ) : Type 0 where
   pub raw : RawRecord
   pub read : IsSdfile (lines_of text) (raw ∷ [])

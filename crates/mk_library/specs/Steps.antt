@@ -1,9 +1,11 @@
 -- What the steps of an edit answer. This file serves code alone.
 --     IsFileAnswer text answer         the records of a molecules' file, or why it is refused
 --     AreMolecules raws mols           the molecules are those of the records
---     ArePreparedOf raws answer        the texts and molecules of the records, or the first that is no molecule
+--     ArePreparedOf raws answer        the texts and molecules of the records, or the first that is
+--                                      no molecule
 --     IsTextAnswer text answer         the molecule of a stored text, or none
---     GoesBehind next records row      the row may be put behind these, where this is the next number
+--     GoesBehind next records row      the row may be put behind these, where this is the next
+--                                      number
 --     LoadKeeps records next texts     the limits are kept where these texts are added
 use Rattle.std.specs.Prelude.{◌≡◌, ◌↔◌, ℕ, ◌+◌, ◌<◌, ◌≤◌, List, [], ◌∷◌, length, IsTrue, Option, Some, None, Result, Ok, Err, ⊤}
 use Rattle.std.specs.List.{AllByRecursion}
@@ -69,13 +71,14 @@ pub record LoadKeeps (records : List RecordRow) (next : ℕ) (texts : List (List
 
 -- ---- stored texts
 
--- the molecule of a stored text, or none where the text isn't that of one record which is a molecule
+-- the molecule of a stored text, or none where the text isn't that of one record which is a
+-- molecule
 abbrev pub IsTextAnswer : List ℕ → Option Molecule → Type 0
 IsTextAnswer text (Some mol) = IsMoleculeOf text mol
 IsTextAnswer text None = ¬ (IsRecordText text)
 
--- The row may be put behind the records: its number is one that can be kept, above theirs and below the next one, and with it
--- they are few and have few bytes of text.
+-- The row may be put behind the records: its number is one that can be kept, above theirs and below
+-- the next one, and with it they are few and have few bytes of text.
 pub record GoesBehind (next : ℕ) (records : List RecordRow) (row : RecordRow) : Type 0 where
   pub most : row.number ≤ most_number
   pub above : AllByRecursion (λ (earlier : RecordRow). earlier.number < row.number) records

@@ -11,8 +11,9 @@ use Rattle.mk_library.specs.declared.refusal.RestoreFault.TheVariants.{Bad, Memo
 use Rattle.mk_library.specs.Records.{IsRecordText, text_bytes}
 use Rattle.mk_library.specs.Limits.{file_bytes, most_bytes, most_number, most_records}
 
--- The number is one that a record may have, above those before it and below the next one; there are few rows before it and few
--- bytes of text up to it, and its text is short. A file's last line may gain an LF, so a text may have one byte more than a file.
+-- The number is one that a record may have, above those before it and below the next one; there are
+-- few rows before it and few bytes of text up to it, and its text is short. A file's last line may
+-- gain an LF, so a text may have one byte more than a file.
 pub record HasPlace (next : ℕ) (before : List RecordRow) (row : RecordRow) : Type 0 where
   pub least : 1 ≤ row.number
   pub most : row.number ≤ most_number

@@ -1,13 +1,16 @@
 //! The library: the texts of records beside their molecules, and how both change.
 //!
-//! Callers use three promises. A `Library` stands for the record rows of tables and their next number, and the molecules on its
-//! shelf are the filled molecules of its texts (`IsLibrary` in `specs/Library.antt`). `load`, `replace` and `remove` change
-//! no record: they make the pending change of an edit, or name the first demand that the edit doesn't meet
-//! (`specs/Edits.antt`, `specs/FirstRefusal.antt`). `install` makes a pending change that fits (`PendingFits` in
-//! `specs/Pending.antt`), takes no memory, and leaves the rows that `after_batch` of mk_outside gives.
+//! Callers use three promises. A `Library` stands for the record rows of tables and their next
+//! number, and the molecules on its shelf are the filled molecules of its texts (`IsLibrary` in
+//! `specs/Library.antt`). `load`, `replace` and `remove` change no record: they make the pending
+//! change of an edit, or name the first demand that the edit doesn't meet (`specs/Edits.antt`,
+//! `specs/FirstRefusal.antt`). `install` makes a pending change that fits (`PendingFits` in
+//! `specs/Pending.antt`), takes no memory, and leaves the rows that `after_batch` of mk_outside
+//! gives.
 //!
-//! `restore` takes stored rows over, or names the first that doesn't read (`specs/StoredRows.antt`). How files are read is left
-//! to mk_sdfile, what a molecule is to mk_mol, and who keeps the rows to mk_outside.
+//! `restore` takes stored rows over, or names the first that doesn't read
+//! (`specs/StoredRows.antt`). How files are read is left to mk_sdfile, what a molecule is to
+//! mk_mol, and who keeps the rows to mk_outside.
 #![tactic(auto)]
 
 mod editing;

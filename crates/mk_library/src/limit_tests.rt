@@ -70,7 +70,8 @@ fn stored_rows_are_few(rt: HostRuntime) -> Result<(), Fail> {
     Ok(())
 }
 
-// What a load of a record of so many bytes answers: `+` where it is made, and the code of a refusal else.
+// What a load of a record of so many bytes answers: `+` where it is made, and the code of a refusal
+// else.
 fn load(library: &mut Library, alloc: Global, bytes: usize) -> Result<u8, AllocError> {
     let text = record_of(alloc, bytes)?;
     match library.load(alloc, &text) {

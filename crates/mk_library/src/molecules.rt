@@ -40,8 +40,8 @@ pub fn records_of(alloc: Global, text: &[u8]) -> Result<RawRecords, LoadRefusal>
     }
 }
 
-/// The texts and the molecules of the records, or the first that is no molecule. Each table is let go as soon as its molecule
-/// stands.
+/// The texts and the molecules of the records, or the first that is no molecule. Each table is let
+/// go as soon as its molecule stands.
 pub fn molecules_of(alloc: Global, records: RawRecords) -> Result<Prepared, LoadRefusal>
     requires keeps { All (λ raw. IsRawTable raw.table) records }
     requires fewer { All (λ raw. length raw.table.props < 2 ^ 32) records }
@@ -80,7 +80,8 @@ fn are_same(a: &[u8], b: &[u8]) -> bool
     a == b
 }
 
-/// The molecule of a stored text, or None where the text isn't that of one record which is a molecule.
+/// The molecule of a stored text, or None where the text isn't that of one record which is a
+/// molecule.
 pub fn molecule_of_text(alloc: Global, text: &[u8]) -> Result<Option<Mol>, Memory>
     requires { length text.now < 2 ^ 32 }
     ensures { IfOk result (IsTextAnswer text.now) }

@@ -9,7 +9,8 @@ use mk_mol::one_filled_molecule;
 use mk_outside::Memory;
 use std::alloc::Global;
 
-// Two libraries of the same records have the same molecules, since a text has one. A step for the proof alone.
+// Two libraries of the same records have the same molecules, since a text has one. A step for the
+// proof alone.
 fn have_same_molecules(library: &Library, other: &Library)
     requires { other.now.records ≡ library.now.records }
     ensures { other.now.rows ≡ library.now.rows }

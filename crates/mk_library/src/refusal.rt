@@ -21,7 +21,8 @@ pub enum LoadRefusal {
     /// The file holds so many records, and one is asked for.
     #[error("{count} records in place of one")]
     NotOne { count: u32 },
-    /// The first record of the file that is no molecule, with the first check that it fails and the item.
+    /// The first record of the file that is no molecule, with the first check that it fails and the
+    /// item.
     #[error("record {number} fails check V{check} at item {item}")]
     Meaning { number: u32, check: u8, item: u32 },
     /// There would be too many records, too many bytes of text, or too great a number.

@@ -1,8 +1,10 @@
-//! The logic of groups: ranges as they are written, and how often the groups of a query may be filled.
+//! The logic of groups: ranges as they are written, and how often the groups of a query may be
+//! filled.
 //!
-//! Callers use three promises. `read_range` gives exactly the intervals of a range text, or None exactly where the text is none
-//! (`IsRangeText` in `specs/RangeTexts.antt`; a text is at most one range, by `one_range`). `holds` tells whether a number is in
-//! a range, and `allowed` whether a query lets each of its groups have so many sites and so many of them filled (`IsAllowed` in
+//! Callers use three promises. `read_range` gives exactly the intervals of a range text, or None
+//! exactly where the text is none (`IsRangeText` in `specs/RangeTexts.antt`; a text is at most one
+//! range, by `one_range`). `holds` tells whether a number is in a range, and `allowed` whether a
+//! query lets each of its groups have so many sites and so many of them filled (`IsAllowed` in
 //! mk_model's `specs/Logic.antt`).
 //!
 //! How sites are counted isn't known here, nor where a range text stands in a file.

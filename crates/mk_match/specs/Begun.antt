@@ -16,7 +16,8 @@ pub record IsBegun (graph : GraphView) (mol : Molecule) (first : List ℕ) : Typ
   pub atoms : (x : ℕ) → 1 ≤ x → x ≤ length first → FitsAtom graph mol x (image first x)
   pub bonds : All (λ bond. bond.second ≤ length first → LiesOn mol bond (image first bond.first) (image first bond.second)) graph.bonds
 
--- atom a may stand behind the first ones: its test is met, it isn't among them, and its bonds to them lie on bonds
+-- atom a may stand behind the first ones: its test is met, it isn't among them, and its bonds to
+-- them lie on bonds
 pub record MayStand (graph : GraphView) (mol : Molecule) (first : List ℕ) (a : ℕ) : Type 0 where
   pub fits : MayLie graph mol (length first + 1) a
   pub new : All (λ b. b ≢ a) first

@@ -1,7 +1,9 @@
--- The atoms of a molecule on which an atom of a graph may lie, as far as its neighbours say. This file serves the code alone.
+-- The atoms of a molecule on which an atom of a graph may lie, as far as its neighbours say. This
+-- file serves the code alone.
 --     AreBonded mol a b                  some bond joins the two atoms
 --     IsCandidate mol anchor a           atom a is bonded to the anchor, where there is one
---     IsLeastEnd bonds n numbers above least      the least end of these bonds of atom n that is above a number
+--     IsLeastEnd bonds n numbers above least      the least end of these bonds of atom n that is
+--                                                 above a number
 use Rattle.std.specs.Prelude.{◌<◌, ◌≤◌, ◌-◌, nat_le, min, ℕ, List, Option, Some, None, slice_get, All, if◌then◌else◌}
 use Rattle.mk_model.specs.declared.molecule.MolBond.{MolBond}
 use Rattle.mk_model.specs.Molecules.{Molecule, IsBondOf, edge_of}
@@ -24,7 +26,8 @@ end_numbered bonds number n = end_of (slice_get bonds (number - 1))
     end_of None = 0
     end_of (Some bond) = other_end n (edge_of bond)
 
--- the number is above another, and no higher than any of the ends that are above it; none where no end is
+-- the number is above another, and no higher than any of the ends that are above it; none where no
+-- end is
 abbrev pub IsLeastEnd : List MolBond → ℕ → List ℕ → ℕ → Option ℕ → Type 0
 IsLeastEnd bonds n numbers above None = All (λ number. end_numbered bonds number n ≤ above) numbers
 IsLeastEnd bonds n numbers above (Some least) = (above < least) × All (λ number. above < end_numbered bonds number n → least ≤ end_numbered bonds number n) numbers

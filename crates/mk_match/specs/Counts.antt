@@ -1,5 +1,7 @@
--- How many atoms of an element there are, in a graph and in a molecule. This file serves the code alone.
---     asks_for z atom, is_of z atom      the atom asks for this element alone; the atom is of this element
+-- How many atoms of an element there are, in a graph and in a molecule. This file serves the code
+-- alone.
+--     asks_for z atom, is_of z atom      the atom asks for this element alone; the atom is of this
+--                                        element
 --     HasNoHit graph mol                 there is no hit
 use Rattle.std.specs.Prelude.{◌==◌, ℕ, Bool, false, List}
 use Rattle.mk_model.specs.declared.atom_test.Kind.{Kind}

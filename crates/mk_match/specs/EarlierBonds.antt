@@ -1,7 +1,8 @@
 -- The bonds of the next atom of a graph to earlier ones. This file serves the code alone.
 --     IsAnchor graph first anchor        an earlier neighbour of the next atom lies on the anchor
 --     HasNoAnchor graph first            the next atom has no earlier neighbour
---     IsMetAt graph mol first a number   the bond of this number is met by atom a, or asks for nothing
+--     IsMetAt graph mol first a number   the bond of this number is met by atom a, or asks for
+--                                        nothing
 use Rattle.std.specs.Prelude.{◌≡◌, ◌≢◌, ◌+◌, ◌-◌, ℕ, List, Some, length, slice_get, All, Contains}
 use Rattle.mk_model.specs.declared.graph.GraphBond.{GraphBond}
 use Rattle.mk_model.specs.Molecules.{Molecule}

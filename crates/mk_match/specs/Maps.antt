@@ -1,6 +1,7 @@
 -- The hits that are left from a place on, as `Maps` gives them.
 --     MapsLeft             what is seen of a `Maps`: its graph, its molecule and its place
---     IsTaken old new b    the least hit that is left is taken, and the place is behind it; or there is none
+--     IsTaken old new b    the least hit that is left is taken, and the place is behind it; or
+--                          there is none
 --     AreLeft left hits    these are the hits that are left, in rising order
 use Rattle.std.specs.Prelude.{◌≡◌, ◌≤◌, ◌+◌, ℕ, Bool, true, false, List, [], ◌∷◌, ◌++◌, Option, Some, None, length, take}
 use Rattle.std.specs.Borrow.{Bor}
@@ -17,7 +18,8 @@ pub record MapsLeft : Type 0 where
   pub mol : Molecule
   pub place : List ℕ
 
--- what a `Maps` keeps beside: its search gives the hits from the place on, and there is room for a further place
+-- what a `Maps` keeps beside: its search gives the hits from the place on, and there is room for a
+-- further place
 pub record IsReady (graph : GraphView) (mol : Molecule) (search : Search) (place : List ℕ) (len : ℕ) : Type 0 where
   pub search_is : IsSearch graph mol search
   pub left : IsLeft graph mol (take len place) search

@@ -1,5 +1,7 @@
--- What a look ahead knows of the hits that begin with the first atoms. This file serves the code alone.
---     Agrees graph mol first order chosen hit         the hit begins with the first atoms, and lies as chosen for the first of an order
+-- What a look ahead knows of the hits that begin with the first atoms. This file serves the code
+-- alone.
+--     Agrees graph mol first order chosen hit         the hit begins with the first atoms, and lies
+--                                                     as chosen for the first of an order
 --     IsPut first order chosen y a                    atom y of the graph has its place on a
 --     IsBeside graph mol first order chosen x a       in each hit that agrees, atom x lies beside a
 --     LiesNever graph mol first order chosen x a      in no hit that agrees, atom x lies on a
@@ -13,7 +15,8 @@ use Rattle.mk_model.specs.Graphs.{GraphView, graph_edge}
 use Rattle.mk_model.specs.Hits.{image, IsHit}
 use Rattle.mk_match.specs.Candidates.{AreBonded}
 
--- the hit begins with the first atoms, and the first atoms of the order lie on those that are chosen for them
+-- the hit begins with the first atoms, and the first atoms of the order lie on those that are
+-- chosen for them
 pub record Agrees (graph : GraphView) (mol : Molecule) (first order chosen hit : List ℕ) : Type 0 where
   pub is : IsHit graph mol hit
   pub begins : (j : ℕ) → j < length first → slice_index hit j ≡ slice_index first j

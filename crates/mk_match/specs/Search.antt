@@ -1,6 +1,9 @@
--- What a search keeps, and what is left of the hits from a place on. This file serves the code alone.
---     IsSearch graph mol search          the search is one for the hits of the graph in the molecule
---     IsLeft graph mol place search      the hits that it still has to give are those from the place on
+-- What a search keeps, and what is left of the hits from a place on. This file serves the code
+-- alone.
+--     IsSearch graph mol search          the search is one for the hits of the graph in the
+--                                        molecule
+--     IsLeft graph mol place search      the hits that it still has to give are those from the
+--                                        place on
 use Rattle.std.specs.Prelude.{◌≡◌, ℕ, Bool, List, [], None, length}
 use Rattle.mk_text.specs.Rising.{IsLeastFrom}
 use Rattle.mk_model.specs.Molecules.{Molecule}
@@ -12,7 +15,8 @@ use Rattle.mk_match.specs.declared.search.Stage.TheVariants.{Walking, Once, Ende
 use Rattle.mk_match.specs.Table.{IsTable}
 use Rattle.mk_match.specs.Walk.{IsWalk, SameFrom, place_of}
 
--- the table and the walk are those of the graph and the molecule; a hit is given once only for a graph without atoms
+-- the table and the walk are those of the graph and the molecule; a hit is given once only for a
+-- graph without atoms
 abbrev pub IsStage : GraphView → Molecule → Stage → List Bool → List ℕ → List ℕ → ℕ → ℕ → Type 0
 IsStage graph mol Walking fits images levels depth above = IsTable graph mol fits × IsWalk graph mol images levels depth above
 IsStage graph mol Once fits images levels depth above = IsGraph graph × (length graph.atoms ≡ 0) × (images ≡ [])
@@ -22,7 +26,8 @@ IsStage graph mol Ended fits images levels depth above = Unit {0}
 abbrev pub IsSearch : GraphView → Molecule → Search → Type 0
 IsSearch graph mol search = IsStage graph mol search.stage search.fits.items search.walk.images.items search.walk.levels.items search.walk.depth search.walk.above
 
--- the hits from the place on are those from where the walk stands; or the empty one; or there are none
+-- the hits from the place on are those from where the walk stands; or the empty one; or there are
+-- none
 abbrev pub IsLeftAt : GraphView → Molecule → List ℕ → Stage → List ℕ → ℕ → ℕ → Type 0
 IsLeftAt graph mol place Walking images depth above = SameFrom (IsHit graph mol) place (place_of images depth above)
 IsLeftAt graph mol place Once images depth above = place ≡ []

@@ -1,7 +1,9 @@
--- Which atom of a graph may lie on which atom of a molecule, as a table. This file serves the code alone.
+-- Which atom of a graph may lie on which atom of a molecule, as a table. This file serves the code
+-- alone.
 --     MayLie graph mol x m               atom x accepts atom m, which has as many bonds at least
 --     cell mol x m                       the place of the two in the table
---     IsTable graph mol fits             each cell of the table says whether the one may lie on the other
+--     IsTable graph mol fits             each cell of the table says whether the one may lie on the
+--                                        other
 use Rattle.std.specs.Prelude.{◌≡◌, ◌≤◌, ◌+◌, ◌*◌, ◌-◌, ◌↔◌, ℕ, Bool, false, List, length, slice_index_or, IsTrue}
 use Rattle.mk_model.specs.Edges.{numbers_at}
 use Rattle.mk_model.specs.Molecules.{Molecule, edges}
@@ -17,7 +19,8 @@ pub record MayLie (graph : GraphView) (mol : Molecule) (x m : ℕ) : Type 0 wher
 abbrev pub cell : Molecule → ℕ → ℕ → ℕ
 cell mol x m = (x - 1) * length mol.atoms + (m - 1)
 
--- the first rows of the table say on which atoms of the molecule each of the first atoms of the graph may lie
+-- the first rows of the table say on which atoms of the molecule each of the first atoms of the
+-- graph may lie
 pub record AreRows (graph : GraphView) (mol : Molecule) (rows : ℕ) (fits : List Bool) : Type 0 where
   pub size : length fits ≡ rows * length mol.atoms
   pub says : (x m : ℕ) → 1 ≤ x → x ≤ rows → 1 ≤ m → m ≤ length mol.atoms → IsTrue (slice_index_or fits (cell mol x m) false) ↔ MayLie graph mol x m

@@ -1,4 +1,5 @@
-// Counts that show that a molecule can't hold a graph, taken once for a graph and once for a molecule.
+// Counts that show that a molecule can't hold a graph, taken once for a graph and once for a
+// molecule.
 ghost use Rattle.std.specs.Prelude.{◌≡◌, IfOk, IsTrue, get_or};
 ghost use Rattle.mk_model.specs.Graphs.{GraphView};
 ghost use Rattle.mk_model.specs.Molecules.{Molecule};

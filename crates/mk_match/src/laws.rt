@@ -7,7 +7,8 @@ pub fn hits_are_listed()
     ensures { HitsAreListed }
 {}
 
-/// A hit that is taken is the first of those left, and the others are left behind it; where none is taken none was left.
+/// A hit that is taken is the first of those left, and the others are left behind it; where none is
+/// taken none was left.
 pub fn hits_are_taken_in_order()
     ensures first { NextIsFirst }
     ensures none { NoneIsLeft }

@@ -30,7 +30,8 @@ pub fn least_map<L: Ledger>(
     Ok(None)
 }
 
-/// The hits of a graph in a molecule from a place on. It holds the graph, the place, and room for a hit.
+/// The hits of a graph in a molecule from a place on. It holds the graph, the place, and room for a
+/// hit.
 #[derive(Debug, Drop)]
 pub struct Maps<'a> {
     search: Search,

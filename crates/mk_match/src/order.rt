@@ -1,4 +1,5 @@
-// The order in which a look ahead looks for atoms. Any order serves its promise, so nothing is promised of this one.
+// The order in which a look ahead looks for atoms. Any order serves its promise, so nothing is
+// promised of this one.
 ghost use Rattle.std.specs.Prelude.{◌≡◌, ◌≤◌, ◌-◌, length, slice_index};
 ghost use Rattle.mk_match.specs.Table.{IsTable};
 
@@ -11,8 +12,8 @@ const NONE: u32 = u32::MAX;
 
 const EDGE: u32 = u32::MAX - 1;
 
-/// The atoms behind the first ones: each beside one that has its place, where there is such an atom, and the one that has
-/// most such neighbours before others.
+/// The atoms behind the first ones: each beside one that has its place, where there is such an
+/// atom, and the one that has most such neighbours before others.
 #[derive(Debug, Drop)]
 pub struct Order {
     pub atoms: Vec<u32>,
@@ -53,7 +54,8 @@ impl Order {
         }
     }
 
-    /// Puts the atoms behind the first ones in order. The neighbours of the last of the first come before all others.
+    /// Puts the atoms behind the first ones in order. The neighbours of the last of the first come
+    /// before all others.
     pub fn arrange(&mut self, graph: &Graph, first: u32) {
         if self.first == first {
             return;
@@ -105,7 +107,8 @@ impl Order {
         }
     }
 
-    // The atom that comes next: of those that wait the one with most placed neighbours, or else one to start anew with.
+    // The atom that comes next: of those that wait the one with most placed neighbours, or else one
+    // to start anew with.
     fn next(&mut self, graph: &Graph) -> Option<u32> {
         if self.edge.is_empty() {
             return self.start(graph);
@@ -125,7 +128,8 @@ impl Order {
         None
     }
 
-    // The atom to start anew with: one with most placed neighbours, and of these one that has fewest choices.
+    // The atom to start anew with: one with most placed neighbours, and of these one that has
+    // fewest choices.
     fn start(&self, graph: &Graph) -> Option<u32> {
         let mut best = None;
         let mut most = 0;

@@ -11,7 +11,8 @@ use mk_model::{Graph, Memory, Mol};
 use mk_tests::bond_fits;
 use std::alloc::Global;
 
-/// What a look ahead needs: the order in which it looks for atoms, what it chose for them, and the hit that it found last.
+/// What a look ahead needs: the order in which it looks for atoms, what it chose for them, and the
+/// hit that it found last.
 #[derive(Debug, Drop)]
 pub struct Outlook {
     order: Order,
@@ -76,7 +77,8 @@ impl Outlook {
         false
     }
 
-    // Tells whether the witness has the last of the first atoms. It has the others, as long as it is kept.
+    // Tells whether the witness has the last of the first atoms. It has the others, as long as it
+    // is kept.
     fn agrees(&self, first: &[u32]) -> bool {
         if first.is_empty() || first.len() > self.witness.len() {
             return false;
@@ -97,8 +99,8 @@ impl Outlook {
     }
 }
 
-// Tells that no hit begins with the first atoms. It puts one atom of the order after another, and takes the last one back
-// where the next can't be put.
+// Tells that no hit begins with the first atoms. It puts one atom of the order after another, and
+// takes the last one back where the next can't be put.
 fn has_none(
     graph: &Graph,
     mol: &Mol,

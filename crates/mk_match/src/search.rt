@@ -10,7 +10,8 @@ use crate::walk::Walk;
 use mk_model::{Graph, Memory, Mol};
 use std::alloc::Global;
 
-/// What a search still has to do: a walk, or to give the one hit of a graph without atoms, or nothing.
+/// What a search still has to do: a walk, or to give the one hit of a graph without atoms, or
+/// nothing.
 #[derive(Clone, Copy, Debug)]
 pub enum Stage {
     Walking,

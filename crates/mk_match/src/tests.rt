@@ -1,5 +1,5 @@
-// The hits of small graphs in small molecules, and the search beside the plain program. The shorthand is that of
-// docs/TESTING.md, "Tables of tests".
+// The hits of small graphs in small molecules, and the search beside the plain program. The
+// shorthand is that of docs/TESTING.md, "Tables of tests".
 ghost use Rattle.std.specs.Prelude.{◌≡◌, ◌<◌, length};
 
 use crate::{Maps, cannot_hold, counts_asked, counts_there, least_map};
@@ -182,7 +182,8 @@ fn the_search_agrees_with_the_plain_program(rt: HostRuntime) -> Result<(), Fail>
     Ok(())
 }
 
-// The hits that are looked for one by one from the front, those that are taken one after another, and those of the plain program.
+// The hits that are looked for one by one from the front, those that are taken one after another,
+// and those of the plain program.
 fn compare(rt: &impl Abort, alloc: Global, graph: Graph, mol: &Mol) -> Result<usize, Memory> {
     let hits = all_hits(alloc, &graph, mol)?;
     let plain = plain_hits(alloc, &graph, mol)?;
@@ -222,7 +223,8 @@ fn hits_taken<L: Ledger>(
     Ok(hits)
 }
 
-// All hits, each looked for from the place behind the last. There are at most 360 of four atoms among six.
+// All hits, each looked for from the place behind the last. There are at most 360 of four atoms
+// among six.
 fn all_hits(alloc: Global, graph: &Graph, mol: &Mol) -> Result<Vec<Map>, Memory> {
     let mut hits = Vec::new(alloc);
     let mut front = Vec::new(alloc);

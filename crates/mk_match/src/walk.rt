@@ -14,7 +14,8 @@ use crate::table::fits_at;
 use mk_model::{Graph, Memory, Mol};
 use std::alloc::Global;
 
-/// Where a walk stands: the images of the first atoms of the graph, and the number up to which those of the next are passed.
+/// Where a walk stands: the images of the first atoms of the graph, and the number up to which
+/// those of the next are passed.
 #[derive(Debug, Drop)]
 pub struct Walk {
     pub images: Vec<u32>,
@@ -23,7 +24,8 @@ pub struct Walk {
     pub above: u32,
 }
 
-/// What a step comes to: a hit, and then the walk stands behind it; a place further on; or nothing is left.
+/// What a step comes to: a hit, and then the walk stands behind it; a place further on; or nothing
+/// is left.
 #[derive(Clone, Copy, Debug)]
 pub enum Turn {
     Item,
@@ -159,7 +161,8 @@ impl Walk {
         self.may_stand(graph, mol, fits, number)
     }
 
-    // Tells whether the atom may lie where the next of the graph does, is new, and is bonded to the first ones as the graph asks.
+    // Tells whether the atom may lie where the next of the graph does, is new, and is bonded to the
+    // first ones as the graph asks.
     fn may_stand(&self, graph: &Graph, mol: &Mol, fits: &[bool], a: u32) -> bool
         requires table { IsTable graph.now mol.now fits.now }
         requires kept { IsWalk graph.now mol.now self.now.images.items self.now.levels.items self.now.depth self.now.above }
@@ -209,7 +212,8 @@ impl Walk {
     }
 }
 
-// The number that is passed where a front goes through its last place: the one before it, where the front ends there.
+// The number that is passed where a front goes through its last place: the one before it, where the
+// front ends there.
 fn passed(number: u32, ends: bool) -> u32
     ensures { result ≡ (if ends then number - 1 else number) }
 {

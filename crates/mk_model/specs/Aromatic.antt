@@ -1,13 +1,17 @@
--- The aromatic set: the least set of bonds that holds every bond of type 4 and is closed under the rule on six-rings.
---     IsSixCycle bonds atoms cycle      six distinct atoms in a cycle, and the bonds from each to the next
+-- The aromatic set: the least set of bonds that holds every bond of type 4 and is closed under the
+-- rule on six-rings.
+--     IsSixCycle bonds atoms cycle      six distinct atoms in a cycle, and the bonds from each to
+--                                       the next
 --     Takes bonds set b label           the bond is in the set already or has the type of the label
---     IsClosed bonds set                the set holds every bond of type 4, and the six-ring rule adds none
+--     IsClosed bonds set                the set holds every bond of type 4, and the six-ring rule
+--                                       adds none
 --     IsAromatic bonds b                the bond is in each closed set, and so in the least one
 use Rattle.std.specs.Prelude.{◌≡◌, ◌<◌, ◌+◌, ◌%◌, ◌⊎◌, ℕ, Bool, List, IsTrue}
 use Rattle.mk_model.specs.declared.edge.Edge.{Edge}
 use Rattle.mk_model.specs.Edges.{Joins, HasKind}
 
--- six distinct atoms, from 0 to 5, stand in a cycle, and these bonds join each to the next and the last to the first
+-- six distinct atoms, from 0 to 5, stand in a cycle, and these bonds join each to the next and the
+-- last to the first
 pub record IsSixCycle (bonds : List Edge) (atoms : ℕ → ℕ) (cycle : ℕ → ℕ) : Type 0 where
   pub distinct : (i j : ℕ) → i < 6 → j < 6 → atoms i ≡ atoms j → i ≡ j
   pub joined : (i : ℕ) → i < 6 → Joins bonds (cycle i) (atoms i) (atoms ((i + 1) % 6))

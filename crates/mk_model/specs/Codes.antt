@@ -11,8 +11,9 @@ use Rattle.mk_model.specs.declared.template.Slot.TheVariants.{Link, Site}
 use Rattle.mk_model.specs.Queries.{QueryView, slots_of}
 use Rattle.mk_model.specs.Labels.{members_at, member}
 
--- A choice at some slots, one after another: at each the number that is chosen, and then the choice at the slots behind it. At a
--- site that is filled by its k-th member there is also the choice at the slots of that member.
+-- A choice at some slots, one after another: at each the number that is chosen, and then the choice
+-- at the slots behind it. At a site that is filled by its k-th member there is also the choice at
+-- the slots of that member.
 pub data Choice : Type 0 where
   done : Choice
   repeated : ℕ → Choice → Choice
@@ -26,8 +27,8 @@ spelling (repeated n others) = n ∷ spelling others
 spelling (unfilled n others) = n ∷ spelling others
 spelling (filled k inside others) = k ∷ (spelling inside ++ spelling others)
 
--- A choice is one at these slots: a link stands 1 to `most` times; a site is filled by one of its members, or unfilled, which has
--- the number behind theirs.
+-- A choice is one at these slots: a link stands 1 to `most` times; a site is filled by one of its
+-- members, or unfilled, which has the number behind theirs.
 abbrev pub IsChoice : QueryView → List Slot → Choice → Type 0
 IsChoice query [] done = Unit {0}
 IsChoice query [] (repeated n others) = ⊥

@@ -1,4 +1,5 @@
--- Bonds as a list: atoms count from 1, places in the list from 0, and the bond at place b has the number b + 1.
+-- Bonds as a list: atoms count from 1, places in the list from 0, and the bond at place b has the
+-- number b + 1.
 --     HasEnds edge x y          the bond's ends are x and y, in either order
 --     Joins bonds b x y         the bond at place b joins x and y
 --     HasKind bonds b kind      the bond at place b has this type

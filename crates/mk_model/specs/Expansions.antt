@@ -2,7 +2,8 @@
 --     IsExpansion query code graph      the graph is the expansion of the query by the code
 --     expansion query t choice          what template t becomes by a choice at its slots
 --     pieces_of query slots choice      what the slots become
---     joined template pieces            what the template becomes where its slots have become these pieces
+--     joined template pieces            what the template becomes where its slots have become these
+--                                       pieces
 --     drawn template pieces bond        the bonds that a bond of it becomes
 --     bonds_within bonds before slot piece    the bonds within what a slot has become
 --     atoms_of template pieces n        the atoms that its first n atoms become
@@ -37,7 +38,8 @@ bond_between x y kind topology =
 abbrev pub is_inside : TemplateView → QueryBond → Bool
 is_inside template bond = not (taker template bond.first == 0) && (taker template bond.first == taker template bond.second)
 
--- between n copies behind place x and n behind place y: a bond like this one between each two copies of equal number
+-- between n copies behind place x and n behind place y: a bond like this one between each two
+-- copies of equal number
 unfoldable pub copied : QueryBond → ℕ → ℕ → ℕ → List QueryBond
 copied bond x y n = map (λ j. bond_between (x + j) (y + j) bond.kind bond.topology) (numbers_to n)
 
@@ -51,15 +53,16 @@ abbrev pub is_hydrogens : Piece → Bool
 is_hydrogens (Hydrogens n) = true
 is_hydrogens piece = false
 
--- A bond between x and y of two pieces: none where a piece is nothing, a single bond in or out of rings at a hydrogen, else one of
--- the bond's type and topology.
+-- A bond between x and y of two pieces: none where a piece is nothing, a single bond in or out of
+-- rings at a hydrogen, else one of the bond's type and topology.
 abbrev pub spanned : Piece → Piece → QueryBond → ℕ → ℕ → List QueryBond
 spanned p q bond x y =
     if is_nothing p || is_nothing q then []
     else (if is_hydrogens p || is_hydrogens q then bond_between x y 1 0 ∷ []
     else bond_between x y bond.kind bond.topology ∷ [])
 
--- the bonds that a bond of the template becomes: inside a block one for each copy, else one between two pieces
+-- the bonds that a bond of the template becomes: inside a block one for each copy, else one between
+-- two pieces
 unfoldable pub drawn : TemplateView → List Piece → QueryBond → List QueryBond
 drawn template pieces bond =
     if is_inside template bond then
@@ -81,8 +84,9 @@ chained bond x n =
 abbrev pub shifted : ℕ → QueryBond → QueryBond
 shifted by bond = record { first = by + bond.first; second = by + bond.second; kind = bond.kind; topology = bond.topology }
 
--- The bonds within what a slot has become, behind so many atoms: each copy of a link is joined to the next one by a bond like the
--- link's to its neighbour `from`, and the bonds of a member stand as they are.
+-- The bonds within what a slot has become, behind so many atoms: each copy of a link is joined to
+-- the next one by a bond like the link's to its neighbour `from`, and the bonds of a member stand
+-- as they are.
 abbrev pub bonds_within : List QueryBond → ℕ → Slot → Piece → List QueryBond
 bonds_within bonds before (Link atom most from to) (Copies n) = chained (bond_joining bonds atom from) before (n - 1)
 bonds_within bonds before (Site atom group first second) (Member part) = map (shifted before) part.bonds
@@ -99,7 +103,8 @@ all_within template pieces slots ps =
 abbrev pub ends_there : TemplateView → List Piece → ℕ → ℕ → ℕ → ℕ
 ends_there template pieces p site x = if not (x == 0) && (ending template pieces x site == p) then 1 else 0
 
--- how many free ends a slot leaves at place p: a site that has become nothing leaves one at each of its neighbours
+-- how many free ends a slot leaves at place p: a site that has become nothing leaves one at each of
+-- its neighbours
 abbrev pub frees_of : TemplateView → List Piece → ℕ → Slot → Piece → ℕ
 frees_of template pieces p (Site atom group first second) Nothing =
     ends_there template pieces p atom first + ends_there template pieces p atom second
@@ -160,12 +165,14 @@ template_of query t = found (slice_get query.templates t)
     found None = record { atoms = []; bonds = []; slots = []; points = [] }
     found (Some template) = template
 
--- an unfilled site becomes a hydrogen for each of its neighbours where hydrogens are drawn there, else nothing
+-- an unfilled site becomes a hydrogen for each of its neighbours where hydrogens are drawn there,
+-- else nothing
 abbrev pub left_open : QueryView → Slot → Piece
 left_open query site = if draws_rest_hydrogens query site then Hydrogens (neighbour_count site) else Nothing
 
--- What the slots become by a choice, in order: a link copies, an unfilled site hydrogens or nothing, and a filled one what its member
--- becomes by the choice inside. A choice that isn't one at these slots makes nothing.
+-- What the slots become by a choice, in order: a link copies, an unfilled site hydrogens or
+-- nothing, and a filled one what its member becomes by the choice inside. A choice that isn't one
+-- at these slots makes nothing.
 unfoldable pub pieces_of : QueryView → List Slot → Choice → List Piece
 pieces_of query (slot ∷ slots) (repeated n others) = Copies n ∷ pieces_of query slots others
 pieces_of query (Site atom group first second ∷ slots) (unfilled n others) =
@@ -183,8 +190,8 @@ expansion query t choice = joined (template_of query t) (pieces_of query (slots_
 abbrev pub unmarked : GraphBond → QueryBond
 unmarked bond = record { first = bond.first; second = bond.second; kind = bond.kind; topology = bond.topology }
 
--- The graph has the atoms and the bonds that the root becomes by the choice that the code spells, the bonds in order and with the
--- marks of the graph that they are.
+-- The graph has the atoms and the bonds that the root becomes by the choice that the code spells,
+-- the bonds in order and with the marks of the graph that they are.
 pub record IsExpansion (query : QueryView) (code : List ℕ) (graph : GraphView) : Type 0 where
   pub choice : Choice
   pub made : IsChoice query (slots_of query 0) choice

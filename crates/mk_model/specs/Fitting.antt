@@ -1,10 +1,13 @@
 -- Which atom and which bond of a molecule an atom and a bond of a graph may lie on.
 --     passes_at test items n       the item of number n passes the test
 --     count_at edge test bonds n   how many bonds of atom n pass the test
---     hydrogens_at mol m, others_at mol m, rings_at mol m     what is bonded to atom m, and its ring bonds
---     drawn_hydrogens graph x, drawn_others graph x, drawn_rings graph x     the same of atom x of a graph
+--     hydrogens_at mol m, others_at mol m, rings_at mol m     what is bonded to atom m, and its
+--                                                             ring bonds
+--     drawn_hydrogens graph x, drawn_others graph x, drawn_rings graph x     the same of atom x of
+--                                                                            a graph
 --     FitsAtom graph mol x m       atom x of the graph accepts atom m of the molecule
---     LiesOn mol asked a b         a bond of the molecule joins a and b and meets the test of a bond of the graph
+--     LiesOn mol asked a b         a bond of the molecule joins a and b and meets the test of a
+--                                  bond of the graph
 use Rattle.std.specs.Prelude.{◌≡◌, ◌==◌, ◌&&◌, ◌-◌, ℕ, Bool, false, not, List, Option, Some, None, slice_get, count_by, IsTrue}
 use Rattle.std.specs.List.{list_any}
 use Rattle.mk_model.specs.declared.atom_test.Kind.{Kind}

@@ -26,7 +26,8 @@ graph_edge bond = record { first = bond.first; second = bond.second; kind = bond
 abbrev pub graph_edges : List GraphBond → List Edge
 graph_edges bonds = map graph_edge bonds
 
--- a bond of a graph, whose lower end is its first, stands before another: by the lower ends, then by the higher ends
+-- a bond of a graph, whose lower end is its first, stands before another: by the lower ends, then
+-- by the higher ends
 abbrev pub IsBefore : GraphBond → GraphBond → Type 0
 IsBefore bond later = IsEdgeBefore (graph_edge bond) (graph_edge later)
 
@@ -35,8 +36,8 @@ pub record HasGraphMarks (bonds : List Edge) (b : ℕ) (bond : GraphBond) : Type
   pub ring : IsTrue bond.ring ↔ IsRingBond bonds b
   pub aromatic : IsTrue bond.aromatic ↔ IsAromatic bonds b
 
--- The conditions of a graph but for its marks: at most 512 atoms, all tests in range, each bond with its lower end first, the bonds
--- in order, and no pair twice.
+-- The conditions of a graph but for its marks: at most 512 atoms, all tests in range, each bond
+-- with its lower end first, the bonds in order, and no pair twice.
 pub record IsUnmarked (seen : GraphView) : Type 0 where
   pub few : length seen.atoms ≤ 512
   pub tests : All (λ atom. IsTestInRange atom.test) seen.atoms

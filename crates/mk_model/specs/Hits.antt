@@ -1,6 +1,7 @@
 -- The hits of a graph in a molecule.
 --     image hit x               the atom on which atom x of the graph lies
---     IsHit graph mol hit       one atom of the molecule for each atom of the graph, distinct, and every test is met
+--     IsHit graph mol hit       one atom of the molecule for each atom of the graph, distinct, and
+--                               every test is met
 --     AreHits graph mol hits    the rising list of all hits
 use Rattle.std.specs.Prelude.{◌≡◌, ◌≢◌, ◌-◌, ◌≤◌, ℕ, List, length, slice_index, All, AllPairs}
 use Rattle.mk_text.specs.Rising.{IsRisingListOfAll}
@@ -12,8 +13,8 @@ use Rattle.mk_model.specs.Fitting.{FitsAtom, LiesOn}
 abbrev pub image : List ℕ → ℕ → ℕ
 image hit x = slice_index hit (x - 1)
 
--- one atom of the molecule for each atom of the graph, all distinct, every atom test met, and every bond of the graph on a bond
--- that meets its test
+-- one atom of the molecule for each atom of the graph, all distinct, every atom test met, and every
+-- bond of the graph on a bond that meets its test
 pub record IsHit (graph : GraphView) (mol : Molecule) (hit : List ℕ) : Type 0 where
   pub one_each : length hit ≡ length graph.atoms
   pub within : All (λ a. (1 ≤ a) × (a ≤ length mol.atoms)) hit

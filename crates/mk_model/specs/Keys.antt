@@ -1,8 +1,11 @@
 -- The keys of a query: where it is found in the molecules that are held.
---     IsOccurrence query mol numbers    a valid code, and behind it a hit of its expansion in the molecule
---     IsKey Held query key              the number of a held molecule, and behind it an occurrence of the query there
+--     IsOccurrence query mol numbers    a valid code, and behind it a hit of its expansion in the
+--                                       molecule
+--     IsKey Held query key              the number of a held molecule, and behind it an occurrence
+--                                       of the query there
 --     Remains Held query place key      a key that isn't below the place
---     OccurrencesAreReadOneWay          a code, and the hit behind it, stand in an occurrence in one way
+--     OccurrencesAreReadOneWay          a code, and the hit behind it, stand in an occurrence in
+--                                       one way
 --     NoKeyBeginsAnother                no key is a proper prefix of another
 -- `Held n mol` says that the molecule is held under the number n.
 use Rattle.std.specs.Prelude.{◌≡◌, ℕ, List, [], ◌∷◌, ◌++◌, Contains}
@@ -15,7 +18,8 @@ use Rattle.mk_model.specs.Logic.{IsValid}
 use Rattle.mk_model.specs.Molecules.{Molecule}
 use Rattle.mk_model.specs.Queries.{QueryView}
 
--- the numbers are those of a valid code and, behind them, those of a hit of its expansion in the molecule
+-- the numbers are those of a valid code and, behind them, those of a hit of its expansion in the
+-- molecule
 pub record IsOccurrence (query : QueryView) (mol : Molecule) (numbers : List ℕ) : Type 0 where
   pub code : List ℕ
   pub hit : List ℕ

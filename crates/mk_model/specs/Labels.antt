@@ -1,7 +1,10 @@
--- What the label of a site says. All else that is said of labels goes through these words, and a link has none.
---     members_at query slot             the members of a site: the templates that may fill it, in order
+-- What the label of a site says. All else that is said of labels goes through these words, and a
+-- link has none.
+--     members_at query slot             the members of a site: the templates that may fill it, in
+--                                       order
 --     bears_label slot g                the site bears the label of group g
---     draws_rest_hydrogens query slot   hydrogens stand in the place of the site where it isn't filled
+--     draws_rest_hydrogens query slot   hydrogens stand in the place of the site where it isn't
+--                                       filled
 --     member query slot k               the k-th member of a site
 --     is_filled_by query slot k         the number k fills the site
 --     PutsIn query t u                  a site of template t may be filled by template u
@@ -49,7 +52,8 @@ pub record PutsIn (query : QueryView) (t u : ℕ) : Type 0 where
   pub at : Contains (slots_of query t) slot
   pub fills : Contains (members_at query slot) u
 
--- a site of template t may be filled by the first of the templates between, and so on, up to template u
+-- a site of template t may be filled by the first of the templates between, and so on, up to
+-- template u
 abbrev pub IsChain : QueryView → ℕ → List ℕ → ℕ → Type 0
 IsChain query t [] u = PutsIn query t u
 IsChain query t (v ∷ via) u = PutsIn query t v × IsChain query v via u

@@ -1,10 +1,13 @@
 -- The logic of groups: how often each may be filled, and which structural codes are valid.
 --     is_in_range range n         the number is in one of the intervals
---     IsAllowed query sites filled    with so many sites of each group, so many of them may be filled
---     standing_sites query slots choice   the sites that stand in the templates chosen, with their numbers
+--     IsAllowed query sites filled    with so many sites of each group, so many of them may be
+--                                     filled
+--     standing_sites query slots choice   the sites that stand in the templates chosen, with their
+--                                         numbers
 --     sites_of standing g         how many of them bear the label of group g
 --     filled_of query standing g  how many of these are filled
---     IsValid query code          a structural code of the root with which each group is filled as often as it may be
+--     IsValid query code          a structural code of the root with which each group is filled as
+--                                 often as it may be
 use Rattle.std.specs.Prelude.{◌≡◌, ◌≤◌, ◌<◌, ◌-◌, ◌&&◌, ◌⊎◌, nat_le, ℕ, Bool, List, [], ◌∷◌, ◌++◌, Some, count_by, slice_get, IsTrue}
 use Rattle.std.specs.List.{list_any}
 use Rattle.mk_model.specs.declared.group.Group.{Group}
@@ -33,7 +36,8 @@ Names query h g = (group : Group) × IsGroupAt query h group × (group.then_grou
 abbrev pub IsAsked : QueryView → (ℕ → ℕ) → ℕ → Type 0
 IsAsked query filled_in g = ((h : ℕ) → Names query h g → ⊥) ⊎ ((h : ℕ) × Names query h g × (0 < filled_in h))
 
--- where the group of number g has a site and its range is asked for, the number of its filled sites is in that range
+-- where the group of number g has a site and its range is asked for, the number of its filled sites
+-- is in that range
 abbrev pub MeetsRange : QueryView → (ℕ → ℕ) → (ℕ → ℕ) → ℕ → Type 0
 MeetsRange query sites_in filled_in g =
     (group : Group) → IsGroupAt query g group → 0 < sites_in g → IsAsked query filled_in g → IsTrue (is_in_range group.range (filled_in g))
@@ -50,7 +54,8 @@ pub record Standing : Type 0 where
   pub site : Slot
   pub number : ℕ
 
--- the sites that stand in the templates chosen; those of a template that is chosen several times stand each time
+-- the sites that stand in the templates chosen; those of a template that is chosen several times
+-- stand each time
 abbrev pub standing_sites : QueryView → List Slot → Choice → List Standing
 standing_sites query slots done = []
 standing_sites query [] (repeated n others) = []

@@ -34,7 +34,8 @@ pub record HasMarks (bonds : List Edge) (b : ℕ) (bond : MolBond) : Type 0 wher
   pub ring : IsTrue bond.ring ↔ IsRingBond bonds b
   pub aromatic : IsTrue bond.aromatic ↔ IsAromatic bonds b
 
--- the lists are a molecule: the written atoms stand first, elements and ends are in range, and the marks are right
+-- the lists are a molecule: the written atoms stand first, elements and ends are in range, and the
+-- marks are right
 pub record IsMolecule (mol : Molecule) : Type 0 where
   pub written : mol.written ≤ length mol.atoms
   pub few_atoms : length mol.atoms < 2 ^ 32

@@ -1,10 +1,14 @@
--- Nodes: the steps of a search over all choices and all beginnings of maps, as lists in one order with its keys and its places. How
--- many of them lie between two places measures how far a search has come.
+-- Nodes: the steps of a search over all choices and all beginnings of maps, as lists in one order
+-- with its keys and its places. How many of them lie between two places measures how far a search
+-- has come.
 --     BeginsCode query numbers              a structural code of the root begins with the numbers
---     IsPartialHit query mol numbers        a structural code, and behind it distinct atoms of the molecule, no more than its expansion has
---     IsNode Held query node                a held molecule's number alone, or with one of these behind it
+--     IsPartialHit query mol numbers        a structural code, and behind it distinct atoms of the
+--                                           molecule, no more than its expansion has
+--     IsNode Held query node                a held molecule's number alone, or with one of these
+--                                           behind it
 --     Ahead Held query from to count        so many nodes lie above one place and not above another
---     AheadAddsUp                           what lies between a place and a second, and that and a third, adds up
+--     AheadAddsUp                           what lies between a place and a second, and that and a
+--                                           third, adds up
 -- `Held n mol` says that the molecule is held under the number n.
 use Rattle.std.specs.Prelude.{◌≡◌, ◌≢◌, ◌≤◌, ◌+◌, ◌⊎◌, ℕ, List, [], ◌∷◌, ◌++◌, length, All, AllPairs}
 use Rattle.mk_text.specs.Rising.{Holds, IsBelow, Rises}
@@ -20,7 +24,8 @@ pub record BeginsCode (query : QueryView) (numbers : List ℕ) : Type 0 where
   pub more : List ℕ
   pub code : IsCode query 0 (numbers ++ more)
 
--- a structural code of the root, and behind it distinct atoms of the molecule, no more than the expansion has
+-- a structural code of the root, and behind it distinct atoms of the molecule, no more than the
+-- expansion has
 pub record IsPartialHit (query : QueryView) (mol : Molecule) (numbers : List ℕ) : Type 0 where
   pub code : List ℕ
   pub atoms : List ℕ
@@ -52,7 +57,8 @@ pub record Ahead (Held : ℕ → Molecule → Type 0) (query : QueryView) (from 
 
 -- ---- law
 
--- what lies between a place and a second that isn't below it, and between that and a third, lies between the first and the third
+-- what lies between a place and a second that isn't below it, and between that and a third, lies
+-- between the first and the third
 abbrev pub AheadAddsUp : Type 0
 AheadAddsUp =
     (molecules : List (ℕ × Molecule)) (query : QueryView) (from through to : List ℕ) (j k : ℕ)

@@ -1,5 +1,6 @@
--- For the code: structural codes from the left, one number after another. What is still to be chosen is the list of slots that are
--- open: a number at the first of them may open the slots of a member, which then stand in front.
+-- For the code: structural codes from the left, one number after another. What is still to be
+-- chosen is the list of slots that are open: a number at the first of them may open the slots of a
+-- member, which then stand in front.
 --     most_at query slot          the greatest number at a slot
 --     opened query slot k         the slots that a number opens there
 --     Chooses query slots code    the numbers choose at these slots, and none is left open

@@ -1,6 +1,8 @@
 -- Pieces: what the slots of a template become by a choice, and where its atoms then stand.
---     Fragment                      what a template becomes: atoms, bonds, and the atoms with its attachment points
---     Piece                         what a slot becomes: copies, a member's fragment, hydrogens, or nothing
+--     Fragment                      what a template becomes: atoms, bonds, and the atoms with its
+--                                   attachment points
+--     Piece                         what a slot becomes: copies, a member's fragment, hydrogens, or
+--                                   nothing
 -- For a template whose slots have become these pieces, in order:
 --     taker template x              the number of the slot that takes atom x
 --     piece template pieces x       what atom x becomes
@@ -15,14 +17,15 @@ use Rattle.mk_model.specs.declared.template.Slot.TheVariants.{Link, Site}
 use Rattle.mk_model.specs.Templates.{TemplateView}
 use Rattle.mk_model.specs.Sizes.{takes_atom}
 
--- what a template becomes: its atoms, its bonds in any order, and the atoms with attachment point 1 and 2
+-- what a template becomes: its atoms, its bonds in any order, and the atoms with attachment point 1
+-- and 2
 pub record Fragment : Type 0 where
   pub atoms : List GraphAtom
   pub bonds : List QueryBond
   pub points : List ℕ
 
--- A slot becomes so many copies of each atom that it takes, where it is a link; the fragment of the member that fills it; so many
--- hydrogens; or nothing.
+-- A slot becomes so many copies of each atom that it takes, where it is a link; the fragment of the
+-- member that fills it; so many hydrogens; or nothing.
 pub data Piece : Type 0 where
   Copies : ℕ → Piece
   Member : Fragment → Piece
@@ -35,14 +38,16 @@ numbers_to n = range_with_len 1 n
 
 -- ---- what an atom becomes
 
--- the number of the first of these slots that takes atom x, where they are numbered from k on; 0 where none does
+-- the number of the first of these slots that takes atom x, where they are numbered from k on; 0
+-- where none does
 abbrev pub taker_from : TemplateView → ℕ → List Slot → ℕ → ℕ
 taker_from template k [] x = 0
 taker_from template k (slot ∷ slots) x =
     let later = taker_from template (k + 1) slots x in
     if takes_atom template x slot then k else later
 
--- the number of the slot that takes atom x: the one at it, or the link in whose block it is; 0 where it is fixed
+-- the number of the slot that takes atom x: the one at it, or the link in whose block it is; 0
+-- where it is fixed
 unfoldable pub taker : TemplateView → ℕ → ℕ
 taker template x = taker_from template 1 template.slots x
 
@@ -72,7 +77,8 @@ before template pieces x = room template pieces (x - 1)
 
 -- ---- where a bond ends
 
--- the slot stands at x, and y is its second neighbour: the bond between them is at the far end of the slot
+-- the slot stands at x, and y is its second neighbour: the bond between them is at the far end of
+-- the slot
 abbrev pub is_far : Slot → ℕ → ℕ → Bool
 is_far (Link atom most from to) x y = (atom == x) && (to == y)
 is_far (Site atom group first second) x y = (atom == x) && (second == y)
@@ -86,8 +92,8 @@ is_far_of slots (suc k) x y = far (slice_get slots k)
     far None = false
     far (Some slot) = is_far slot x y
 
--- The near or the far end of a piece: the first or the last copy, the member's atom with attachment point 1 or 2, the first or
--- the second hydrogen.
+-- The near or the far end of a piece: the first or the last copy, the member's atom with attachment
+-- point 1 or 2, the first or the second hydrogen.
 abbrev pub end_of : Piece → Bool → ℕ
 end_of (Copies n) far = if far then n else 1
 end_of (Member part) far = slice_index part.points (if far then 1 else 0)

@@ -1,4 +1,5 @@
--- The plain program on codes: all codes, by walking through what can be chosen. Searches and examples are held to it.
+-- The plain program on codes: all codes, by walking through what can be chosen. Searches and
+-- examples are held to it.
 --     codes_of n query slots      the codes of at most n numbers at these slots, in order
 --     valid_codes query           those of the root that are valid
 --     ValidCodesAreListed         they are the rising list of all valid codes
@@ -16,8 +17,8 @@ use Rattle.mk_model.specs.OpenSlots.{most_at, opened, standing_by}
 abbrev pub singles : ℕ → ℕ → List (List ℕ)
 singles a n = map (λ k. k ∷ []) (range_with_len a n)
 
--- the codes of at most n numbers at these slots, in order: a number at the first slot, and behind it each code at the slots that
--- are open then
+-- the codes of at most n numbers at these slots, in order: a number at the first slot, and behind
+-- it each code at the slots that are open then
 abbrev pub codes_of : ℕ → QueryView → List Slot → List (List ℕ)
 codes_of n query [] = [] ∷ []
 codes_of zero query (slot ∷ slots) = []

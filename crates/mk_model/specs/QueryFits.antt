@@ -1,4 +1,5 @@
--- What every `Query` keeps in its type: twelve facts, in the order of docs/MEANING.md, "Generic queries".
+-- What every `Query` keeps in its type: twelve facts, in the order of docs/MEANING.md, "Generic
+-- queries".
 --     AreInRange query          1. tests, ends, slots, points and members are in range
 --     HasPairsOnce template     2. bonds have two ends, and no pair stands twice
 --     HasRisingSlots template   3. slots stand by rising atom
@@ -58,7 +59,8 @@ IsSlotOf template (Link atom most from to) = IsAtomOf template atom × IsLink te
 IsSlotOf template (Site atom group first second) =
     IsAtomOf template atom × ((g : ℕ) → IsTrue (bears_label (Site atom group first second) g) → (1 ≤ g) × (g ≤ 32))
 
--- the numbers of a template's tests, ends, slots and points are in range, and it has none, one or two points
+-- the numbers of a template's tests, ends, slots and points are in range, and it has none, one or
+-- two points
 pub record IsInRange (template : TemplateView) : Type 0 where
   pub tests : All IsTestInRange template.atoms
   pub bond_tests : All (λ bond. IsBondInRange bond.kind bond.topology) template.bonds
@@ -116,7 +118,8 @@ HasSitesApart template = (slot other : Slot) → Contains template.slots slot �
 abbrev pub IsMarked : TemplateView → ℕ → Type 0
 IsMarked template x = Contains template.points x ⊎ ((slot : Slot) × Contains template.slots slot × (slot_atom slot ≡ x))
 
--- a link's block holds neither of the two neighbours that it names, no other slot, and no attachment point
+-- a link's block holds neither of the two neighbours that it names, no other slot, and no
+-- attachment point
 abbrev pub IsClosed : TemplateView → Slot → Type 0
 IsClosed template (Link atom most from to) =
     (x : ℕ) → IsTrue (is_in_block template (Link atom most from to) x)

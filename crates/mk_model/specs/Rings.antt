@@ -1,6 +1,7 @@
 -- Ring bonds: those whose ends are joined by a path of other bonds.
 --     Step                              over a bond, to an atom
---     IsWay bonds without x steps y     the steps lead from x to y, none of them over the bond `without`
+--     IsWay bonds without x steps y     the steps lead from x to y, none of them over the bond
+--                                       `without`
 --     IsRingBond bonds b                the ends of bond b are joined by a way that doesn't use it
 use Rattle.std.specs.Prelude.{◌≡◌, ◌≢◌, ℕ, List, [], ◌∷◌, Some, slice_get}
 use Rattle.mk_model.specs.declared.edge.Edge.{Edge}

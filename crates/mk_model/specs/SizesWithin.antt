@@ -1,5 +1,7 @@
--- For code alone: the sizes of templates, where the chains of sites and members are no longer than a number.
---     size_if query size template     the size of a template, where there is one, by the sizes of others
+-- For code alone: the sizes of templates, where the chains of sites and members are no longer than
+-- a number.
+--     size_if query size template     the size of a template, where there is one, by the sizes of
+--                                     others
 --     size_within n query t           the size of template t, where no chain is longer than n
 use Rattle.std.specs.Prelude.{ℕ, zero, suc, Option, Some, None, slice_get}
 use Rattle.mk_model.specs.Templates.{TemplateView}

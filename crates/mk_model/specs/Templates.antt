@@ -12,7 +12,8 @@ use Rattle.mk_model.specs.declared.template.QueryBond.{QueryBond}
 use Rattle.mk_model.specs.declared.template.Slot.{Slot}
 use Rattle.mk_model.specs.declared.template.Slot.TheVariants.{Link, Site}
 
--- what is seen of a `Template`: its atoms, its bonds, its slots, and the atoms with attachment point 1 and 2
+-- what is seen of a `Template`: its atoms, its bonds, its slots, and the atoms with attachment
+-- point 1 and 2
 pub record TemplateView : Type 0 where
   pub atoms : List AtomTest
   pub bonds : List QueryBond
@@ -43,8 +44,9 @@ joins x y bond = ((bond.first == x) && (bond.second == y)) || ((bond.first == y)
 
 -- ---- blocks
 
--- Atoms x and y hang together by some bonds: by none where they are one atom, and with one bond more either without it or by way
--- of it. This is the least relation that holds of the ends of each bond, goes both ways and goes on.
+-- Atoms x and y hang together by some bonds: by none where they are one atom, and with one bond
+-- more either without it or by way of it. This is the least relation that holds of the ends of each
+-- bond, goes both ways and goes on.
 unfoldable pub hang_together : List QueryBond → ℕ → ℕ → Bool
 hang_together [] x y = x == y
 hang_together (bond ∷ bonds) x y =
@@ -57,8 +59,8 @@ abbrev pub bonds_without : Slot → List QueryBond → List QueryBond
 bonds_without (Link atom most from to) bonds = filter (λ bond. not (joins atom from bond || joins atom to bond)) bonds
 bonds_without (Site atom group first second) bonds = bonds
 
--- Atom x belongs to the block of a link: what hangs together with it once its bonds to those two neighbours are taken away.
--- A site has no block.
+-- Atom x belongs to the block of a link: what hangs together with it once its bonds to those two
+-- neighbours are taken away. A site has no block.
 abbrev pub is_in_block : TemplateView → Slot → ℕ → Bool
 is_in_block template (Link atom most from to) x = hang_together (bonds_without (Link atom most from to) template.bonds) atom x
 is_in_block template (Site atom group first second) x = false

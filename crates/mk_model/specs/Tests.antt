@@ -31,7 +31,8 @@ IsKindInRange NotHydrogen = Unit {0}
 IsKindInRange Hetero = Unit {0}
 IsKindInRange Anything = Unit {0}
 
--- charge -15 to 15, radical 0 to 3, hydrogens 0 to 5, ring bonds -2, -1, 0, 2, 3 or 4, substitution -2 to 6
+-- charge -15 to 15, radical 0 to 3, hydrogens 0 to 5, ring bonds -2, -1, 0, 2, 3 or 4, substitution
+-- -2 to 6
 pub record IsTestInRange (test : AtomTest) : Type 0 where
   pub kind : IsKindInRange test.kind
   pub charge : (negsuc 14 ≤ℤ test.charge) × (test.charge ≤ℤ pos 15)
@@ -48,7 +49,8 @@ pub record IsBondInRange (k t : ℕ) : Type 0 where
 
 -- ---- an atom
 
--- one element, one of a list, none of a list and no hydrogen, any but hydrogen, any but carbon and hydrogen, any
+-- one element, one of a list, none of a list and no hydrogen, any but hydrogen, any but carbon and
+-- hydrogen, any
 abbrev pub accepts : Kind → ℕ → Bool
 accepts (Element z) element = z == element
 accepts (OneOf list) element = list_any (λ z. z == element) list
@@ -65,20 +67,21 @@ charge_fits asked charge = int_eq asked (pos 0) || int_eq asked charge
 abbrev pub radical_fits : ℕ → ℕ → Bool
 radical_fits asked radical = (asked == 0) || (asked == radical)
 
--- Where so many hydrogens are drawn and so many ends are free: column 0 asks for nothing, 1 for the drawn ones and at most
--- one for each free end more, n + 1 for at least n more than are drawn.
+-- Where so many hydrogens are drawn and so many ends are free: column 0 asks for nothing, 1 for the
+-- drawn ones and at most one for each free end more, n + 1 for at least n more than are drawn.
 abbrev pub hydrogens_fit : ℕ → ℕ → ℕ → ℕ → Bool
 hydrogens_fit column drawn free count =
     if column == 0 then true
     else (if column == 1 then nat_le drawn count && nat_le count (drawn + free) else nat_le (drawn + (column - 1)) count)
 
--- 0 asks for nothing, -1 for no ring bond, -2 for as many as are drawn, 2 or 3 for so many, 4 for four or more
+-- 0 asks for nothing, -1 for no ring bond, -2 for as many as are drawn, 2 or 3 for so many, 4 for
+-- four or more
 abbrev pub ring_bonds_fit : ℤ → ℕ → ℕ → Bool
 ring_bonds_fit (pos n) drawn count = if n == 0 then true else (if n == 4 then nat_le 4 count else count == n)
 ring_bonds_fit (negsuc n) drawn count = if n == 0 then count == 0 else count == drawn
 
--- 0 asks for nothing, -1 for no neighbour but hydrogens, -2 for those drawn and at most one for each free end more, 1 to 5
--- for so many, 6 for six or more
+-- 0 asks for nothing, -1 for no neighbour but hydrogens, -2 for those drawn and at most one for
+-- each free end more, 1 to 5 for so many, 6 for six or more
 abbrev pub substitution_fits : ℤ → ℕ → ℕ → ℕ → Bool
 substitution_fits (pos n) drawn free count = if n == 0 then true else (if n == 6 then nat_le 6 count else count == n)
 substitution_fits (negsuc n) drawn free count = if n == 0 then count == 0 else nat_le drawn count && nat_le count (drawn + free)
@@ -101,11 +104,13 @@ is_single bond = (bond.kind == 1) && not bond.aromatic
 abbrev pub is_double : MolBond → Bool
 is_double bond = (bond.kind == 2) && not bond.aromatic
 
--- the type that a bond of a graph asks for: one of type 1, 2 or 4 in the graph's aromatic set asks for an aromatic bond
+-- the type that a bond of a graph asks for: one of type 1, 2 or 4 in the graph's aromatic set asks
+-- for an aromatic bond
 abbrev pub asked_kind : GraphBond → ℕ
 asked_kind asked = if asked.aromatic && ((asked.kind == 1) || (asked.kind == 2)) then 4 else asked.kind
 
--- 1 single, 2 double, 3 triple, 4 aromatic, 5 single or double, 6 single or aromatic, 7 double or aromatic, 8 any
+-- 1 single, 2 double, 3 triple, 4 aromatic, 5 single or double, 6 single or aromatic, 7 double or
+-- aromatic, 8 any
 abbrev pub takes_kind : ℕ → MolBond → Bool
 takes_kind kind bond =
     if kind == 1 then is_single bond

@@ -26,7 +26,8 @@ impl Edge {
         self.has_ends(other.first, other.second)
     }
 
-    /// Tells whether the bond stands before another: its first end is lower, or the same and its second end lower.
+    /// Tells whether the bond stands before another: its first end is lower, or the same and its
+    /// second end lower.
     pub fn is_before(self, other: Edge) -> bool
         ensures { IsTrue result ↔ IsEdgeBefore self other }
     {

@@ -16,7 +16,8 @@ pub struct GraphAtom {
     pub free: u32,
 }
 
-/// A bond of a graph with its type and topology, and whether it is a ring bond and in the aromatic set of the graph.
+/// A bond of a graph with its type and topology, and whether it is a ring bond and in the aromatic
+/// set of the graph.
 #[derive(Clone, Copy, Debug, PartialEq, Eq)]
 pub struct GraphBond {
     pub first: u32,
@@ -42,7 +43,8 @@ impl GraphBond {
     }
 }
 
-/// What is looked for in a molecule: atoms with their tests, and bonds. Atoms and bonds count from 1.
+/// What is looked for in a molecule: atoms with their tests, and bonds. Atoms and bonds count from
+/// 1.
 #[derive(Debug, Drop)]
 pub struct Graph {
     atoms: Vec<GraphAtom>,

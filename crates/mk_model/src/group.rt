@@ -13,7 +13,8 @@ pub struct Interval {
     pub most: u32,
 }
 
-/// How often a group may be filled: as often as one of the intervals says. Up to four need no memory of their own.
+/// How often a group may be filled: as often as one of the intervals says. Up to four need no
+/// memory of their own.
 #[derive(Debug, Drop)]
 pub struct Range {
     items: SmallVec<Interval, 4>,
@@ -53,7 +54,8 @@ impl Range {
     }
 }
 
-/// A group: the numbers of its templates, the group that it asks for, and how often it may be filled.
+/// A group: the numbers of its templates, the group that it asks for, and how often it may be
+/// filled.
 #[derive(Debug, Drop)]
 pub struct Group {
     pub members: Numbers,

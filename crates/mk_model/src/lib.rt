@@ -4,10 +4,10 @@
 //! it one (`IsMolecule` in `specs/Molecules.antt`, `IsGraph` in `specs/Graphs.antt`, `QueryFits` in
 //! `specs/QueryFits.antt`), and its readers give its parts exactly.
 //!
-//! Ring bonds are defined in `specs/Rings.antt`, the aromatic set in `specs/Aromatic.antt`, codes and
-//! valid codes in `specs/Codes.antt` and `specs/Logic.antt`, what a query becomes by a code in
-//! `specs/Expansions.antt`, hits in `specs/Hits.antt`, and keys in `specs/Keys.antt`. `Steps` counts
-//! calls in proofs and takes no bytes.
+//! Ring bonds are defined in `specs/Rings.antt`, the aromatic set in `specs/Aromatic.antt`, codes
+//! and valid codes in `specs/Codes.antt` and `specs/Logic.antt`, what a query becomes by a code in
+//! `specs/Expansions.antt`, hits in `specs/Hits.antt`, and keys in `specs/Keys.antt`. `Steps`
+//! counts calls in proofs and takes no bytes.
 //!
 //! How the marks of bonds are found is left to mk_rings, and how a table becomes a molecule or a
 //! query to the crates above.

@@ -41,7 +41,8 @@ impl MolBond {
     }
 }
 
-/// A molecule: the written atoms first, then those that were added, and the bonds. Atoms and bonds count from 1.
+/// A molecule: the written atoms first, then those that were added, and the bonds. Atoms and bonds
+/// count from 1.
 #[derive(Debug, Drop)]
 pub struct Mol {
     atoms: Vec<Atom>,

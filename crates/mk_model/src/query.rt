@@ -51,7 +51,8 @@ impl Query {
     }
 }
 
-/// How many sites of a group stand in the templates that a code chooses, and how many of them are filled.
+/// How many sites of a group stand in the templates that a code chooses, and how many of them are
+/// filled.
 #[derive(Clone, Copy, Debug, PartialEq, Eq)]
 pub struct Count {
     pub sites: u32,

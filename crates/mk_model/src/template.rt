@@ -5,8 +5,8 @@ use crate::atom_test::AtomTest;
 use mk_text::Numbers;
 use std::marker::Model;
 
-/// A bond of a query: 1 to 4 the types, 5 single or double, 6 single or aromatic, 7 double or aromatic, 8 any; topology 0
-/// either, 1 a ring bond, 2 another.
+/// A bond of a query: 1 to 4 the types, 5 single or double, 6 single or aromatic, 7 double or
+/// aromatic, 8 any; topology 0 either, 1 a ring bond, 2 another.
 #[derive(Clone, Copy, Debug, PartialEq, Eq)]
 pub struct QueryBond {
     pub first: u32,
@@ -18,7 +18,8 @@ pub struct QueryBond {
 /// An atom of a template at which a code chooses.
 #[derive(Clone, Copy, Debug, PartialEq, Eq)]
 pub enum Slot {
-    /// An atom that stands 1 to `most` times: its bond to `from` is at the first copy, that to `to` at the last.
+    /// An atom that stands 1 to `most` times: its bond to `from` is at the first copy, that to `to`
+    /// at the last.
     Link {
         atom: u32,
         most: u32,
@@ -34,7 +35,8 @@ pub enum Slot {
     },
 }
 
-/// A table of a query: its atoms, bonds and slots, and the atoms by which it is joined on. Atoms and bonds count from 1.
+/// A table of a query: its atoms, bonds and slots, and the atoms by which it is joined on. Atoms
+/// and bonds count from 1.
 #[derive(Debug, Drop)]
 pub struct Template {
     atoms: Vec<AtomTest>,

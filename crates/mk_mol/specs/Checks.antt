@@ -1,5 +1,5 @@
--- What the checks demand of a molecule's table alone, item by item. What is demanded of any table's bonds and values stands in
--- mk_ctab.
+-- What the checks demand of a molecule's table alone, item by item. What is demanded of any table's
+-- bonds and values stands in mk_ctab.
 --     IsKnownAtom atom                 an element's symbol, and columns that mean something
 --     HasKnownType bond                type 1 to 4
 --     IsOfMolecules property           a property that a molecule may have
@@ -16,7 +16,8 @@ pub record IsNamed (symbol : List ℕ) : Type 0 where
   pub element : ℕ
   pub names : Names symbol element
 
--- the symbol is an element's, `D` or `T`, the charge column is 0 to 7, and the valence column 0 to 15
+-- the symbol is an element's, `D` or `T`, the charge column is 0 to 7, and the valence column 0 to
+-- 15
 pub record IsKnownAtom (atom : RawAtom) : Type 0 where
   pub symbol : IsNamed atom.symbol
   pub charge : IsWithin (pos 0) (pos 7) atom.charge

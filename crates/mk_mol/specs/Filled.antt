@@ -46,7 +46,8 @@ pub record AreGains (table : RawTable) (atoms : List Atom) (gains : List ℕ) : 
 abbrev pub hydrogen : Atom
 hydrogen = record { element = 1; charge = pos 0; radical = 0 }
 
--- for each hydrogen that is added, in order, the atom that gains it, where the atoms from n on gain these numbers
+-- for each hydrogen that is added, in order, the atom that gains it, where the atoms from n on gain
+-- these numbers
 abbrev pub owners : ℕ → List ℕ → List ℕ
 owners n [] = []
 owners n (gained ∷ gains) = replicate gained n ++ owners (n + 1) gains
@@ -56,9 +57,10 @@ abbrev pub hydrogen_bonds : ℕ → List ℕ → List Edge
 hydrogen_bonds n [] = []
 hydrogen_bonds n (owner ∷ others) = record { first = owner; second = n; kind = 1 } ∷ hydrogen_bonds (n + 1) others
 
--- The written atoms in order, and the added hydrogens by rising atom. The written bonds in order with their ends as written,
--- and a bond of type 1 for each added hydrogen, from its atom to it. Which bonds are ring bonds or aromatic is said by
--- `IsMolecule` of mk_model, which every molecule keeps.
+-- The written atoms in order, and the added hydrogens by rising atom. The written bonds in order
+-- with their ends as written, and a bond of type 1 for each added hydrogen, from its atom to it.
+-- Which bonds are ring bonds or aromatic is said by `IsMolecule` of mk_model, which every molecule
+-- keeps.
 pub record IsFilled (table : RawTable) (mol : Molecule) : Type 0 where
   pub atoms : List Atom
   pub gains : List ℕ

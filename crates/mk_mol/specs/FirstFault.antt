@@ -2,7 +2,8 @@
 --     Check                            the seven checks; `number` gives their numbers
 --     Demands table check item         what a check demands of the item of a number
 --     PassesAll table                  every check passes at every item
---     IsFirstFault table n item        the first check that fails is the n-th, and this is its least item
+--     IsFirstFault table n item        the first check that fails is the n-th, and this is its
+--                                      least item
 use Rattle.std.specs.Prelude.{◌≡◌, ◌<◌, ℕ, [], length}
 use Rattle.mk_text.specs.Items.{IsLeastFailing, OfItem}
 use Rattle.mk_ctab.specs.declared.raw.RawTable.{RawTable}
@@ -10,8 +11,8 @@ use Rattle.mk_ctab.specs.Bonds.{edges_of, HasFewBonds, IsNewBondAt}
 use Rattle.mk_ctab.specs.Values.{HasKnownValues, NamesAtoms}
 use Rattle.mk_mol.specs.Checks.{IsKnownAtom, HasKnownType, IsOfMolecules}
 
--- Symbols and columns of atoms; ends of bonds; types of bonds; how many bonds an atom has; the atoms, the values and the kinds
--- of properties.
+-- Symbols and columns of atoms; ends of bonds; types of bonds; how many bonds an atom has; the
+-- atoms, the values and the kinds of properties.
 pub data Check : Type 0 where
   known_atoms : Check
   new_bonds : Check
@@ -31,8 +32,8 @@ number named_atoms = 5
 number known_values = 6
 number known_properties = 7
 
--- What a check demands of the item of a number, which is an atom, a bond or a property. The atom lists together are item 0
--- of the last check. An item that isn't there is right.
+-- What a check demands of the item of a number, which is an atom, a bond or a property. The atom
+-- lists together are item 0 of the last check. An item that isn't there is right.
 abbrev pub Demands : RawTable → Check → ℕ → Type 0
 Demands table known_atoms item = OfItem IsKnownAtom table.atoms item
 Demands table new_bonds item = IsNewBondAt (length table.atoms) table.bonds item

@@ -18,10 +18,12 @@ OneFirstFault = (table : RawTable) (n item m other : ℕ) → IsFirstFault table
 abbrev pub NoFaultWhereAllPass : Type 0
 NoFaultWhereAllPass = (table : RawTable) (n item : ℕ) → PassesAll table → ¬ (IsFirstFault table n item)
 
--- two molecules that are a table's, filled, are one: the marks of the bonds are those of the definitions
+-- two molecules that are a table's, filled, are one: the marks of the bonds are those of the
+-- definitions
 abbrev pub OneFilledMolecule : Type 0
 OneFilledMolecule = (table : RawTable) (a b : Molecule) → IsMolecule a → IsMolecule b → IsFilled table a → IsFilled table b → a ≡ b
 
--- no symbol of a table whose atoms are known ends with CR, and among known properties is no `M  ALS` and no `M  LOG`
+-- no symbol of a table whose atoms are known ends with CR, and among known properties is no
+-- `M  ALS` and no `M  LOG`
 abbrev pub PassingTablesKeepTheirText : Type 0
 PassingTablesKeepTheirText = (table : RawTable) → Passes table known_atoms → Passes table known_properties → KeepsItsText table × HoldNoTexts table.props

@@ -7,8 +7,8 @@ use thiserror::Error;
 
 #[derive(Clone, Copy, Debug, PartialEq, Eq, Error)]
 pub enum PrepareFault {
-    /// The first of the checks V1 to V7 that fails, and the least atom, bond or property at which it does. Item 0 of V7 is
-    /// an atom list.
+    /// The first of the checks V1 to V7 that fails, and the least atom, bond or property at which
+    /// it does. Item 0 of V7 is an atom list.
     #[error("check V{check} fails at item {item}")]
     Check { check: u8, item: u32 },
     /// There is no memory for the molecule.

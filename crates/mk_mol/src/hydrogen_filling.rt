@@ -97,7 +97,8 @@ fn put_kinds(kinds: &mut [u8], edges: &[Edge], numbers: &[u32])
     }
 }
 
-/// Adds the hydrogens of all written atoms, and a bond for each. All memory for them is taken first.
+/// Adds the hydrogens of all written atoms, and a bond for each. All memory for them is taken
+/// first.
 pub fn add_hydrogens(
     atoms: &mut Vec<Atom>,
     edges: &mut Vec<Edge>,

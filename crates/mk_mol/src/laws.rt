@@ -1,4 +1,5 @@
-// Laws over the definitions alone, each carried by a function that does nothing but cite the laws that it rests on.
+// Laws over the definitions alone, each carried by a function that does nothing but cite the laws
+// that it rests on.
 ghost use Rattle.mk_mol.specs.Laws.{NoFaultWhereAllPass, OneFilledMolecule, OneFirstFault, PassingTablesKeepTheirText};
 
 use mk_rings::marks_determine_bonds;
@@ -16,8 +17,8 @@ pub fn one_filled_molecule()
     marks_determine_bonds();
 }
 
-/// A table that passes the checks on atoms and on properties keeps its text: no symbol ends with CR, and there is neither an
-/// `M  ALS` nor an `M  LOG`.
+/// A table that passes the checks on atoms and on properties keeps its text: no symbol ends with
+/// CR, and there is neither an `M  ALS` nor an `M  LOG`.
 pub fn passing_table_keeps_its_text()
     ensures { PassingTablesKeepTheirText }
 {}

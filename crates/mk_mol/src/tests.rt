@@ -1,5 +1,5 @@
-// Tables with the first check that they fail, or with their filled molecules. The shorthand is that of docs/TESTING.md,
-// "Tables of tests".
+// Tables with the first check that they fail, or with their filled molecules. The shorthand is that
+// of docs/TESTING.md, "Tables of tests".
 use crate::{PrepareFault, prepare};
 use mk_ctab::{TableFault, read_table};
 use mk_fixtures::{mol_of_sketch, table_of_sketch};
@@ -110,7 +110,8 @@ fn is_refused(alloc: Global, text: &[u8], check: u8, item: u32) -> Result<bool, 
     }
 }
 
-// The sketch, how many of its atoms were written, its filled molecule, and the atoms with a charge or a radical, and these.
+// The sketch, how many of its atoms were written, its filled molecule, and the atoms with a charge
+// or a radical, and these.
 static FILLED: [(&str, &str, u32, &str, &[(usize, i8, u8)]); 7] = [
     ("nothing", "|", 0, "|", &[]),
     (

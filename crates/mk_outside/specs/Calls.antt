@@ -6,7 +6,8 @@ use Rattle.std.specs.Prelude.{ℕ, ◌==◌, Bool, true, false, List}
 use Rattle.std.specs.List.{list_any}
 use Rattle.mk_outside.specs.Counts.{one_more}
 
--- the numbers of the calls that fail, counted from 1, how many calls were made, and how many of them failed
+-- the numbers of the calls that fail, counted from 1, how many calls were made, and how many of
+-- them failed
 pub record CallState : Type 0 where
   pub failing : List ℕ
   pub made : ℕ

@@ -2,7 +2,8 @@
 --     put number row rows        the rows after a row was put
 --     without number n rows      the rows of another number
 -- What follows serves code alone:
---     place_of, place_above      how many rows stand before the first of a number, and before the first of a greater one
+--     place_of, place_above      how many rows stand before the first of a number, and before the
+--                                first of a greater one
 --     greatest number rows       the greatest number of a row
 --     IsWithin number rows       no number is above the bound that stands beside the rows
 use Rattle.std.specs.Prelude.{ℕ, ◌+◌, ◌≤◌, nat_eq, nat_lt, max, not, if◌then◌else◌, List, [], ◌∷◌, filter}
@@ -20,7 +21,8 @@ module _ {R : Type 0} (number : R → ℕ) where
   in_order row [] = row ∷ []
   in_order row (x ∷ rows) = if nat_lt (number row) (number x) then row ∷ x ∷ rows else x ∷ in_order row rows
 
-  -- the row replaces the first of its number, or where there is none stands before the first of a greater number
+  -- the row replaces the first of its number, or where there is none stands before the first of a
+  -- greater number
   unfoldable pub put : R → List R → List R
   put row rows = if list_any (λ x. nat_eq (number x) (number row)) rows then in_place row rows else in_order row rows
 

@@ -35,7 +35,8 @@ cursor_number row = row.number
 unfoldable pub without_name : List ℕ → List QueryRow → List QueryRow
 without_name name rows = filter (λ (row : QueryRow). not (bytes_eq row.name name)) rows
 
--- A record or a cursor that is put raises the next number above its own. A row that isn't there can be dropped.
+-- A record or a cursor that is put raises the next number above its own. A row that isn't there can
+-- be dropped.
 abbrev pub after_change : Change → Tables → Tables
 after_change (PutRecord number text) t = record t {
   records = put record_number (record { number = number; text = text }) t.records;
@@ -56,7 +57,8 @@ abbrev pub after_batch : List Change → Tables → Tables
 after_batch [] t = t
 after_batch (change ∷ batch) t = after_batch batch (after_change change t)
 
--- what a keeper can be asked to keep: names are ASCII, and behind a number there is room for the next
+-- what a keeper can be asked to keep: names are ASCII, and behind a number there is room for the
+-- next
 abbrev pub CanKeep : Change → Type 0
 CanKeep (PutRecord number text) = number ≤ 999999999
 CanKeep (DropRecord number) = ⊤

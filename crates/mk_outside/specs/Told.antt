@@ -1,9 +1,11 @@
 -- What is told of bytes, and what calls do to it.
 --     Puts old new piece result           what `put` makes of the bytes so far
 --     Reads found most out result         what `read` answers on a name under which this is found
---     Fills most out result               what is in the buffer after `read`, whether the files are told or not
+--     Fills most out result               what is in the buffer after `read`, whether the files are
+--                                         told or not
 --     committed batch t result            the tables after `commit`
--- What `read` of a source does stands in std's words (`ReadConsumes`), which the readers of std have too.
+-- What `read` of a source does stands in std's words (`ReadConsumes`), which the readers of std
+-- have too.
 use Rattle.std.specs.Prelude.{◌≡◌, ℕ, ◌<◌, ◌≤◌, List, [], ◌++◌, length, Option, Some, None, Result, Ok, Err, ⊤, Bool, true, false}
 use Rattle.mk_outside.specs.declared.answers.PutFail.{PutFail}
 use Rattle.mk_outside.specs.declared.answers.PutFail.TheVariants as put
@@ -41,8 +43,8 @@ is_failed_put (Err put.Memory) = false
 
 -- ---- files
 
--- a file that is there is read whole, or found too long exactly where it has more bytes than asked for; one that isn't
--- there is never read
+-- a file that is there is read whole, or found too long exactly where it has more bytes than asked
+-- for; one that isn't there is never read
 abbrev pub Reads : Option (List ℕ) → ℕ → List ℕ → Result ReadEnd FileFail → Type 0
 Reads (Some bytes) most out (Ok Whole) = (out ≡ bytes) × (length bytes ≤ most)
 Reads (Some bytes) most out (Ok TooLong) = most < length bytes

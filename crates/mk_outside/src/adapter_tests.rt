@@ -1,5 +1,5 @@
-// The adapters over a reader and a writer that give and take one byte a call and fail at given calls, and over the real
-// ones.
+// The adapters over a reader and a writer that give and take one byte a call and fail at given
+// calls, and over the real ones.
 use crate::streams::{put_whole, read_up_to};
 use crate::{DiskFiles, FileFail, Files, PutFail, ReadEnd, Sink, Source, StdSink, StdSource};
 use std::alloc::{AllocError, Global};
@@ -158,8 +158,8 @@ fn sources_read_on_after_a_failure(rt: HostRuntime) -> Result<(), Fail> {
     Ok(())
 }
 
-// What was read of at most so many bytes, how it ended, with `>` where there are more, and how many bytes the reader has
-// still.
+// What was read of at most so many bytes, how it ended, with `>` where there are more, and how many
+// bytes the reader has still.
 static FILLS: [(&str, Trouble, usize, &str); 6] = [
     ("no trouble", Trouble(0, 0, false), 3, "abc.0"),
     ("an interruption", Trouble(3, 0, false), 3, "abc.0"),

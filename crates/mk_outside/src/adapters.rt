@@ -1,5 +1,5 @@
-// The real input, the real output and the real files. They tell what their std parts tell, and those of the system tell
-// nothing.
+// The real input, the real output and the real files. They tell what their std parts tell, and
+// those of the system tell nothing.
 ghost use Rattle.std.specs.Prelude.{◌≡◌, ◌≤◌, [], length, None};
 
 use crate::causes::{Cause, cause_of};

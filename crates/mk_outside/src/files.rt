@@ -113,7 +113,8 @@ impl Files for MemFiles {
     }
 }
 
-/// Files in memory that never fail, with a file of no bytes under each name that they weren't given.
+/// Files in memory that never fail, with a file of no bytes under each name that they weren't
+/// given.
 #[derive(Debug, Drop)]
 pub struct SureFiles {
     rows: FileRows,

@@ -7,9 +7,9 @@ use crate::{Bytes, CallNumbers, Change, Keeper, MemKeeper, Place, RecordRow, Sur
 use std::alloc::{AllocError, Global};
 use std::test::Fail;
 
-// The records before, as numbers and letters; the batch, as what a change does, its number, and the letter that is its text
-// and its name; and what is kept then, table by table, with the next numbers. `r`, `q` and `c` put a record, a query and a
-// cursor, and `R`, `Q` and `C` drop one.
+// The records before, as numbers and letters; the batch, as what a change does, its number, and the
+// letter that is its text and its name; and what is kept then, table by table, with the next
+// numbers. `r`, `q` and `c` put a record, a query and a cursor, and `R`, `Q` and `C` drop one.
 static BATCHES: [(&str, &[u8; 6], &[u8; 6], &str); 9] = [
     (
         "between and behind",

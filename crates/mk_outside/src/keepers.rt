@@ -12,7 +12,8 @@ use crate::{CallNumbers, Change, KeepFail, Keeper, Tables};
 use std::alloc::Global;
 use std::marker::Model;
 
-/// A keeper in memory, whose calls fail by their numbers. It counts its calls of `load` and of `commit` each by itself.
+/// A keeper in memory, whose calls fail by their numbers. It counts its calls of `load` and of
+/// `commit` each by itself.
 #[derive(Debug, Drop)]
 pub struct MemKeeper {
     store: Store,

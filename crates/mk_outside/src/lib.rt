@@ -1,10 +1,10 @@
 //! The outside: what input, files, output and a store are to the program, in memory and for real.
 //!
-//! Callers use one promise, which each of the traits `Source`, `Files`, `Sink` and `Keeper` states of
-//! its calls. What an object holds is told or not told, and clauses on content hold where it is told
-//! (`specs/Told.antt`). Each object counts its faults: a call answers `Failed` only where the count
-//! rose in that call, and any other answer leaves the count as it was (`specs/Counts.antt`). What a
-//! batch of changes makes of tables stands in `specs/Tables.antt`.
+//! Callers use one promise, which each of the traits `Source`, `Files`, `Sink` and `Keeper` states
+//! of its calls. What an object holds is told or not told, and clauses on content hold where it is
+//! told (`specs/Told.antt`). Each object counts its faults: a call answers `Failed` only where the
+//! count rose in that call, and any other answer leaves the count as it was (`specs/Counts.antt`).
+//! What a batch of changes makes of tables stands in `specs/Tables.antt`.
 //!
 //! The Mem kinds fail at the calls that they are given, and the Sure kinds never do. The adapters
 //! tell what their std parts tell, and so nothing of a real file, input or output. `SqlKeeper` of

@@ -12,8 +12,8 @@ use std::io::{Read, Write};
 // How many bytes are asked for at once.
 const CHUNK: usize = 16_384;
 
-/// Writes the whole piece and flushes the writer. A write that takes nothing fails. Want of memory is told apart only
-/// before the writer took any of the piece.
+/// Writes the whole piece and flushes the writer. A write that takes nothing fails. Want of memory
+/// is told apart only before the writer took any of the piece.
 pub fn put_whole<W: Write>(writer: &mut W, piece: &[u8]) -> Result<(), PutFail>
     ensures { Puts (W.contents writer.old) (W.contents writer.new) piece.now result }
 {
@@ -71,7 +71,8 @@ pub fn read_some<R: Read>(reader: &mut R, buf: &mut [u8]) -> Result<usize, Faile
     Err(Failed)
 }
 
-/// Reads to the end, or until there are more than `most` bytes: then at most one chunk more was taken.
+/// Reads to the end, or until there are more than `most` bytes: then at most one chunk more was
+/// taken.
 pub fn read_up_to<R: Read>(
     reader: &mut R,
     most: usize,

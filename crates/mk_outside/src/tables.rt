@@ -62,8 +62,8 @@ impl Tables {
     }
 }
 
-/// A change of tables. A Put replaces the row of its number or inserts a new one. A Drop takes the row away where it is
-/// there.
+/// A change of tables. A Put replaces the row of its number or inserts a new one. A Drop takes the
+/// row away where it is there.
 #[derive(Debug, Drop)]
 pub enum Change {
     PutRecord {

@@ -17,7 +17,8 @@ pub trait Sink {
     /// How many calls failed.
     ghost faults: { Self → ℕ };
 
-    /// Appends the whole piece. After a failure a prefix of it was appended, and after `Memory` nothing.
+    /// Appends the whole piece. After a failure a prefix of it was appended, and after `Memory`
+    /// nothing.
     fn put(&mut self, piece: &[u8]) -> Result<(), PutFail>
         ensures told { Puts (so_far self.old) (so_far self.new) piece.now result }
         ensures counted { Counts (is_failed_put result) (faults self.old) (faults self.new) };
@@ -34,8 +35,8 @@ pub trait Files {
     /// How many of those failed on a name that isn't there.
     ghost absences: { Self → ℕ };
 
-    /// Empties `out`, and reads the file into it where it has at most `most` bytes. After any other answer than `Whole`
-    /// `out` is empty.
+    /// Empties `out`, and reads the file into it where it has at most `most` bytes. After any other
+    /// answer than `Whole` `out` is empty.
     fn read(
         &mut self,
         alloc: Global,
@@ -60,8 +61,8 @@ pub trait Source {
     /// How many calls failed.
     ghost faults: { Self → ℕ };
 
-    /// Moves the first bytes that are left into the buffer, and gives their number: 0 for a buffer that isn't empty
-    /// exactly at the end. After a failure the bytes left are as before.
+    /// Moves the first bytes that are left into the buffer, and gives their number: 0 for a buffer
+    /// that isn't empty exactly at the end. After a failure the bytes left are as before.
     fn read(&mut self, buf: &mut [u8]) -> Result<usize, Failed>
         ensures within { IfOk result (λ n. n ≤ length buf.old) }
         ensures told { ReadConsumes (left self.old) (left self.new) result buf.new }

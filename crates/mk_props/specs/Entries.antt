@@ -1,7 +1,8 @@
 -- Numbers behind a blank, and entries behind their count.
 --     IsBlankAt line at                     the column is blank
 --     IsSpacedNumber line at n              the column is blank, and the three after it hold n
---     AreCounted most cells Is entries      the cells hold the number of entries, 1 to most, and each stands in its place
+--     AreCounted most cells Is entries      the cells hold the number of entries, 1 to most, and
+--                                           each stands in its place
 --     ArePairs most line at pairs           the pairs whose count begins at this column
 --     IsPairLine word most line pairs       a line of pairs, as `M  CHG` and `M  RGP`
 --     IsLinkLine line links                 an `M  LIN` line
@@ -22,7 +23,8 @@ pub record IsSpacedNumber (line : List ℕ) (at : ℕ) (n : ℤ) : Type 0 where
   pub space : IsBlankAt line at
   pub number : IsField (columns line (at + 1) (at + 3)) n
 
--- the cells hold the number of entries, from 1 to most, and each entry is what stands in its place, counted from 0
+-- the cells hold the number of entries, from 1 to most, and each entry is what stands in its place,
+-- counted from 0
 pub record AreCounted {X : Type 0} (most : ℕ) (cells : List ℕ) (Is : ℕ → X → Type 0) (entries : List X) : Type 0 where
   pub some : 1 ≤ length entries
   pub no_more : length entries ≤ most
@@ -43,7 +45,8 @@ pub record IsPairLine (word : List ℕ) (most : ℕ) (line : List ℕ) (pairs : 
   pub begins : columns line 1 6 ≡ word
   pub entries : ArePairs most line 7 pairs
 
--- ` aaa vvv bbb ccc`: the link atom, how often it may stand, and the two neighbours that it stands between
+-- ` aaa vvv bbb ccc`: the link atom, how often it may stand, and the two neighbours that it stands
+-- between
 pub record IsLinkAt (line : List ℕ) (at : ℕ) (link : LinkEntry) : Type 0 where
   pub atom : IsSpacedNumber line at link.atom
   pub most : IsSpacedNumber line (at + 4) link.most

@@ -10,7 +10,8 @@ abbrev pub flag_text : Bool → List ℕ
 flag_text true = codes "T"
 flag_text false = codes "F"
 
--- the symbol in four columns, without the blanks around it; the first stands in the columns 17 to 20
+-- the symbol in four columns, without the blanks around it; the first stands in the columns 17 to
+-- 20
 abbrev pub symbol_of : List ℕ → ℕ → List ℕ
 symbol_of line i = trimmed (columns line (17 + 4 * i) (20 + 4 * i))
 

@@ -6,7 +6,8 @@ use Rattle.mk_text.specs.Fields.{IsField}
 use Rattle.mk_props.specs.declared.property.LogicLine.{LogicLine}
 use Rattle.mk_props.specs.Entries.{IsBlankAt, IsSpacedNumber}
 
--- `M  LOG  1 rrr iii hhh range`: one entry, three numbers, and from column 23 to the line's end the range text
+-- `M  LOG  1 rrr iii hhh range`: one entry, three numbers, and from column 23 to the line's end the
+-- range text
 pub record IsLogicLine (line : List ℕ) (logic : LogicLine) : Type 0 where
   pub begins : columns line 1 6 ≡ codes "M  LOG"
   pub one : IsField (columns line 7 9) (pos 1)

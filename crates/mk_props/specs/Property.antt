@@ -1,7 +1,7 @@
 -- Property lines, kind by kind.
 --     IsProperty line property      the line is this property
--- The columns that a line begins with say its kind, and no line begins as two kinds do. Where it breaks the layout of
--- its kind, or begins as none, it is no property.
+-- The columns that a line begins with say its kind, and no line begins as two kinds do. Where it
+-- breaks the layout of its kind, or begins as none, it is no property.
 use Rattle.std.specs.Prelude.{◌≡◌, ℕ, ◌⊎◌, List, [], ◌∷◌, Contains, pos, codes}
 use Rattle.mk_text.specs.Columns.{columns}
 use Rattle.mk_text.specs.Fields.{IsField}

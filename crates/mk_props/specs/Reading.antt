@@ -18,7 +18,8 @@ use Rattle.mk_props.specs.declared.property.Property.TheVariants as kinds
 use Rattle.mk_props.specs.Lists.{symbol_of}
 use Rattle.mk_props.specs.Property.{IsProperty}
 
--- What a function answered is what the line says, Bad where it says nothing. Want of memory says nothing of the line.
+-- What a function answered is what the line says, Bad where it says nothing. Want of memory says
+-- nothing of the line.
 abbrev pub Gives : {X : Type 0} → Result X LineFault → Option X → Type 0
 Gives (Ok x) read = read ≡ Some x
 Gives (Err Bad) read = read ≡ None

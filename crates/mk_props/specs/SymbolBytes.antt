@@ -1,10 +1,13 @@
--- Symbols one behind the other, each behind a byte that says how long it is. This serves code alone.
+-- Symbols one behind the other, each behind a byte that says how long it is. This serves code
+-- alone.
 --     symbols_behind n bytes      the symbols that stand behind the next n bytes
---     AreWhole n bytes            the next n bytes are there, and so are all bytes of the symbols behind them
+--     AreWhole n bytes            the next n bytes are there, and so are all bytes of the symbols
+--                                 behind them
 --     IsSymbolAt bytes at next    a symbol begins at this place, and the next one at that
 use Rattle.std.specs.Prelude.{◌≡◌, ℕ, zero, suc, ◌+◌, ◌<◌, ◌≤◌, List, [], ◌∷◌, length, take, drop, slice_range}
 
--- the symbols that stand behind the next n bytes; where n is 0 the next byte says how long a symbol is
+-- the symbols that stand behind the next n bytes; where n is 0 the next byte says how long a symbol
+-- is
 abbrev pub symbols_behind : ℕ → List ℕ → List (List ℕ)
 symbols_behind n [] = []
 symbols_behind zero (size ∷ bytes) = take size bytes ∷ symbols_behind size bytes

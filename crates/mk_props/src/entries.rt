@@ -72,7 +72,8 @@ pub fn pairs(alloc: Global, line: &[u8], at: usize, most: usize) -> Result<Pairs
     Ok(pairs)
 }
 
-//  aaa vvv bbb ccc   four times a blank and a number (3): the link atom, its most, and its two neighbours
+//  aaa vvv bbb ccc   four times a blank and a number (3): the link atom, its most, and its two
+//                    neighbours
 #[tactic(auto, unfolding(crate::specs::Reading::link_of))]
 fn link_at(line: &[u8], at: usize) -> Option<LinkEntry>
     requires first { 1 ≤ at }
@@ -109,7 +110,8 @@ pub fn links(alloc: Global, line: &[u8]) -> Result<Links, LineFault>
     Ok(links)
 }
 
-// M  AAL aaann2 bbb ooo ..   columns 8-10 the site, 11-13 the count; per entry a blank, neighbour (3), a blank, place (3)
+// M  AAL aaann2 bbb ooo ..   columns 8-10 the site, 11-13 the count; per entry a blank, neighbour
+//                            (3), a blank, place (3)
 #[tactic(auto, unfolding(crate::specs::Reading::order_of))]
 pub fn order(alloc: Global, line: &[u8]) -> Result<SiteOrder, LineFault>
     ensures { Gives result (order_of line.now) }

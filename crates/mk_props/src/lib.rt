@@ -1,8 +1,10 @@
-//! Property lines: the lines of a connection table between its bonds and `M  END`, and that line itself.
+//! Property lines: the lines of a connection table between its bonds and `M  END`, and that line
+//! itself.
 //!
-//! Callers use one promise. `read_property` gives the property that a line is, and `Bad` exactly where it is none
-//! (`IsProperty` in `specs/Property.antt`). The same is said by a function on lists, `property_of` in
-//! `specs/Reading.antt`, and `property_is_exact` joins the two. The columns are those of docs/FORMAT.md, "Property lines".
+//! Callers use one promise. `read_property` gives the property that a line is, and `Bad` exactly
+//! where it is none (`IsProperty` in `specs/Property.antt`). The same is said by a function on
+//! lists, `property_of` in `specs/Reading.antt`, and `property_is_exact` joins the two. The columns
+//! are those of docs/FORMAT.md, "Property lines".
 //!
 //! What a property means for a molecule or a query isn't known here.
 #![tactic(auto)]

@@ -10,7 +10,8 @@ use crate::symbols::Symbols;
 use mk_text::trimmed_column;
 use std::alloc::Global;
 
-// M  ALS aaan16 t ssss..   columns 8-10 the atom, 11-13 the count, 15 T or F, from 17 on four columns for each symbol
+// M  ALS aaan16 t ssss..   columns 8-10 the atom, 11-13 the count, 15 T or F, from 17 on four
+//                          columns for each symbol
 #[tactic(auto, unfolding(crate::specs::Reading::list_of))]
 pub fn list(alloc: Global, line: &[u8]) -> Result<AtomList, LineFault>
     ensures { Gives result (list_of line.now) }
@@ -25,7 +26,8 @@ pub fn list(alloc: Global, line: &[u8]) -> Result<AtomList, LineFault>
     Ok(AtomList { atom, not, symbols })
 }
 
-// Columns 14-16: T where the atom has none of the symbols, F where it has one of them, between blanks.
+// Columns 14-16: T where the atom has none of the symbols, F where it has one of them, between
+// blanks.
 #[tactic(auto, unfolding(crate::specs::Reading::flag_of))]
 fn flag(line: &[u8]) -> Option<bool>
     ensures { result ≡ flag_of line.now }

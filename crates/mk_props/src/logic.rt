@@ -9,7 +9,8 @@ use crate::property::LogicLine;
 use mk_text::Listed;
 use std::alloc::Global;
 
-// M  LOG  1 rrr iii hhh range   columns 7-9 the number 1, 11-13 the group, 15-17 its THEN group, 19-21 RestH, 23- the range
+// M  LOG  1 rrr iii hhh range   columns 7-9 the number 1, 11-13 the group, 15-17 its THEN group,
+//                               19-21 RestH, 23- the range
 #[tactic(auto, unfolding(crate::specs::Reading::logic_of))]
 pub fn logic(alloc: Global, line: &[u8]) -> Result<LogicLine, LineFault>
     ensures { Gives result (logic_of line.now) }

@@ -40,7 +40,8 @@ pub struct SiteOrder {
     pub entries: Pairs,
 }
 
-/// The logic of a group: the group that follows from it or 0, RestH, and the range of how often it occurs.
+/// The logic of a group: the group that follows from it or 0, RestH, and the range of how often it
+/// occurs.
 #[derive(Debug, Drop)]
 pub struct LogicLine {
     pub group: i32,

@@ -7,8 +7,8 @@ use smallvec::SmallVec;
 use std::alloc::Global;
 use std::marker::Model;
 
-/// A list of symbols. Each is kept behind a byte that says how long it is, so sixteen empty ones, or eight of one letter, take
-/// no memory of their own.
+/// A list of symbols. Each is kept behind a byte that says how long it is, so sixteen empty ones,
+/// or eight of one letter, take no memory of their own.
 #[derive(Debug, Drop)]
 pub struct Symbols {
     bytes: SmallVec<u8, 16>,

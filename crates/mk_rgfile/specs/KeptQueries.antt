@@ -1,5 +1,7 @@
--- Query files whose text can be kept: the lines without the CR bytes at their ends are the same query file.
---     IsKeptText text               the text is lines that hold no LF and don't end with CR, each with LF behind it
+-- Query files whose text can be kept: the lines without the CR bytes at their ends are the same
+-- query file.
+--     IsKeptText text               the text is lines that hold no LF and don't end with CR, each
+--                                   with LF behind it
 --     KeepsItsTexts query           each table of the query keeps its text
 --     KeptLinesAreTheQuery          the law, for a whole list of lines
 --     KeptLinesAreKept, KeptTextStays       and two of kept texts
@@ -17,14 +19,16 @@ pub record IsKeptText (text : List ℕ) : Type 0 where
   pub whole : All IsWholeLine lines
   pub is : text ≡ text_of lines
 
--- no atom symbol, no symbol of an `M  ALS` and no range text ends with CR, in the root and in every member
+-- no atom symbol, no symbol of an `M  ALS` and no range text ends with CR, in the root and in every
+-- member
 pub record KeepsItsTexts (query : RawQuery) : Type 0 where
   pub root : KeepsItsText query.root
   pub members : All (λ group. All KeepsItsText group.members) query.groups
 
 -- ---- laws
 
--- the lines of a query file whose tables keep their text are, without the CR bytes at their ends, the same query file
+-- the lines of a query file whose tables keep their text are, without the CR bytes at their ends,
+-- the same query file
 abbrev pub KeptLinesAreTheQuery : Type 0
 KeptLinesAreTheQuery = (lines : List Line) (query : RawQuery) → IsQueryFile lines query → KeepsItsTexts query → IsQueryFile (map without_crs lines) query
 

@@ -1,6 +1,8 @@
 -- What the query of every query file keeps.
---     IsRawQuery query           each table keeps what a table keeps, group numbers are from 1 to 32, a group has a member
---     FitsIn lines query         there are fewer member tables, and in each table fewer properties, than lines
+--     IsRawQuery query           each table keeps what a table keeps, group numbers are from 1 to
+--                                32, a group has a member
+--     FitsIn lines query         there are fewer member tables, and in each table fewer properties,
+--                                than lines
 --     member_count query         how many member tables it has
 use Rattle.std.specs.Prelude.{ℕ, ◌+◌, ◌≤◌, ◌<◌, List, [], ◌∷◌, length, All}
 use Rattle.mk_ctab.specs.declared.raw.RawTable.{RawTable}
@@ -34,7 +36,8 @@ member_count query = members_in query.groups
 abbrev pub HasFewProperties : ℕ → RawTable → Type 0
 HasFewProperties size table = length table.props < size
 
--- In a text of so many lines the member tables are at least two fewer, and the properties of each table are fewer.
+-- In a text of so many lines the member tables are at least two fewer, and the properties of each
+-- table are fewer.
 pub record FitsIn (size : ℕ) (query : RawQuery) : Type 0 where
   pub few_members : member_count query + 1 < size
   pub root : HasFewProperties size query.root

@@ -1,9 +1,11 @@
 -- Query files: an RGfile, or a molfile followed by blank lines alone.
 --     IsQueryFile lines query       the lines are a query file with this query
---     IsBadQueryLine lines k        line k is the first with which no query file can begin, or one more than the last
+--     IsBadQueryLine lines k        line k is the first with which no query file can begin, or one
+--                                   more than the last
 --     IsV3000Line lines k           line k says V3000, and a counts line is due there
 --     HasOneQuery, HasBadLine, HasOneBadLine     three laws of it
--- What the lines of a table are, and what a molfile is, is said in mk_ctab. The layout is drawn in docs/FORMAT.md, "Query files".
+-- What the lines of a table are, and what a molfile is, is said in mk_ctab. The layout is drawn in
+-- docs/FORMAT.md, "Query files".
 use Rattle.std.specs.Prelude.{◌≡◌, ◌↔◌, ℕ, ◌≤◌, true, false, List, [], ◌∷◌, ◌++◌, length, ◌⊎◌, codes}
 use Rattle.mk_form.specs.Choice.{FirstIs}
 use Rattle.mk_form.specs.Fronts.{IsBadLine, IsNamed}
@@ -20,7 +22,8 @@ use Rattle.mk_rgfile.specs.QueryLines.{begins_mdl, is_keyword, IsGroupNumber}
 
 -- ---- the parts of an RGfile
 
--- a line that begins with `$MDL`; `$MOL`; `$HDR`; three header lines, which may be anything; `$END HDR`
+-- a line that begins with `$MDL`; `$MOL`; `$HDR`; three header lines, which may be anything;
+-- `$END HDR`
 pub record IsHead (lines : List Line) : Type 0 where
   pub first_line : Line
   pub mol_line : Line
@@ -77,7 +80,8 @@ pub record IsRgfile (lines : List Line) (query : RawQuery) : Type 0 where
   pub last : is_keyword (codes "$END MOL") last_line ≡ true
   pub blanks : AreBlankLines blank_lines
 
--- a molfile of which the first line doesn't begin with `$MDL`, and blank lines or none; there are no groups
+-- a molfile of which the first line doesn't begin with `$MDL`, and blank lines or none; there are
+-- no groups
 pub record IsMolfileQuery (lines : List Line) (query : RawQuery) : Type 0 where
   pub molfile_lines : List Line
   pub blank_lines : List Line
@@ -93,7 +97,8 @@ IsQueryFile lines query = IsRgfile lines query ⊎ IsMolfileQuery lines query
 
 -- ---- the line that is named
 
--- line k is the first with which no query file can begin behind the lines before it, or one more than the number of lines
+-- line k is the first with which no query file can begin behind the lines before it, or one more
+-- than the number of lines
 abbrev pub IsBadQueryLine : List Line → ℕ → Type 0
 IsBadQueryLine lines k = IsBadLine IsQueryFile lines k
 
@@ -130,7 +135,8 @@ pub record IsHeadToTable (lines : List Line) : Type 0 where
   pub head : IsHead head_lines
   pub table : is_keyword (codes "$CTAB") table_line ≡ true
 
--- the head of an RGfile, its root, some groups or none, and one more group up to the `$CTAB` of a member
+-- the head of an RGfile, its root, some groups or none, and one more group up to the `$CTAB` of a
+-- member
 pub record IsRgfileToMember (lines : List Line) : Type 0 where
   pub head_lines : List Line
   pub root_lines : List Line

@@ -1,7 +1,8 @@
 -- The lines of a query file that stand around its tables.
 --     begins_mdl line              the line begins with `$MDL`
 --     is_keyword word line         the line is the keyword and blanks after it
---     IsGroupNumber line n         the line as a whole is a numeric field with the number n, from 1 to 32
+--     IsGroupNumber line n         the line as a whole is a numeric field with the number n, from 1
+--                                  to 32
 --     group_number_of line         that number, or None
 use Rattle.std.specs.Prelude.{ℕ, ◌≤◌, ◌&&◌, nat_eq, Bool, List, length, drop, Option, pos, codes}
 use Rattle.std.specs.List.{starts_with}

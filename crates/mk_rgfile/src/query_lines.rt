@@ -22,7 +22,8 @@ pub fn is_keyword_line(line: &[u8], word: &[u8]) -> bool
     is_blank(&line[word.len()..])
 }
 
-// The number that the line is as a whole, or None where it is no numeric field. An empty line is the number 0.
+// The number that the line is as a whole, or None where it is no numeric field. An empty line is
+// the number 0.
 #[tactic(auto, using(crate::proofs::QueryLineLemmas::whole_field))]
 fn whole_field(line: &[u8]) -> Option<i32>
     ensures { result ≡ field_in line.now }

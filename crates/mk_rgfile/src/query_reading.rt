@@ -241,8 +241,9 @@ fn query_of(alloc: Global, text: &[u8], lines: &[Span]) -> Result<RawQuery, Tabl
     }
 }
 
-/// Reads an RGfile, where the first line begins with `$MDL`, or else a molfile followed by blank lines alone. Where the text is
-/// neither, the fault names the first line with which no query file can begin. Lines count from 1.
+/// Reads an RGfile, where the first line begins with `$MDL`, or else a molfile followed by blank
+/// lines alone. Where the text is neither, the fault names the first line with which no query file
+/// can begin. Lines count from 1.
 pub fn read_rgfile(alloc: Global, text: &[u8]) -> Result<RawQuery, TableFault>
     ensures query { IfOk result (IsQueryFile (lines_of text.now)) }
     ensures bad { IfBad result (IsBadQueryLine (lines_of text.now)) }

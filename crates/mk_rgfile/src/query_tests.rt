@@ -5,7 +5,8 @@ use mk_ctab::TableFault;
 use std::alloc::{AllocError, Global};
 use std::test::Fail;
 
-// The number of atoms and properties of the root, and the number and the members of each group; or the line that is named.
+// The number of atoms and properties of the root, and the number and the members of each group; or
+// the line that is named.
 #[derive(Clone, Copy, Debug, PartialEq, Eq)]
 enum Want {
     Query(usize, usize, &'static [(u8, usize)]),

@@ -15,7 +15,8 @@ pub struct RawGroup {
 /// A list of groups.
 pub type RawGroups = Listed<RawGroup>;
 
-/// The root table of a query, and its groups in the order of the file. A number may stand at more than one group.
+/// The root table of a query, and its groups in the order of the file. A number may stand at more
+/// than one group.
 #[derive(Debug, Drop)]
 pub struct RawQuery {
     pub root: RawTable,

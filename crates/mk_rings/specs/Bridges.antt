@@ -1,5 +1,6 @@
 -- For the code alone: the bonds where one that is no ring bond has no type that could take a label.
---     label_if ring edge               the bond, with its type where it is a ring bond or has type 4
+--     label_if ring edge               the bond, with its type where it is a ring bond or has type
+--                                      4
 --     AreWithoutBridges bonds rings edges      the bonds with their types so
 use Rattle.std.specs.Prelude.{◌≡◌, ◌==◌, ◌||◌, ◌<◌, ℕ, Bool, false, List, length, slice_index_or, if◌then◌else◌}
 use Rattle.mk_model.specs.declared.edge.Edge.{Edge}

@@ -1,7 +1,9 @@
--- Spanning forests: each atom hangs on an atom above it by one of the bonds, or stands at the top of its tree.
+-- Spanning forests: each atom hangs on an atom above it by one of the bonds, or stands at the top
+-- of its tree.
 --     node nodes x                  the place of atom x
 --     unreached nodes               how many places aren't reached
---     IsGrown bonds nodes           whoever hangs, hangs by a bond, one below the atom above, in the same tree
+--     IsGrown bonds nodes           whoever hangs, hangs by a bond, one below the atom above, in
+--                                   the same tree
 --     IsForest atoms bonds nodes    besides, every atom was reached, and bonds stay within trees
 --     is_over nodes x a             x is a or stands above a
 --     IsBranch nodes b              the bond is one by which an atom hangs
@@ -29,7 +31,8 @@ pub record Hangs (bonds : List Edge) (nodes : List Node) (x : ℕ) : Type 0 wher
 abbrev pub unreached : List Node → ℕ
 unreached nodes = count_by (λ n. n.root == 0) nodes
 
--- whoever has atoms above hangs on one, and whoever has none is the top of its tree; no atom has more above it than others were reached
+-- whoever has atoms above hangs on one, and whoever has none is the top of its tree; no atom has
+-- more above it than others were reached
 pub record IsGrown (bonds : List Edge) (nodes : List Node) : Type 0 where
   pub hang : (x : ℕ) → 0 < (node nodes x).depth → Hangs bonds nodes x
   pub tops : (x : ℕ) → (node nodes x).root ≢ 0 → (node nodes x).depth ≡ 0 → (node nodes x).root ≡ x

@@ -1,4 +1,5 @@
--- A forest while it grows: the atoms on the stack were reached, and their bonds are still to be followed.
+-- A forest while it grows: the atoms on the stack were reached, and their bonds are still to be
+-- followed.
 --     IsDone bonds nodes x                the ends of the bonds of atom x are in its tree
 --     IsReaching bonds nodes stack top    what holds while the tree of an atom is grown
 --     AllDone bonds nodes                 every atom that was reached is done
@@ -20,8 +21,8 @@ IsInTree nodes top x = (1 ≤ x) × (x < length nodes) × ((node nodes x).root �
 abbrev pub AllDone : List Edge → List Node → Type 0
 AllDone bonds nodes = (x : ℕ) → (node nodes x).root ≢ 0 → IsDone bonds nodes x
 
--- The atoms on the stack are in the tree that is grown, and whoever was reached is done, on the stack, or the atom that is
--- followed just now (0 for none).
+-- The atoms on the stack are in the tree that is grown, and whoever was reached is done, on the
+-- stack, or the atom that is followed just now (0 for none).
 pub record IsReaching (bonds : List Edge) (nodes : List Node) (stack : List ℕ) (top now : ℕ) : Type 0 where
   pub grown : IsGrown bonds nodes
   pub waiting : All (IsInTree nodes top) stack

@@ -1,5 +1,6 @@
 -- Laws over the marks of bonds.
---     OneListOfMolBonds      edges have one list of bonds of a molecule with the marks of the definitions
+--     OneListOfMolBonds      edges have one list of bonds of a molecule with the marks of the
+--                            definitions
 --     OneListOfGraphBonds    bonds of a graph have one list with the marks of the definitions
 use Rattle.std.specs.Prelude.{◌≡◌, ℕ, List, Some, slice_get}
 use Rattle.mk_model.specs.declared.molecule.MolBond.{MolBond}

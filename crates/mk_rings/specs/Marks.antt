@@ -19,7 +19,8 @@ Parts nodes x u v = is_over nodes x u ≢ is_over nodes x v
 abbrev pub IsMarked : List Bool → ℕ → Type 0
 IsMarked marks b = slice_index_or marks b false ≡ true
 
--- besides the old marks those are set by whose bonds an atom hangs that parts u and v, and no others
+-- besides the old marks those are set by whose bonds an atom hangs that parts u and v, and no
+-- others
 pub record MarksWay (nodes : List Node) (u v : ℕ) (old new : List Bool) : Type 0 where
   pub kept : (b : ℕ) → IsMarked old b → IsMarked new b
   pub way : (x b : ℕ) → HangsBy nodes x b → Parts nodes x u v → IsMarked new b

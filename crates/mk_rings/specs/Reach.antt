@@ -1,7 +1,14 @@
--- For the code alone: from which atoms a start is reached over two bonds and over three, told by stamps.
---     Further bonds set label two three stamp             from an atom stamped in `two`, a bond that takes the label leads to one stamped in `three`
---     IsReached bonds set start label two three stamp     who is two steps from the start is stamped in `two`, and who is one step further in `three`
---     MaySkip bonds set start two three stamp label left  an atom without the stamp can't be the last of a path that is closed so many atoms further
+-- For the code alone: from which atoms a start is reached over two bonds and over three, told by
+-- stamps.
+--     Further bonds set label two three stamp             from an atom stamped in `two`, a bond
+--                                                         that takes the label leads to one stamped
+--                                                         in `three`
+--     IsReached bonds set start label two three stamp     who is two steps from the start is
+--                                                         stamped in `two`, and who is one step
+--                                                         further in `three`
+--     MaySkip bonds set start two three stamp label left  an atom without the stamp can't be the
+--                                                         last of a path that is closed so many
+--                                                         atoms further
 use Rattle.std.specs.Prelude.{◌≡◌, ◌-◌, ℕ, zero, suc, Bool, List, ⊤, slice_index}
 use Rattle.mk_model.specs.declared.edge.Edge.{Edge}
 use Rattle.mk_model.specs.Edges.{Joins}
@@ -20,8 +27,9 @@ Further bonds set label two three stamp = (z : ℕ) → slice_index two z ≡ st
 abbrev pub KeepsStamps : ℕ → List ℕ → List ℕ → Type 0
 KeepsStamps stamp old new = (z : ℕ) → slice_index old z ≡ stamp → slice_index new z ≡ stamp
 
--- Over a bond that takes the label, and then one that takes the other label, the start leads to atoms stamped in `two`; over one that
--- takes the label once more these lead to atoms stamped in `three`.
+-- Over a bond that takes the label, and then one that takes the other label, the start leads to
+-- atoms stamped in `two`; over one that takes the label once more these lead to atoms stamped in
+-- `three`.
 pub record IsReached (bonds : List Edge) (set : ℕ → Bool) (start label : ℕ) (two three : List ℕ) (stamp : ℕ) : Type 0 where
   pub ends : (b y : ℕ) → Joins bonds b start y → Takes bonds set b label → LeadsToStamped bonds set (3 - label) two stamp y
   pub further : Further bonds set label two three stamp

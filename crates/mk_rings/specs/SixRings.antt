@@ -23,8 +23,8 @@ set_of marks b = slice_index_or marks b false
 abbrev pub NotAmong : List ℕ → ℕ → Type 0
 NotAmong atoms y = (i : ℕ) → i < length atoms → slice_index atoms i ≢ y
 
--- The bond, which has the label, leads from the last atom of the path back to the start; or to a new atom, from where the path
--- can be closed so many atoms further, with the other label first.
+-- The bond, which has the label, leads from the last atom of the path back to the start; or to a
+-- new atom, from where the path can be closed so many atoms further, with the other label first.
 abbrev pub ClosesBy : List Edge → (ℕ → Bool) → ℕ → List ℕ → ℕ → ℕ → ℕ → ℕ → Type 0
 ClosesBy bonds set start path at label zero b = Joins bonds b at start × Takes bonds set b label
 ClosesBy bonds set start path at label (suc left) b =

@@ -24,7 +24,8 @@ pub fn aromatic_bonds(alloc: Global, atoms: u32, bonds: &[Edge]) -> Result<Vec<b
     aromatic_bonds_over(alloc, &near, atoms, bonds, &rings)
 }
 
-/// Marks the bonds of the aromatic set, where the neighbours are made and the ring bonds found already.
+/// Marks the bonds of the aromatic set, where the neighbours are made and the ring bonds found
+/// already.
 pub fn aromatic_bonds_over(
     alloc: Global,
     near: &Neighbours,
@@ -58,7 +59,8 @@ pub fn aromatic_bonds_over(
     Ok(marks)
 }
 
-// The bonds, where one that is no ring bond has no type that could take a label. Bonds of type 4 keep theirs.
+// The bonds, where one that is no ring bond has no type that could take a label. Bonds of type 4
+// keep theirs.
 fn without_bridges(alloc: Global, bonds: &[Edge], rings: &[bool]) -> Result<Vec<Edge>, Memory>
     requires { length rings.now ≡ length bonds.now }
     ensures { IfOk result (λ edges. AreWithoutBridges bonds.now rings.now edges.items) }

@@ -86,7 +86,8 @@ fn grow(
     Ok(())
 }
 
-// Follows the bonds of an atom of the tree, and puts the atoms that are reached first onto the stack.
+// Follows the bonds of an atom of the tree, and puts the atoms that are reached first onto the
+// stack.
 fn follow(
     nodes: &mut [Node],
     stack: &mut Vec<u32>,

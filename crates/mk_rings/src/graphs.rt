@@ -9,7 +9,8 @@ use crate::marking::{neighbours_of, ring_bonds_over};
 use mk_model::{Graph, GraphAtom, GraphBond, Memory, edges_of_graph};
 use std::alloc::Global;
 
-/// Keeps atoms and bonds as a graph, with the marks of its own bonds in place of those that are given.
+/// Keeps atoms and bonds as a graph, with the marks of its own bonds in place of those that are
+/// given.
 pub fn marked_graph(
     alloc: Global,
     atoms: Vec<GraphAtom>,

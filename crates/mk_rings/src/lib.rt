@@ -1,15 +1,17 @@
 //! Ring bonds and the aromatic set, computed.
 //!
-//! Callers use two promises. `ring_bonds` marks exactly the ring bonds, and `aromatic_bonds` exactly the bonds of the
-//! aromatic set, by the definitions of mk_model (`specs/Rings.antt` and `specs/Aromatic.antt` there).
+//! Callers use two promises. `ring_bonds` marks exactly the ring bonds, and `aromatic_bonds`
+//! exactly the bonds of the aromatic set, by the definitions of mk_model (`specs/Rings.antt` and
+//! `specs/Aromatic.antt` there).
 //!
-//! Ring bonds are found on a spanning forest: a bond that isn't in it is a ring bond, and so are the bonds of the forest on
-//! the way between its ends (`specs/Forests.antt`). The time is that of the bonds, and for each closed ring that of the way
-//! round it.
+//! Ring bonds are found on a spanning forest: a bond that isn't in it is a ring bond, and so are
+//! the bonds of the forest on the way between its ends (`specs/Forests.antt`). The time is that of
+//! the bonds, and for each closed ring that of the way round it.
 //!
-//! Six-rings are looked for from both sides. For each atom those that reach it over two bonds and over three are stamped once,
-//! and a path from the other end goes on only to stamped atoms (`reach`, `six_rings`). Where a bond was marked, the rings
-//! through it are looked for next (`spreading`), so that few rounds over all bonds are left (`rounds`).
+//! Six-rings are looked for from both sides. For each atom those that reach it over two bonds and
+//! over three are stamped once, and a path from the other end goes on only to stamped atoms
+//! (`reach`, `six_rings`). Where a bond was marked, the rings through it are looked for next
+//! (`spreading`), so that few rounds over all bonds are left (`rounds`).
 //!
 //! Which molecule the bonds come from isn't known here.
 #![tactic(auto)]

@@ -36,7 +36,8 @@ pub fn ring_bonds_over(
     Ok(marks)
 }
 
-/// Lists the bonds of each of the atoms. Numbers of bonds are of 32 bits: more bonds have no memory here.
+/// Lists the bonds of each of the atoms. Numbers of bonds are of 32 bits: more bonds have no memory
+/// here.
 pub fn neighbours_of(alloc: Global, atoms: u32, bonds: &[Edge]) -> Result<Neighbours, Memory>
     requires { AreBetween atoms bonds.now }
     ensures { IfOk result (λ near. near ≡ rows_of atoms bonds.now) }
@@ -77,7 +78,8 @@ fn hangs_by(nodes: &[Node], x: u32, b: usize) -> bool
     here.depth > 0 && here.via as usize == b
 }
 
-// Marks the bonds of the forest between the ends of a bond: the deeper of them goes up until they meet.
+// Marks the bonds of the forest between the ends of a bond: the deeper of them goes up until they
+// meet.
 fn mark_way(nodes: &[Node], bonds: &[Edge], b: usize, marks: &mut [bool])
     requires bond { b < length bonds.now }
     requires ends { AreBetween (length nodes.now - 1) bonds.now }

@@ -9,7 +9,8 @@ use crate::marking::ring_bonds_over;
 use mk_model::{Edge, Memory, MolBond, Neighbours};
 use std::alloc::Global;
 
-/// Gives the bonds of a molecule: the bonds of the list in order, each with the marks of the definitions.
+/// Gives the bonds of a molecule: the bonds of the list in order, each with the marks of the
+/// definitions.
 pub fn marked_bonds(
     alloc: Global,
     near: &Neighbours,

@@ -1,5 +1,5 @@
-// From which atoms an atom is reached over two bonds and over three. Each atom that is gets the stamp of the search, so that
-// nothing has to be wiped between two searches.
+// From which atoms an atom is reached over two bonds and over three. Each atom that is gets the
+// stamp of the search, so that nothing has to be wiped between two searches.
 ghost use Rattle.std.specs.Prelude.{◌≡◌, ◌≤◌, ◌<◌, ◌+◌, ◌-◌, ◌⊎◌, length};
 ghost use Rattle.mk_model.specs.Edges.{AreBetween, rows_of};
 ghost use Rattle.mk_rings.specs.Reach.{Further, IsReached, KeepsStamps, LeadsToStamped};
@@ -9,8 +9,8 @@ use crate::six_rings::takes;
 use crate::steps::{numbers_of, step_over};
 use mk_model::{Edge, Neighbours};
 
-/// Stamps the atoms that the start reaches over two bonds, of which the first takes the label and the second the other one, and
-/// those that it reaches over a third that takes the label again.
+/// Stamps the atoms that the start reaches over two bonds, of which the first takes the label and
+/// the second the other one, and those that it reaches over a third that takes the label again.
 pub fn reach(
     near: &Neighbours,
     bonds: &[Edge],
@@ -43,8 +43,8 @@ pub fn reach(
     }
 }
 
-// Stamps the atoms that y leads to over a bond that takes the label, and those that these lead to over one that takes the
-// other.
+// Stamps the atoms that y leads to over a bond that takes the label, and those that these lead to
+// over one that takes the other.
 fn reach_two(
     near: &Neighbours,
     bonds: &[Edge],

@@ -1,5 +1,5 @@
-// The search for a six-ring through a bond that was just marked and that has a bond without a mark. What it finds is checked
-// before a mark is put, so nothing is promised of it.
+// The search for a six-ring through a bond that was just marked and that has a bond without a mark.
+// What it finds is checked before a mark is put, so nothing is promised of it.
 ghost use Rattle.std.specs.Prelude.{◌≡◌, ◌≤◌, ◌<◌, ◌+◌, ◌⊎◌, IfSome, length};
 ghost use Rattle.mk_model.specs.Edges.{AreBetween, Joins, rows_of};
 
@@ -7,7 +7,8 @@ use crate::six_rings::{is_among, takes};
 use crate::steps::{Step, numbers_of, step_over};
 use mk_model::{Edge, Neighbours};
 
-/// The stamps of an atom: that it is reached over two bonds, or over three, and that it is so with a bond without a mark.
+/// The stamps of an atom: that it is reached over two bonds, or over three, and that it is so with
+/// a bond without a mark.
 #[derive(Clone, Copy, Debug, PartialEq, Eq)]
 pub struct Spot {
     pub two: usize,
@@ -129,7 +130,8 @@ fn with_three(here: Spot, stamp: usize, open: bool) -> Spot {
     }
 }
 
-/// Gives the atoms of a ring: the path, which stands behind the first `left` places, closed so many atoms further.
+/// Gives the atoms of a ring: the path, which stands behind the first `left` places, closed so many
+/// atoms further.
 #[cycle(search)]
 pub fn ring_along(
     near: &Neighbours,
@@ -226,7 +228,8 @@ fn ring_over(
     )
 }
 
-// Tells whether the stamps let a path end here that is closed `left` bonds further, and has a bond without a mark or finds one.
+// Tells whether the stamps let a path end here that is closed `left` bonds further, and has a bond
+// without a mark or finds one.
 fn leads_on(here: Spot, stamp: usize, left: usize, open: bool) -> bool {
     if left == 3 {
         return here.three_open == stamp || here.three == stamp && open;

@@ -9,7 +9,8 @@ use crate::six_rings::closes_ring;
 use crate::steps::{numbers_of, step_over};
 use mk_model::{Edge, Neighbours};
 
-/// Marks bonds that close a six-ring with the bonds that are marked so far. Tells whether there was one.
+/// Marks bonds that close a six-ring with the bonds that are marked so far. Tells whether there was
+/// one.
 pub fn mark_round(
     near: &Neighbours,
     atoms: u32,
@@ -71,8 +72,9 @@ fn mark_at(
     found
 }
 
-// Marks bonds of this type that begin at the start and close a six-ring. The stamps are made once for all of them: where a bond
-// was marked meanwhile they tell too little, and another round follows.
+// Marks bonds of this type that begin at the start and close a six-ring. The stamps are made once
+// for all of them: where a bond was marked meanwhile they tell too little, and another round
+// follows.
 fn mark_from(
     near: &Neighbours,
     bonds: &[Edge],

@@ -9,8 +9,9 @@ ghost use Rattle.mk_rings.specs.SixRings.{CanClose, ClosesBy, ClosesRing, NotAmo
 use crate::steps::{Step, numbers_of, step_over};
 use mk_model::{Edge, Neighbours};
 
-/// Tells whether a six-ring that takes the labels goes through an unmarked bond. The stamps tell from which atoms the bond's first
-/// atom is reached, with the marks as they are; where they tell it with fewer marks, a ring may be missed.
+/// Tells whether a six-ring that takes the labels goes through an unmarked bond. The stamps tell
+/// from which atoms the bond's first atom is reached, with the marks as they are; where they tell
+/// it with fewer marks, a ring may be missed.
 pub fn closes_ring(
     near: &Neighbours,
     bonds: &[Edge],
@@ -49,7 +50,8 @@ pub fn closes_ring(
     )
 }
 
-// Tells whether the path, which stands behind the first `left` places, can be closed so many atoms further.
+// Tells whether the path, which stands behind the first `left` places, can be closed so many atoms
+// further.
 #[cycle(search)]
 fn can_close(
     near: &Neighbours,

@@ -1,5 +1,5 @@
-// Marks that spread: where a bond was just marked, the six-rings through it that have a bond without a mark are looked for, so
-// that few rounds are left.
+// Marks that spread: where a bond was just marked, the six-rings through it that have a bond
+// without a mark are looked for, so that few rounds are left.
 ghost use Rattle.std.specs.Prelude.{◌≡◌, ◌≤◌, ◌<◌, ◌+◌, ◌⊎◌, ℕ, IfSome, IsTrue, length, slice_index};
 ghost use Rattle.mk_model.specs.Aromatic.{Takes};
 ghost use Rattle.mk_model.specs.Edges.{AreBetween, Joins, rows_of};
@@ -17,8 +17,8 @@ pub const NOWHERE: Spot = Spot {
     three_open: 0,
 };
 
-/// Marks what follows from the bonds that are marked and not told yet, unless these are many: then another round is cheaper. The
-/// queue has room for as many numbers as there are bonds.
+/// Marks what follows from the bonds that are marked and not told yet, unless these are many: then
+/// another round is cheaper. The queue has room for as many numbers as there are bonds.
 pub fn spread(
     near: &Neighbours,
     atoms: u32,
@@ -56,7 +56,8 @@ pub fn spread(
     }
 }
 
-// Tells whether the bonds that are marked and not told are more than a third of those that may still be.
+// Tells whether the bonds that are marked and not told are more than a third of those that may
+// still be.
 fn are_many(bonds: &[Edge], marks: &[bool], told: &[bool]) -> bool
     requires marks { length marks.now ≡ length bonds.now }
     requires told { length told.now ≡ length bonds.now }
@@ -74,7 +75,8 @@ fn are_many(bonds: &[Edge], marks: &[bool], told: &[bool]) -> bool
     new.saturating_mul(3) >= open
 }
 
-// Puts the places of the bonds that are marked and not told into the queue, and gives the index behind them.
+// Puts the places of the bonds that are marked and not told into the queue, and gives the index
+// behind them.
 fn gather(marks: &[bool], told: &[bool], queue: &mut [usize]) -> usize
     requires told { length told.now ≡ length marks.now }
     ensures queue { AllBelow (length marks.now) queue.old → AllBelow (length marks.now) queue.new }
@@ -90,7 +92,8 @@ fn gather(marks: &[bool], told: &[bool], queue: &mut [usize]) -> usize
     tail
 }
 
-// Marks the rings through a bond, one after another, and puts the bonds that are new into the queue. Gives the index behind them.
+// Marks the rings through a bond, one after another, and puts the bonds that are new into the
+// queue. Gives the index behind them.
 fn spread_from(
     near: &Neighbours,
     atoms: u32,
@@ -146,7 +149,8 @@ fn spread_from(
     tail
 }
 
-// Marks the bonds of a ring, if the atoms are one whose bonds take the labels, and puts those that are new into the queue.
+// Marks the bonds of a ring, if the atoms are one whose bonds take the labels, and puts those that
+// are new into the queue.
 fn mark_ring(
     near: &Neighbours,
     atoms: u32,

@@ -1,6 +1,7 @@
 -- SDfiles: a relation between a whole list of lines and records.
 --     IsSdfile lines records        the lines are the records of an SDfile, in order
---     IsBadSdfileLine lines k       line k is the first that no SDfile can have behind the lines before it
+--     IsBadSdfileLine lines k       line k is the first that no SDfile can have behind the lines
+--                                   before it
 --     IsV3000Line lines k           line k says V3000, and a counts line is due there
 --     HasOneValue, HasBadLine, HasOneBadLine     three laws of it
 --     TextIsItsRecord               and one of the texts of records
@@ -24,7 +25,8 @@ use Rattle.mk_sdfile.specs.declared.raw_record.RawRecord.{RawRecord}
 abbrev pub is_separator : Line → Bool
 is_separator line = starts_with nat_eq line (codes "$$$$")
 
--- A molfile and data lines, which are any lines that are no separator. The record's text are these lines as they are kept.
+-- A molfile and data lines, which are any lines that are no separator. The record's text are these
+-- lines as they are kept.
 pub record IsRecord (lines : List Line) (of : RawRecord) : Type 0 where
   pub molfile_lines : List Line
   pub data_lines : List Line
@@ -54,7 +56,8 @@ pub record IsSdfile (lines : List Line) (records : List RawRecord) : Type 0 wher
 
 -- ---- the line that is named
 
--- line k is the first that no SDfile can have behind the lines before it, or one more than the number of lines
+-- line k is the first that no SDfile can have behind the lines before it, or one more than the
+-- number of lines
 abbrev pub IsBadSdfileLine : List Line → ℕ → Type 0
 IsBadSdfileLine lines k = IsBadLine IsSdfile lines k
 
@@ -85,7 +88,8 @@ HasBadLine = (lines : List Line) → ((k : ℕ) × IsBadSdfileLine lines k) ↔ 
 abbrev pub HasOneBadLine : Type 0
 HasOneBadLine = (lines : List Line) (j k : ℕ) → IsBadSdfileLine lines j → IsBadSdfileLine lines k → j ≡ k
 
--- The text of a record is an SDfile of that one record, with its table and with the same text, where no symbol and no range
--- text of the table ends with CR: those alone are lost with the CR bytes at the ends of lines.
+-- The text of a record is an SDfile of that one record, with its table and with the same text,
+-- where no symbol and no range text of the table ends with CR: those alone are lost with the CR
+-- bytes at the ends of lines.
 abbrev pub TextIsItsRecord : Type 0
 TextIsItsRecord = (text : List ℕ) (records : List RawRecord) → IsSdfile (lines_of text) records → All (λ r. KeepsItsText r.table → IsSdfile (lines_of r.text) (r ∷ [])) records

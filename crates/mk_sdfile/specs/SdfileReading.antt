@@ -2,7 +2,8 @@
 --     steps n                 an SDfile of no more than n blocks before its last one
 --     sdfile_part             an SDfile of any number of blocks
 --     sdfile_at lines         what reading the lines to the last gives
---     farther_fault           the fault of lines that are neither blank lines alone nor begin with a block
+--     farther_fault           the fault of lines that are neither blank lines alone nor begin with
+--                             a block
 use Rattle.std.specs.Prelude.{ℕ, zero, suc, max, List, [], ◌∷◌, ◌++◌, Option, Some, None}
 use Rattle.mk_form.specs.Either.{either}
 use Rattle.mk_form.specs.Exact.{Part}
@@ -31,7 +32,8 @@ blanks_part = seen_as (λ _. []) (lines_to_end are_blank)
 abbrev pub record_of : RawTable → List Line → RawRecord
 record_of table lines = record { table = table; text = kept_lines lines }
 
--- the record of a molfile with its lines and of data lines, and the records behind its separator, if it has one
+-- the record of a molfile with its lines and of data lines, and the records behind its separator,
+-- if it has one
 abbrev pub records_of : RawTable × List Line → List Line × Option (List RawRecord) → List RawRecord
 records_of m (data_lines, None) = record_of m.0 (m.1 ++ data_lines) ∷ []
 records_of m (data_lines, Some records) = record_of m.0 (m.1 ++ data_lines) ∷ records
@@ -44,7 +46,8 @@ after_molfile behind m = seen_as (records_of m) (up_to is_separator behind)
 abbrev pub block_part : Part Line (List RawRecord) → Part Line (List RawRecord)
 block_part behind = sequence (with_lines molfile) (after_molfile behind)
 
--- Blank lines, or a block and then the same again. The first lines of a text may be both, and then the farther stop counts.
+-- Blank lines, or a block and then the same again. The first lines of a text may be both, and then
+-- the farther stop counts.
 abbrev pub file_part : Part Line (List RawRecord) → Part Line (List RawRecord)
 file_part behind = either blanks_part (block_part behind)
 
@@ -63,8 +66,8 @@ sdfile_at = sdfile_part.read
 
 -- ---- the faults of readers
 
--- Blank lines go on to the first line that isn't blank, and a block to the line that its fault names. A line that says V3000
--- isn't blank, so it is no nearer.
+-- Blank lines go on to the first line that isn't blank, and a block to the line that its fault
+-- names. A line that says V3000 isn't blank, so it is no nearer.
 abbrev pub farther_fault : ℕ → TableFault → TableFault
 farther_fault first (Bad k) = Bad (max k first)
 farther_fault first (V3000 k) = V3000 k

@@ -1,7 +1,10 @@
--- What the readers of an SDfile answer that go from one line to the next. It serves their code alone.
---     AnswersFirst lines at answer       the number of the first line that isn't blank, from the line of index `at` on
+-- What the readers of an SDfile answer that go from one line to the next. It serves their code
+-- alone.
+--     AnswersFirst lines at answer       the number of the first line that isn't blank, from the
+--                                        line of index `at` on
 --     IsDataEnd text at found            where the data lines from the line of index `at` on end
---     AnswersBlock text at answer        the record of the block that begins there, and where the next block begins
+--     AnswersBlock text at answer        the record of the block that begins there, and where the
+--                                        next block begins
 use Rattle.std.specs.Prelude.{◌≡◌, ℕ, ◌+◌, ◌≤◌, ◌<◌, true, false, List, [], ◌∷◌, length, drop, slice_index_or, slice_range, Option, Some, None, MatchOption, Result, Ok, Err}
 use Rattle.mk_form.specs.Reading.{Took, StopsAtLine, and_then}
 use Rattle.mk_form.specs.ToEnd.{EachIs, read_all}
@@ -29,7 +32,8 @@ pub record IsSeparatorAt (text : List ℕ) (end : ℕ) (next : LineStart) : Type
   pub behind : next.line ≡ end + 1
   pub start : IsLineStart text next
 
--- from the line of index `at` on no line is a separator, up to the one where the data lines end; that one is, or none is left
+-- from the line of index `at` on no line is a separator, up to the one where the data lines end;
+-- that one is, or none is left
 pub record IsDataEnd (text : List ℕ) (at : ℕ) (found : DataEnd) : Type 0 where
   pub order : at ≤ found.end.line
   pub start : IsLineStart text found.end

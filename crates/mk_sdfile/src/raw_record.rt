@@ -2,8 +2,8 @@
 use mk_ctab::RawTable;
 use mk_text::{Bytes, Listed};
 
-/// The table of a record, and the record's text: its lines before the separator, without the CR bytes at their ends, and each
-/// with LF behind it.
+/// The table of a record, and the record's text: its lines before the separator, without the CR
+/// bytes at their ends, and each with LF behind it.
 #[derive(Debug, Drop)]
 pub struct RawRecord {
     pub table: RawTable,

@@ -66,7 +66,8 @@ fn data_from(text: &[u8], from: LineStart) -> DataEnd
     }
 }
 
-// The record of the block that begins there, and where the next block begins, if a separator stands behind this one.
+// The record of the block that begins there, and where the next block begins, if a separator stands
+// behind this one.
 fn block_from(
     alloc: Global,
     text: &[u8],
@@ -85,7 +86,8 @@ fn block_from(
     Ok((record, data.next))
 }
 
-// The fault of lines that are neither blank lines alone nor begin with a block, where `first` is the first that isn't blank.
+// The fault of lines that are neither blank lines alone nor begin with a block, where `first` is
+// the first that isn't blank.
 fn farther(first: usize, fault: TableFault) -> TableFault
     ensures { result ≡ farther_fault first fault }
 {
@@ -118,8 +120,8 @@ fn records_from(alloc: Global, text: &[u8]) -> Result<RawRecords, TableFault>
     Ok(Listed::of(records))
 }
 
-/// Reads the records of an SDfile, in the order of the file. A file of blank lines alone, or of no lines, has none. Lines
-/// count from 1, in the whole text.
+/// Reads the records of an SDfile, in the order of the file. A file of blank lines alone, or of no
+/// lines, has none. Lines count from 1, in the whole text.
 pub fn read_sdfile(alloc: Global, text: &[u8]) -> Result<RawRecords, TableFault>
     ensures sdfile { IfOk result (IsSdfile (lines_of text.now)) }
     ensures bad { IfBad result (IsBadSdfileLine (lines_of text.now)) }

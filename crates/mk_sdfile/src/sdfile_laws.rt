@@ -1,7 +1,8 @@
 // Laws of SDfiles, carried by functions that do nothing.
 ghost use Rattle.mk_sdfile.specs.Sdfile.{HasOneValue, HasBadLine, HasOneBadLine, TextIsItsRecord};
 
-/// Lines are one SDfile at most, with one list of records, and they have one bad line exactly where they are none.
+/// Lines are one SDfile at most, with one list of records, and they have one bad line exactly where
+/// they are none.
 pub fn sdfile_is_exact()
     ensures one { HasOneValue }
     ensures bad { HasBadLine }

@@ -228,7 +228,8 @@ fn texts_of_records_are_their_kept_lines(rt: HostRuntime) -> Result<(), Fail> {
     Ok(())
 }
 
-// Three records with data items, the first with lines of an Sgroup. The second and the third have blank header lines.
+// Three records with data items, the first with lines of an Sgroup. The second and the third have
+// blank header lines.
 static LINES: [&str; 77] = [
     "chlorobenzene",
     "  example",

@@ -1,5 +1,6 @@
 -- For the code: expansions that are kept.
---     IsKept query expansion       the graph is the expansion of the query by the code, with what it asks for in numbers
+--     IsKept query expansion       the graph is the expansion of the query by the code, with what
+--                                  it asks for in numbers
 use Rattle.mk_model.specs.Expansions.{IsExpansion}
 use Rattle.mk_model.specs.Queries.{QueryView}
 use Rattle.mk_match.specs.Asked.{AreAsked}

@@ -1,9 +1,11 @@
 -- Laws of keys and pages, over rows of molecules.
 --     NoHeldKeyBeginsAnother     no key is a proper prefix of another
 --     KeysAreShort               a key has at most 513 numbers
---     PlacesAreShort             the place behind a page has at most 514, where the one before it has
+--     PlacesAreShort             the place behind a page has at most 514, where the one before it
+--                                has
 --     OnePageFromAPlace          there is one page
---     PageAndOthersAreAll        a page's keys and those from its place on are all keys that remained
+--     PageAndOthersAreAll        a page's keys and those from its place on are all keys that
+--                                remained
 use Rattle.std.specs.Prelude.{◌≡◌, ◌≤◌, ℕ, List, [], ◌++◌, length}
 use Rattle.mk_text.specs.Rising.{IsRisingListOfAll}
 use Rattle.mk_model.specs.Keys.{IsKey, Remains}

@@ -22,8 +22,8 @@ pub struct Expansion {
 
 /// The expansion by a code, out of those that are kept where it is the first of them.
 ///
-/// Each record is searched by the same codes in the same order. What is used is put behind the others, so the next to be used
-/// stands in front.
+/// Each record is searched by the same codes in the same order. What is used is put behind the
+/// others, so the next to be used stands in front.
 pub fn expansion_by(
     alloc: Global,
     query: &Query,

@@ -1,14 +1,14 @@
 //! Keys: where a query is found in the molecules of a shelf, page by page.
 //!
-//! Callers use one promise. `page` gives the first so many keys that aren't below a place, in rising
-//! order, and the place behind them (`IsPage` in `specs/Pages.antt`). What a key is stands in
-//! mk_model's `specs/Keys.antt`, and the order in mk_text's `specs/Rising.antt`. `least_hit` gives the
-//! least of them, and `least_key_of` is the plain program on one molecule.
+//! Callers use one promise. `page` gives the first so many keys that aren't below a place, in
+//! rising order, and the place behind them (`IsPage` in `specs/Pages.antt`). What a key is stands
+//! in mk_model's `specs/Keys.antt`, and the order in mk_text's `specs/Rising.antt`. `least_hit`
+//! gives the least of them, and `least_key_of` is the plain program on one molecule.
 //!
 //! A page goes from record to record, from code to code and from hit to hit. The hits of one
 //! expansion are listed by one search; each code is looked for anew from the place behind the last,
-//! which takes no memory. The expansions that were made last are kept for the next record. A molecule
-//! with too few atoms of an element isn't searched.
+//! which takes no memory. The expansions that were made last are kept for the next record. A
+//! molecule with too few atoms of an element isn't searched.
 //!
 //! How codes, expansions and hits are found is left to mk_choice, mk_expand and mk_match.
 #![tactic(auto)]

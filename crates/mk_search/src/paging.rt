@@ -50,7 +50,8 @@ pub fn least_hit<L: Ledger>(
     Ok(keys.pop())
 }
 
-// The place behind keys: the last of them followed by 0, or the place before them where there are none.
+// The place behind keys: the last of them followed by 0, or the place before them where there are
+// none.
 fn behind_keys(alloc: Global, place: &[u32], keys: &[Key]) -> Result<Place, Memory>
     ensures { IfOk result (λ behind. behind ≡ place_behind place.now keys.now) }
 {

@@ -1,6 +1,7 @@
 -- How rows stand in the file.
 --     stored_place place            the bytes that a place is stored as
---     IsRecordRow columns row       the columns are those of the record, and so for a query and a cursor
+--     IsRecordRow columns row       the columns are those of the record, and so for a query and a
+--                                   cursor
 --     IsNext rows next              the rows say that this is the next number
 use Rattle.std.specs.Prelude.{◌≡◌, ℕ, pos, List, [], ◌∷◌, ◌++◌}
 use Rattle.std.specs.Int.{bytes_high_first}

@@ -68,7 +68,8 @@ pub fn load<S: Alter>(alloc: Global, connection: &mut Connection<S>) -> Result<T
     Ok(tables)
 }
 
-/// Makes all changes of the batch in order. After a failure the transaction is dropped, and none of them is made.
+/// Makes all changes of the batch in order. After a failure the transaction is dropped, and none of
+/// them is made.
 pub fn commit<S: Alter>(
     alloc: Global,
     connection: &mut Connection<S>,

@@ -21,8 +21,8 @@ pub struct SqlKeeper<S: Alter = FileStore<File>> {
 }
 
 impl SqlKeeper {
-    /// Opens the file, or makes it, without checksums of the library's own. Where that fails the keeper is shut, and
-    /// each call answers why.
+    /// Opens the file, or makes it, without checksums of the library's own. Where that fails the
+    /// keeper is shut, and each call answers why.
     #[tactic(auto, using(crate::proofs::FailsLemmas::answered_ok))]
     pub fn at(rt: &HostRuntime, path: &str) -> SqlKeeper
         ensures faults { result.faults ≡ 0 }

@@ -155,7 +155,8 @@ fn a_file_keeps_what_memory_keeps(rt: HostRuntime) -> Result<(), Fail> {
     Ok(())
 }
 
-// Whether a batch fails of which the last change alone is refused, since another query has its name.
+// Whether a batch fails of which the last change alone is refused, since another query has its
+// name.
 fn is_refused<K: Keeper>(keeper: &mut K, alloc: Global) -> Result<bool, AllocError> {
     let record = record(alloc, b"ab")?;
     let query = query(alloc, 4)?;

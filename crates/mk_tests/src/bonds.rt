@@ -6,7 +6,8 @@ ghost use Rattle.mk_model.specs.Tests.{asked_kind, meets, takes_kind, takes_topo
 
 use mk_model::{Graph, GraphBond, Mol, MolBond};
 
-/// Tells whether a bond of the molecule joins the atoms a and b and meets the test of bond q of the graph.
+/// Tells whether a bond of the molecule joins the atoms a and b and meets the test of bond q of the
+/// graph.
 pub fn bond_fits(graph: &Graph, q: u32, mol: &Mol, a: u32, b: u32) -> bool
     requires bond_least { 1 ≤ q }
     requires bond_most { q ≤ length graph.now.bonds }
@@ -30,7 +31,8 @@ fn bond_meets(asked: GraphBond, bond: MolBond) -> bool
     is_kind_taken(kind_asked(asked), bond) && is_topology_taken(asked.topology, bond)
 }
 
-// The type that a bond of a graph asks for: in the graph's aromatic set 1 and 2 ask for an aromatic bond.
+// The type that a bond of a graph asks for: in the graph's aromatic set 1 and 2 ask for an aromatic
+// bond.
 fn kind_asked(asked: GraphBond) -> u8
     ensures { result ≡ asked_kind asked }
 {
@@ -40,7 +42,8 @@ fn kind_asked(asked: GraphBond) -> u8
     asked.kind
 }
 
-// 1 single, 2 double, 3 triple, 4 aromatic, 5 single or double, 6 single or aromatic, 7 double or aromatic, 8 any.
+// 1 single, 2 double, 3 triple, 4 aromatic, 5 single or double, 6 single or aromatic, 7 double or
+// aromatic, 8 any.
 fn is_kind_taken(kind: u8, bond: MolBond) -> bool
     ensures { result ≡ takes_kind kind bond }
 {

@@ -16,7 +16,8 @@ pub fn radical_meets(asked: u8, radical: u8) -> bool
     asked == 0 || asked == radical
 }
 
-/// The hydrogens are as many as the column asks for, where so many are drawn and so many ends are free.
+/// The hydrogens are as many as the column asks for, where so many are drawn and so many ends are
+/// free.
 pub fn hydrogens_meet(column: u8, drawn: usize, free: u32, count: usize) -> bool
     ensures { result ≡ hydrogens_fit column drawn free count }
 {

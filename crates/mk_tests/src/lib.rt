@@ -1,11 +1,12 @@
 //! The tests that a query puts: what its atoms and its bonds ask of those of a molecule.
 //!
-//! Callers use two promises. `atom_fits` tells whether an atom of a graph accepts an atom of a molecule, and `bond_fits`
-//! whether a bond of the molecule joins two atoms and meets the test of a bond of the graph, by the definitions of mk_model
-//! (`specs/Fitting.antt` and `specs/Tests.antt` there).
+//! Callers use two promises. `atom_fits` tells whether an atom of a graph accepts an atom of a
+//! molecule, and `bond_fits` whether a bond of the molecule joins two atoms and meets the test of a
+//! bond of the graph, by the definitions of mk_model (`specs/Fitting.antt` and `specs/Tests.antt`
+//! there).
 //!
-//! Neither takes memory, and neither looks at more than the bonds of one atom on each side. Counts are made only where their
-//! column asks for them. Which atoms are tried is left to the matcher.
+//! Neither takes memory, and neither looks at more than the bonds of one atom on each side. Counts
+//! are made only where their column asks for them. Which atoms are tried is left to the matcher.
 #![tactic(auto)]
 
 mod atoms;

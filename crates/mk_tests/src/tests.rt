@@ -1,5 +1,5 @@
-// Small queries on small molecules: what is asked of the first atom, and of a bond. The shorthand is that of
-// docs/TESTING.md, "Tables of tests".
+// Small queries on small molecules: what is asked of the first atom, and of a bond. The shorthand
+// is that of docs/TESTING.md, "Tables of tests".
 use crate::{atom_fits, bond_fits};
 use mk_fixtures::{
     asked_atoms, asked_bonds, elements_of, graph_of, graph_of_sketch, mol_of, mol_of_sketch,
@@ -31,7 +31,8 @@ const SF5: &str = "S F F F F F | 1-2 1-3 1-4 1-5 1-6";
 const SF6: &str = "S F F F F F F | 1-2 1-3 1-4 1-5 1-6 1-7";
 
 const SF7: &str = "S F F F F F F F | 1-2 1-3 1-4 1-5 1-6 1-7 1-8";
-// a carbon in no ring, in a triangle with a tail, in two squares, in two triangles, and with five ring bonds
+// a carbon in no ring, in a triangle with a tail, in two squares, in two triangles, and with five
+// ring bonds
 const TAIL: &str = "C C C C | 1-2 2-3 2-4 3-4";
 
 const TRIANGLE: &str = "C C C C | 1-2 1-3 1-4 2-3";
@@ -60,7 +61,8 @@ enum Column {
     Unsaturated,
 }
 
-// The column of the first atom, its value, the free ends, the query, the molecule, and whether the first atom fits.
+// The column of the first atom, its value, the free ends, the query, the molecule, and whether the
+// first atom fits.
 static COLUMNS: [(Column, i8, u32, &str, &str, bool); 81] = [
     (Column::Hydrogens, 0, 0, C, CH3, true),
     (Column::Hydrogens, 0, 0, CH, C, true),
@@ -235,7 +237,8 @@ fn kinds(rt: HostRuntime) -> Result<(), Fail> {
 // Benzene with a tail: a single, a double, a triple bond, and one of type 4.
 const TAILED: &str = "C C C C C C C C C C | 1-2 1=6 2=3 3-4 4=5 5-6 6-7 7=8 8#9 9:10";
 
-// The ends of a single, a double and a triple bond, and of aromatic ones of type 1, 2 and 4. Then two atoms without one.
+// The ends of a single, a double and a triple bond, and of aromatic ones of type 1, 2 and 4. Then
+// two atoms without one.
 const ENDS: [(u32, u32); 7] = [(6, 7), (7, 8), (8, 9), (1, 2), (1, 6), (9, 10), (1, 3)];
 
 // The type and the topology of a query bond, and which of these bonds it takes.
@@ -277,7 +280,8 @@ fn aromatic_queries(rt: HostRuntime) -> Result<(), Fail> {
     Ok(())
 }
 
-// The bond of the query takes those of the bonds that are 1 in the text, in either order of their ends.
+// The bond of the query takes those of the bonds that are 1 in the text, in either order of their
+// ends.
 fn takes_these(graph: &Graph, q: u32, mol: &Mol, text: &str) -> Result<bool, Fail> {
     for ((a, b), want) in ENDS.iter().zip(text.as_bytes()) {
         let takes = *want == b'1';

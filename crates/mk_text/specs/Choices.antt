@@ -1,7 +1,8 @@
 -- Choices of numbers from 1 on.
 --     choices n k             all lists of k numbers from 1 to n, in rising order
 --     IsChoice n k xs         the list is k numbers from 1 to n
---     ChoicesThatPass         those that pass a test, in that order, are the rising list of all that do
+--     ChoicesThatPass         those that pass a test, in that order, are the rising list of all
+--                             that do
 use Rattle.std.specs.Prelude.{◌≡◌, ℕ, ◌≤◌, zero, suc, Bool, true, List, [], ◌∷◌, length, map, filter}
 use Rattle.std.specs.List.{flat_map, range_with_len, AllByRecursion}
 use Rattle.mk_text.specs.Rising.{IsRisingListOfAll}

@@ -1,7 +1,8 @@
 -- Items of a list by their numbers, which count from 1, and the least item at which a demand fails.
 --     OfItem P xs item                 P holds of the item of this number, where there is one
 --     IsLeastFailing Demand item       the demand fails at this item, and holds at every lower one
---     FindsLeast Demand found          the least item at which the demand fails, or none where it fails at none
+--     FindsLeast Demand found          the least item at which the demand fails, or none where it
+--                                      fails at none
 use Rattle.std.specs.Prelude.{◌≡◌, ◌<◌, ◌≤◌, ◌-◌, ℕ, List, Option, Some, None, slice_get}
 
 -- P holds of the item of this number, where there is one

@@ -21,7 +21,8 @@ kept_lines lines = text_of (map without_crs lines)
 
 -- ---- laws
 
--- the lines of the kept text are the lines without the CR bytes at their ends, where none holds an LF, as no line of a text does
+-- the lines of the kept text are the lines without the CR bytes at their ends, where none holds an
+-- LF, as no line of a text does
 abbrev pub KeptLinesAreRead : Type 0
 KeptLinesAreRead =
     (lines : List (List ℕ)) → All (λ line. ¬ (Contains line 10)) lines → lines_of (kept_lines lines) ≡ map without_crs lines

@@ -1,5 +1,6 @@
 -- The lines of a text, the text of lines, and the words of a line.
---     pieces text             what stands between the LF bytes; after an LF at the end of the text stands nothing
+--     pieces text             what stands between the LF bytes; after an LF at the end of the text
+--                             stands nothing
 --     lines_of text           the pieces, each without one CR at its end
 --     text_of lines           the lines, each with LF behind it
 --     EndsWith c bytes        the last byte is this one

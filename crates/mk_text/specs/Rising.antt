@@ -1,9 +1,11 @@
 -- Lists of numbers in order, and lists of them that rise.
---     IsBelow xs ys                      xs stands before ys: number by number, a proper prefix before what it begins
+--     IsBelow xs ys                      xs stands before ys: number by number, a proper prefix
+--                                        before what it begins
 --     Rises lists                        each list is below all that follow it
 --     Holds lists xs                     xs is one of the lists
 --     IsRisingListOfAll P lists          the rising list of all lists of numbers that have P
---     IsLeastFrom front P found          the least list that has P and isn't below the front, or none
+--     IsLeastFrom front P found          the least list that has P and isn't below the front, or
+--                                        none
 --     AreFirst most P lists              the first so many lists that have P, in rising order
 --     place_behind place lists           the place behind the last of the lists
 --     joined_with behind lists           each list with each of those that stand behind it
@@ -51,15 +53,16 @@ IsLeastFrom front P (Some found) = IsLeast front P found
 
 -- ---- the first so many
 
--- Lists that have P, in rising order. Each list that has P is among them, or they are as many as asked for and it is above all of
--- them.
+-- Lists that have P, in rising order. Each list that has P is among them, or they are as many as
+-- asked for and it is above all of them.
 pub record AreFirst (most : ℕ) (P : List ℕ → Type 0) (lists : List (List ℕ)) : Type 0 where
   pub rises : Rises lists
   pub each : (xs : List ℕ) → Holds lists xs → P xs
   pub few : length lists ≤ most
   pub others : (xs : List ℕ) → P xs → Holds lists xs ⊎ ((length lists ≡ most) × Each (λ ys. IsBelow ys xs) lists)
 
--- the place behind a list is the list with 0 behind it; the place behind no list is the place before it
+-- the place behind a list is the list with 0 behind it; the place behind no list is the place
+-- before it
 abbrev pub place_behind : List ℕ → List (List ℕ) → List ℕ
 place_behind place [] = place
 place_behind place (xs ∷ lists) = place_behind (xs ++ (0 ∷ [])) lists
@@ -114,8 +117,8 @@ RisingFromPlace =
     (place : List ℕ) (lists : List (List ℕ)) → Rises lists
     → (front : List (List ℕ)) × (back : List (List ℕ)) × IsCutAt place lists front back
 
--- Where lists rise and none is a proper prefix of another, and what stands behind each of them rises, all of them joined are in
--- order the rising list of all such.
+-- Where lists rise and none is a proper prefix of another, and what stands behind each of them
+-- rises, all of them joined are in order the rising list of all such.
 abbrev pub JoinedListsRise : Type 0
 JoinedListsRise =
     (behind : List ℕ → List (List ℕ)) (lists : List (List ℕ)) → Rises lists → NoneBeginsAnother lists

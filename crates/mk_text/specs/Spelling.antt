@@ -1,6 +1,7 @@
 -- Numbers as they are written in columns.
 --     right_in width n             the decimal text of n at the right of so many columns
---     signed_right_in width z      its text, behind a minus sign where it is below 0, at their right
+--     signed_right_in width z      its text, behind a minus sign where it is below 0, at their
+--                                  right
 use Rattle.std.specs.Prelude.{◌≡◌, ℕ, ◌+◌, ◌-◌, ◌^◌, ◌<◌, ◌≤◌, List, ◌∷◌, ◌++◌, length, replicate, decimal, Some, ℤ, pos, negsuc, suc}
 use Rattle.mk_text.specs.Fields.{field_of}
 

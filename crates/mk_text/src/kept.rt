@@ -34,7 +34,8 @@ pub fn kept_lines_between(
     requires order { from.line ≤ to.line }
     ensures { IfOk result (λ kept. kept.items ≡ kept_lines (slice_range (lines_of text.now) from.line to.line)) }
 {
-    // Without their CR bytes the lines take no more room than they have, but for an LF behind the last.
+    // Without their CR bytes the lines take no more room than they have, but for an LF behind the
+    // last.
     let room = to.byte.saturating_sub(from.byte) + 1;
     let mut kept = Vec::with_capacity(alloc, room)?;
     let mut at = from;

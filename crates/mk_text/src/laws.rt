@@ -11,14 +11,16 @@ pub fn field_is_exact()
     ensures { FieldsAreRead }
 {}
 
-/// The lines of a text hold no LF, and there are no more of them than bytes. Whole lines are the lines of their text.
+/// The lines of a text hold no LF, and there are no more of them than bytes. Whole lines are the
+/// lines of their text.
 pub fn lines_are_read()
     ensures no_lf { LinesHoldNoLf }
     ensures few { LinesAreFew }
     ensures again { TextOfLinesIsRead }
 {}
 
-/// The lines of a kept text are the lines without the CR bytes at their ends, and keeping it again changes nothing.
+/// The lines of a kept text are the lines without the CR bytes at their ends, and keeping it again
+/// changes nothing.
 pub fn kept_lines_stay()
     ensures lines { KeptLinesAreRead }
     ensures same { KeptLinesStay }
@@ -44,7 +46,8 @@ pub fn none_before_place_behind()
     ensures { NoneBeforePlaceBehind }
 {}
 
-/// Rising lists with rising lists behind them rise, where none of the first is a proper prefix of another.
+/// Rising lists with rising lists behind them rise, where none of the first is a proper prefix of
+/// another.
 pub fn joined_lists_rise()
     ensures { JoinedListsRise }
 {}

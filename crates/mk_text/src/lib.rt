@@ -1,10 +1,12 @@
-//! Texts: their lines and words, the columns of a line, the numbers in them, and lists of numbers in order.
+//! Texts: their lines and words, the columns of a line, the numbers in them, and lists of numbers
+//! in order.
 //!
-//! The readers above use one promise. A column range is a numeric field with a number exactly as `IsField` in
-//! `specs/Fields.antt` says, over the lines of `specs/Lines.antt`; `field` gives that number, or None exactly where there
-//! is none. What is said everywhere of lists of numbers, that one is below another and that a list rises, stands in
-//! `specs/Rising.antt`, the least item at which a demand fails in `specs/Items.antt`, and what is kept of lines in
-//! `specs/KeptLines.antt`; the laws are in `laws`. Lemmas for the crates above stand in `proofs/ForCallers.antt`.
+//! The readers above use one promise. A column range is a numeric field with a number exactly as
+//! `IsField` in `specs/Fields.antt` says, over the lines of `specs/Lines.antt`; `field` gives that
+//! number, or None exactly where there is none. What is said everywhere of lists of numbers, that
+//! one is below another and that a list rises, stands in `specs/Rising.antt`, the least item at
+//! which a demand fails in `specs/Items.antt`, and what is kept of lines in `specs/KeptLines.antt`;
+//! the laws are in `laws`. Lemmas for the crates above stand in `proofs/ForCallers.antt`.
 //!
 //! Which columns hold what isn't known here: see `mk_ctab`.
 #![tactic(auto)]

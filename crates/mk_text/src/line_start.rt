@@ -21,7 +21,8 @@ pub fn first_line(text: &[u8]) -> LineStart
     LineStart { line: 0, byte: 0 }
 }
 
-/// Where the line of this index begins, or the text's end where all lines are before it. Indexes count from 0.
+/// Where the line of this index begins, or the text's end where all lines are before it. Indexes
+/// count from 0.
 pub fn start_of_line(text: &[u8], lines: &[Span], at: usize) -> LineStart
     requires lines { parts text.now lines.now ≡ lines_of text.now }
     requires starts { BeginLines text.now lines.now }

@@ -1,4 +1,5 @@
-// Calls that may want memory, once each with enough of it, and fields whose values were worked out by hand.
+// Calls that may want memory, once each with enough of it, and fields whose values were worked out
+// by hand.
 use crate::{Bytes, Span, field, kept_lines, lines, put_number, words};
 use std::test::Fail;
 

@@ -1,4 +1,5 @@
-// The valid codes of drawn queries, from fronts of every kind on, beside those of the plain program.
+// The valid codes of drawn queries, from fronts of every kind on, beside those of the plain
+// program.
 use crate::code_rows::{CODES, FRONTS};
 use crate::drawn_queries::query_of;
 use crate::plain_codes::{structural_codes, valid_codes};

@@ -29,7 +29,8 @@ pub fn marks_of(bonds: &[GraphBond]) -> (usize, usize) {
     (rings, aromatic)
 }
 
-/// The graph is what is drawn: the same atoms in order, and the same bonds by rising ends, with those marked that lie in a ring.
+/// The graph is what is drawn: the same atoms in order, and the same bonds by rising ends, with
+/// those marked that lie in a ring.
 pub fn is_as_drawn(
     alloc: Global,
     query: &Query,

@@ -1,4 +1,5 @@
-// Drawings: atoms and bonds by names, of which some atoms are slots. Those of a template are put in under fresh names.
+// Drawings: atoms and bonds by names, of which some atoms are slots. Those of a template are put in
+// under fresh names.
 use mk_model::{Memory, Slot, Template};
 use std::alloc::Global;
 
@@ -26,7 +27,8 @@ impl Placed {
     }
 }
 
-/// An end of a bond: an atom's name, and whether the end faces the second neighbour of a slot there.
+/// An end of a bond: an atom's name, and whether the end faces the second neighbour of a slot
+/// there.
 #[derive(Clone, Copy)]
 pub struct End {
     pub name: u32,
@@ -114,7 +116,8 @@ impl Drawing {
         Ok(())
     }
 
-    /// The bonds: the places of the lower and of the higher end counted from 1, the type, the topology.
+    /// The bonds: the places of the lower and of the higher end counted from 1, the type, the
+    /// topology.
     pub fn bonds(&self, alloc: Global) -> Result<Vec<(u32, u32, u8, u8)>, Memory> {
         let mut bonds = Vec::new(alloc);
         for line in &self.lines {

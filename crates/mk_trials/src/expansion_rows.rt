@@ -71,8 +71,8 @@ const RING_ON_LINK: Drawn<'static> = Drawn {
     groups: &[],
 };
 
-// A name, a query, a code, what it becomes, the free ends of the first atoms (none behind), and how many bonds are ring bonds and
-// in the aromatic set.
+// A name, a query, a code, what it becomes, the free ends of the first atoms (none behind), and how
+// many bonds are ring bonds and in the aromatic set.
 pub static EXPANSIONS: [(&str, Drawn<'static>, &[u32], &str, &[u32], (usize, usize)); 27] = [
     (
         "no slots",

@@ -24,7 +24,8 @@ fn queries_have_their_expansions(rt: HostRuntime) -> Result<(), Fail> {
     Ok(())
 }
 
-// Queries with everything that a template can hold, by every structural code, of which each has at most 200.
+// Queries with everything that a template can hold, by every structural code, of which each has at
+// most 200.
 static QUERIES: [(&str, Drawn<'static>); 4] = [
     (
         "a link between sites of two groups, in a ring",

@@ -1,9 +1,10 @@
-//! Tests that cross crates: queries are drawn as texts, and what becomes of them is compared with plain programs. It serves tests
-//! alone, and nothing stands on it.
+//! Tests that cross crates: queries are drawn as texts, and what becomes of them is compared with
+//! plain programs. It serves tests alone, and nothing stands on it.
 //!
-//! A drawn query is read and compiled as one of a file (`drawn_queries`). Its valid codes, from every kind of front on, are those
-//! that `plain_codes` finds: it lists all structural codes and keeps those that the rule on logic allows. Its expansions are those
-//! that `drawings` makes: it replaces one slot of a drawing after another. Both are slow, and written from docs/MEANING.md,
+//! A drawn query is read and compiled as one of a file (`drawn_queries`). Its valid codes, from
+//! every kind of front on, are those that `plain_codes` finds: it lists all structural codes and
+//! keeps those that the rule on logic allows. Its expansions are those that `drawings` makes: it
+//! replaces one slot of a drawing after another. Both are slow, and written from docs/MEANING.md,
 //! "Generic queries", and from nothing else.
 //!
 //! What is promised of codes and expansions is proved in mk_choice and mk_expand.

@@ -1,9 +1,10 @@
-// The plain program on codes: all structural codes of a query, and those that the rule on logic allows. It is written from
-// docs/MEANING.md, "Structural codes" and "Logic and valid codes".
+// The plain program on codes: all structural codes of a query, and those that the rule on logic
+// allows. It is written from docs/MEANING.md, "Structural codes" and "Logic and valid codes".
 use mk_model::{Group, Memory, Query, Slot};
 use std::alloc::Global;
 
-/// All structural codes of the root in rising order, where there are at most so many; else the first of them.
+/// All structural codes of the root in rising order, where there are at most so many; else the
+/// first of them.
 pub fn structural_codes(alloc: Global, query: &Query, most: u32) -> Result<Vec<Vec<u32>>, Memory> {
     let mut codes = Vec::new(alloc);
     let mut numbers = Vec::new(alloc);
@@ -45,7 +46,8 @@ fn complete(alloc: Global, query: &Query, numbers: &mut Vec<u32>) -> Result<(), 
     Ok(())
 }
 
-// Adds 1 to the last number that isn't the greatest of its slot, and drops those behind it. False where all are the greatest.
+// Adds 1 to the last number that isn't the greatest of its slot, and drops those behind it. False
+// where all are the greatest.
 fn count_up(alloc: Global, query: &Query, numbers: &mut Vec<u32>) -> Result<bool, Memory> {
     for _ in 0..512 {
         let Some(last) = numbers.pop() else {
@@ -126,7 +128,8 @@ fn greatest(query: &Query, slot: Slot) -> usize {
     }
 }
 
-// Where the group has a site, and no group names it or one that does has a filled site, so many are filled as its range says.
+// Where the group has a site, and no group names it or one that does has a filled site, so many are
+// filled as its range says.
 fn is_group_met(groups: &[Group], sites: &[Standing], g: u8) -> bool {
     let Some(group) = groups.get((g as usize).saturating_sub(1)) else {
         return true;

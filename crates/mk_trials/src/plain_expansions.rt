@@ -1,5 +1,5 @@
-// The plain program on expansions: a drawing in which the first slot is replaced by what a number makes of it, until no number is
-// left. It is written from docs/MEANING.md, "Expansions".
+// The plain program on expansions: a drawing in which the first slot is replaced by what a number
+// makes of it, until no number is left. It is written from docs/MEANING.md, "Expansions".
 use crate::drawings::{Drawing, Placed};
 use crate::plain_codes::member_at;
 use crate::plain_links::repeated;

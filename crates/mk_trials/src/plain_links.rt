@@ -1,9 +1,11 @@
-// What becomes of a link in a drawing. It is written from docs/MEANING.md, "Templates and slots" and "Expansions".
+// What becomes of a link in a drawing. It is written from docs/MEANING.md, "Templates and slots"
+// and "Expansions".
 use crate::drawings::{Drawing, Line, Placed, atom_count, end_at};
 use mk_model::{Memory, QueryBond, Template};
 use std::alloc::Global;
 
-// Copies of the block of a link. Copy j of the block's atom x has the name `names + (j - 1) * size + x`.
+// Copies of the block of a link. Copy j of the block's atom x has the name
+// `names + (j - 1) * size + x`.
 #[derive(Drop)]
 struct Copies {
     base: u32,
@@ -29,7 +31,8 @@ impl Copies {
     }
 }
 
-/// The link becomes so many copies of its block, each joined to the next as the link is to its first neighbour.
+/// The link becomes so many copies of its block, each joined to the next as the link is to its
+/// first neighbour.
 pub fn repeated(
     alloc: Global,
     drawing: &Drawing,
@@ -78,7 +81,8 @@ fn put_atom(all: &mut Drawing, copies: &Copies, atom: Placed, count: u32) -> Res
     Ok(())
 }
 
-// A bond inside the block stands so many times. Any other that ends at the link ends at its first copy or its last one.
+// A bond inside the block stands so many times. Any other that ends at the link ends at its first
+// copy or its last one.
 fn put_line(
     all: &mut Drawing,
     copies: &Copies,
@@ -125,7 +129,8 @@ fn put_chain(
     Ok(())
 }
 
-// For each atom from 0 on whether it hangs together with a link once its bonds to two neighbours are taken away.
+// For each atom from 0 on whether it hangs together with a link once its bonds to two neighbours
+// are taken away.
 fn block_of(
     alloc: Global,
     template: &Template,
