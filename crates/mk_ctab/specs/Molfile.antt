@@ -21,11 +21,11 @@ pub record IsMolfile (lines : List Line) (table : RawTable) : Type 0 where
   pub three : length header_lines ≡ 3
   pub is : IsTable table_lines table
 
--- a counts line is due behind the three header lines
+-- the lines are the three header lines, behind which a counts line is due
 abbrev pub AreHeaders : List Line → Type 0
 AreHeaders lines = length lines ≡ 3
 
--- the composed part
+-- three header lines, and behind them a table
 abbrev pub molfile_part : Part Line RawTable
 molfile_part = sequence (any_lines 3) (λ _. table_form)
 
@@ -33,6 +33,6 @@ molfile_part = sequence (any_lines 3) (λ _. table_form)
 unfoldable pub molfile_at : List Line → Reading Line RawTable
 molfile_at = molfile_part.read
 
--- The form of molfiles.
+-- The form of molfiles: a counts line is due behind three header lines.
 abbrev pub molfile : Part Line RawTable
 molfile = form IsMolfile AreHeaders molfile_at

@@ -14,7 +14,7 @@ pub record IsWithin (low high z : ℤ) : Type 0 where
 abbrev pub IsAtom : ℕ → ℤ → Type 0
 IsAtom atoms z = IsWithin (pos 1) (pos atoms) z
 
--- the number, where one below 0 counts as 0
+-- the number, or 0 where it is below 0
 abbrev pub natural : ℤ → ℕ
 natural (pos n) = n
 natural (negsuc n) = 0

@@ -11,7 +11,7 @@ use Rattle.mk_props.specs.declared.property.Property.{Property}
 use Rattle.mk_props.specs.declared.property.Property.TheVariants as kinds
 use Rattle.mk_ctab.specs.Numbers.{IsAtom, IsWithin}
 
--- each pair is for an atom
+-- each pair is for one of so many atoms
 abbrev pub AreForAtoms : ℕ → List Pair → Type 0
 AreForAtoms atoms pairs = All (λ pair. IsAtom atoms pair.atom) pairs
 

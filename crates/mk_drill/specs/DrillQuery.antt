@@ -72,13 +72,13 @@ group_lines =
     ∷ codes "$END MOL"
     ∷ []
 
--- each line with LF behind it
+-- the text of the drill's query file: each line with LF behind it
 unfoldable pub query_text : List ℕ
 query_text = text_of (root_lines ++ group_lines)
 
 -- ---- the query
 
--- the query is the one of that file
+-- the query is the one of the drill's query file
 pub record IsDrillQuery (query : QueryView) : Type 0 where
   pub raw : RawQuery
   pub read : IsQueryFile (lines_of query_text) raw

@@ -70,7 +70,7 @@ Demands records next (Remove number) one_record = ⊤
 Demands records next (Remove number) molecules = ⊤
 Demands records next (Remove number) kept_limits = ⊤
 
--- every demand is met, and these are the changes
+-- every demand on the edit is met, and these are its changes
 pub record IsAllowed (records : List RecordRow) (next : ℕ) (edit : Edit) (changes : List Change) : Type 0 where
   pub met : (demand : Demand) → Demands records next edit demand
   pub are : AreChanges next edit changes

@@ -47,13 +47,13 @@ pub record IsSame (a b : LibraryView) : Type 0 where
   pub rows : b.rows ≡ a.rows
   pub next_record : b.next_record ≡ a.next_record
 
--- the number is held and not below `from`, and so is none below it
+-- the number is the least that is held and not below `from`
 pub record IsLeastHeld (from : ℕ) (records : List RecordRow) (n : ℕ) : Type 0 where
   pub held : is_held n records ≡ true
   pub not_below : from ≤ n
   pub least : (other : ℕ) → from ≤ other → is_held other records ≡ true → n ≤ other
 
--- no number is held from there on
+-- no number is held that isn't below `from`
 abbrev pub NoneHeld : ℕ → List RecordRow → Type 0
 NoneHeld from records = (n : ℕ) → from ≤ n → is_held n records ≡ false
 

@@ -22,7 +22,7 @@ most_bytes = 134217728
 abbrev pub most_number : ℕ
 most_number = 999999999
 
--- the number of a record can be kept
+-- the number of the record is at most 999,999,999
 abbrev pub HasKnownNumber : RecordRow → Type 0
 HasKnownNumber row = row.number ≤ most_number
 

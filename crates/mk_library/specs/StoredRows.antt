@@ -23,7 +23,7 @@ pub record HasPlace (next : ℕ) (before : List RecordRow) (row : RecordRow) : T
   pub bytes : text_bytes before + length row.text ≤ most_bytes
   pub short : length row.text ≤ file_bytes + 1
 
--- the row may stand there, and its text is that of one record which is a molecule
+-- the row may stand behind those before it, and its text is that of one record which is a molecule
 pub record Reads (next : ℕ) (before : List RecordRow) (row : RecordRow) : Type 0 where
   pub place : HasPlace next before row
   pub text : IsRecordText row.text

@@ -57,7 +57,7 @@ pub record IsSpan (text : List ℕ) (n m : ℕ) : Type 0 where
   pub first : IsNumeral front n
   pub second : IsNumeral rest m
 
--- an item and its numbers
+-- the text is one item of a range, and these are its numbers
 pub data IsRangeItem (text : List ℕ) (interval : Interval) : Type 0 where
   -- `n` is n alone
   one_number : (n : ℕ) → IsNumeral text n → interval ≡ from_to n n → IsRangeItem text interval

@@ -80,7 +80,7 @@ unfoldable pub chained : QueryBond → ℕ → ℕ → List QueryBond
 chained bond x n =
     map (λ j. record { first = x + j; second = x + j + 1; kind = bond.kind; topology = bond.topology }) (numbers_to n)
 
--- the bond where so many atoms stand in front
+-- the bond with so many atoms put in front: the numbers of its ends rise by as many
 abbrev pub shifted : ℕ → QueryBond → QueryBond
 shifted by bond = record { first = by + bond.first; second = by + bond.second; kind = bond.kind; topology = bond.topology }
 

@@ -43,11 +43,11 @@ count_at edge test bonds n = count_by (λ bond. touches n (edge bond) && test bo
 abbrev pub is_hydrogen : List Atom → ℕ → Bool
 is_hydrogen atoms n = passes_at (λ atom. atom.element == 1) atoms n
 
--- the bonds of atom m that lead to a hydrogen
+-- how many bonds of atom m lead to a hydrogen
 abbrev pub hydrogens_at : Molecule → ℕ → ℕ
 hydrogens_at mol m = count_at edge_of (λ bond. is_hydrogen mol.atoms (other_end m (edge_of bond))) mol.bonds m
 
--- the bonds of atom m that lead to another atom
+-- how many bonds of atom m lead to an atom other than hydrogen
 abbrev pub others_at : Molecule → ℕ → ℕ
 others_at mol m = count_at edge_of (λ bond. not (is_hydrogen mol.atoms (other_end m (edge_of bond)))) mol.bonds m
 
@@ -70,11 +70,11 @@ is_hydrogen_kind _ = false
 abbrev pub is_drawn_hydrogen : List GraphAtom → ℕ → Bool
 is_drawn_hydrogen atoms n = passes_at (λ atom. is_hydrogen_kind atom.test.kind) atoms n
 
--- the bonds of atom x that lead to a drawn hydrogen
+-- how many bonds of atom x lead to a drawn hydrogen
 abbrev pub drawn_hydrogens : GraphView → ℕ → ℕ
 drawn_hydrogens graph x = count_at graph_edge (λ bond. is_drawn_hydrogen graph.atoms (other_end x (graph_edge bond))) graph.bonds x
 
--- the bonds of atom x that lead to another atom
+-- how many bonds of atom x lead to an atom that is no drawn hydrogen
 abbrev pub drawn_others : GraphView → ℕ → ℕ
 drawn_others graph x = count_at graph_edge (λ bond. not (is_drawn_hydrogen graph.atoms (other_end x (graph_edge bond)))) graph.bonds x
 

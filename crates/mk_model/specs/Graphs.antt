@@ -22,7 +22,7 @@ pub record GraphView : Type 0 where
 abbrev pub graph_edge : GraphBond → Edge
 graph_edge bond = record { first = bond.first; second = bond.second; kind = bond.kind }
 
--- the bonds without their tests and marks
+-- the bonds of a graph without their tests and marks
 abbrev pub graph_edges : List GraphBond → List Edge
 graph_edges bonds = map graph_edge bonds
 
@@ -46,7 +46,8 @@ pub record IsUnmarked (seen : GraphView) : Type 0 where
   pub lower_first : All (λ bond. bond.first < bond.second) seen.bonds
   pub order : AllPairs IsBefore seen.bonds
 
--- what every `Graph` keeps: these conditions, and the marks of its bonds are right
+-- what every `Graph` keeps: the conditions of a graph without its marks, and each bond has the
+-- marks of the definitions
 pub record IsGraph (seen : GraphView) : Type 0 where
   pub sketch : IsUnmarked seen
   pub marks : (b : ℕ) (bond : GraphBond) → slice_get seen.bonds b ≡ Some bond → HasGraphMarks (graph_edges seen.bonds) b bond

@@ -24,7 +24,7 @@ use Rattle.mk_model.specs.Codes.Choice.{done, repeated, unfilled, filled}
 abbrev pub is_in_range : List Interval → ℕ → Bool
 is_in_range range n = list_any (λ interval. nat_le interval.least n && nat_le n interval.most) range
 
--- the group of number g
+-- the group is that of number g, counted from 1
 abbrev pub IsGroupAt : QueryView → ℕ → Group → Type 0
 IsGroupAt query g group = (1 ≤ g) × (slice_get query.groups (g - 1) ≡ Some group)
 

@@ -17,15 +17,15 @@ pub record Molecule : Type 0 where
   pub atoms : List Atom
   pub bonds : List MolBond
 
--- a bond without its marks
+-- a bond of a molecule without its marks
 abbrev pub edge_of : MolBond → Edge
 edge_of bond = record { first = bond.first; second = bond.second; kind = bond.kind }
 
--- the bonds without their marks
+-- the bonds of a molecule without their marks
 abbrev pub edges : List MolBond → List Edge
 edges bonds = map edge_of bonds
 
--- an element's number
+-- the number is the atomic number of an element
 abbrev pub IsElement : ℕ → Type 0
 IsElement z = (1 ≤ z) × (z ≤ 118)
 

@@ -53,7 +53,8 @@ pub record IsLink (template : TemplateView) (most atom from to : ℕ) : Type 0 w
   pub differ : from ≢ to
   pub alike : AreAlike template atom from to
 
--- a slot stands at an atom; a link is one as above, and the labels of a site are from 1 to 32
+-- a slot stands at an atom of the template; a link may stand at least twice, between two neighbours
+-- to which its bonds are alike; the labels of a site are from 1 to 32
 abbrev pub IsSlotOf : TemplateView → Slot → Type 0
 IsSlotOf template (Link atom most from to) = IsAtomOf template atom × IsLink template most atom from to
 IsSlotOf template (Site atom group first second) =
@@ -167,7 +168,7 @@ pub record HasMembersOnce (query : QueryView) : Type 0 where
 
 -- ---- all
 
--- what every `Query` keeps
+-- the twelve facts that every `Query` keeps
 pub record QueryFits (query : QueryView) : Type 0 where
   pub in_range : AreInRange query
   pub pairs_once : All HasPairsOnce query.templates

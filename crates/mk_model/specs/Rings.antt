@@ -7,7 +7,7 @@ use Rattle.std.specs.Prelude.{◌≡◌, ◌≢◌, ℕ, List, [], ◌∷◌, So
 use Rattle.mk_model.specs.declared.edge.Edge.{Edge}
 use Rattle.mk_model.specs.Edges.{Joins}
 
--- over the bond at this place, to this atom
+-- a step of a way: over the bond at this place, to this atom
 pub record Step : Type 0 where
   pub bond : ℕ
   pub to : ℕ

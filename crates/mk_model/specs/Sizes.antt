@@ -36,7 +36,7 @@ size_of_slot query size template (Link atom most from to) =
 size_of_slot query size template (Site atom group first second) =
     1 + max (greatest size (members_at query (Site atom group first second))) (neighbour_count (Site atom group first second))
 
--- 1 for each fixed atom, and what the slots add
+-- the size of a template: 1 for each fixed atom, and what its slots add
 abbrev pub size_by : QueryView → (ℕ → ℕ) → TemplateView → ℕ
 size_by query size template = count_by (is_fixed template) (atom_numbers template) + sum_by (size_of_slot query size template) template.slots
 

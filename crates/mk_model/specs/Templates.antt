@@ -34,7 +34,7 @@ neighbour_count (Site atom group first second) = if second == 0 then 1 else 2
 abbrev pub query_edge : QueryBond → Edge
 query_edge bond = record { first = bond.first; second = bond.second; kind = bond.kind }
 
--- the bonds without their topologies
+-- the bonds of a template without their topologies
 abbrev pub query_edges : List QueryBond → List Edge
 query_edges bonds = map query_edge bonds
 
@@ -59,8 +59,8 @@ abbrev pub bonds_without : Slot → List QueryBond → List QueryBond
 bonds_without (Link atom most from to) bonds = filter (λ bond. not (joins atom from bond || joins atom to bond)) bonds
 bonds_without (Site atom group first second) bonds = bonds
 
--- Atom x belongs to the block of a link: what hangs together with it once its bonds to those two
--- neighbours are taken away. A site has no block.
+-- Atom x belongs to the block of a link: what hangs together with it once its bonds to the two
+-- neighbours that it names are taken away. A site has no block.
 abbrev pub is_in_block : TemplateView → Slot → ℕ → Bool
 is_in_block template (Link atom most from to) x = hang_together (bonds_without (Link atom most from to) template.bonds) atom x
 is_in_block template (Site atom group first second) x = false

@@ -86,7 +86,7 @@ abbrev pub substitution_fits : ℤ → ℕ → ℕ → ℕ → Bool
 substitution_fits (pos n) drawn free count = if n == 0 then true else (if n == 6 then nat_le 6 count else count == n)
 substitution_fits (negsuc n) drawn free count = if n == 0 then count == 0 else nat_le drawn count && nat_le count (drawn + free)
 
--- where it is asked for, some bond is unsaturated
+-- where an unsaturated bond is asked for, there is one
 abbrev pub unsaturation_fits : Bool → Bool → Bool
 unsaturation_fits asked unsaturated = not asked || unsaturated
 

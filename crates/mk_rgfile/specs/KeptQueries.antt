@@ -36,6 +36,6 @@ KeptLinesAreTheQuery = (lines : List Line) (query : RawQuery) → IsQueryFile li
 abbrev pub KeptLinesAreKept : Type 0
 KeptLinesAreKept = (text : List ℕ) → IsKeptText (kept_lines (lines_of text))
 
--- a text is so exactly where its kept lines are the text
+-- each line of a text ends with LF and without CR exactly where its kept lines are that text
 abbrev pub KeptTextStays : Type 0
 KeptTextStays = (text : List ℕ) → IsKeptText text ↔ (kept_lines (lines_of text) ≡ text)

@@ -18,18 +18,18 @@ columns line a b = standing (line ++ replicate b 32) a b
 abbrev pub is_space : ℕ → Bool
 is_space c = c == 32
 
--- blanks alone, or nothing
+-- the columns are blanks alone, or none
 abbrev pub are_blank : List ℕ → Bool
 are_blank cells = list_all is_space cells
 
--- without the blanks at the front
+-- the text without the blanks at its front
 abbrev pub without_first_blanks : List ℕ → List ℕ
 without_first_blanks cells = drop (prefix_len is_space cells) cells
 
--- without the blanks at the end
+-- the text without the blanks at its end
 abbrev pub without_last_blanks : List ℕ → List ℕ
 without_last_blanks cells = take (length cells - suffix_len is_space cells) cells
 
--- without the blanks at both ends
+-- the text without the blanks at both ends
 abbrev pub trimmed : List ℕ → List ℕ
 trimmed cells = without_last_blanks (without_first_blanks cells)

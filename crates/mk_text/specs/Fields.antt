@@ -21,7 +21,7 @@ sign_text NoSign = []
 sign_text Plus = 43 ∷ []
 sign_text Minus = 45 ∷ []
 
--- the number with this sign
+-- the number n with a sign
 abbrev pub signed : Sign → ℕ → ℤ
 signed NoSign n = pos n
 signed Plus n = pos n

@@ -11,7 +11,7 @@ use Rattle.mk_text.specs.Lines.{lines_of, text_of}
 abbrev pub is_cr : ℕ → Bool
 is_cr c = c == 13
 
--- without the CR bytes at the end
+-- the line without the CR bytes at its end
 abbrev pub without_crs : List ℕ → List ℕ
 without_crs line = take (length line - suffix_len is_cr line) line
 

@@ -20,7 +20,7 @@ abbrev pub pieces : List ℕ → List (List ℕ)
 pieces [] = []
 pieces (c ∷ cs) = if c == 10 then [] ∷ pieces cs else onto_first_piece c (pieces cs)
 
--- without one CR, byte 13, at the end
+-- the bytes without one CR, byte 13, at their end
 abbrev pub without_cr : List ℕ → List ℕ
 without_cr [] = []
 without_cr (c ∷ []) = if c == 13 then [] else c ∷ []
@@ -38,11 +38,11 @@ ended line = line ++ 10 ∷ []
 abbrev pub text_of : List (List ℕ) → List ℕ
 text_of lines = flat_map ended lines
 
--- the last byte is this one
+-- the last of the bytes is c
 abbrev pub EndsWith : ℕ → List ℕ → Type 0
 EndsWith c bytes = (front : List ℕ) × (bytes ≡ front ++ c ∷ [])
 
--- no LF in it, and no CR, byte 13, at its end
+-- the line has no LF in it, and no CR, byte 13, at its end
 pub record IsWholeLine (line : List ℕ) : Type 0 where
   pub no_lf : ¬ (Contains line 10)
   pub no_cr : ¬ (EndsWith 13 line)

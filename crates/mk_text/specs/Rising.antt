@@ -12,7 +12,7 @@
 use Rattle.std.specs.Prelude.{◌≡◌, ℕ, ◌<◌, ◌≤◌, ◌⊎◌, List, [], ◌∷◌, ◌++◌, Option, Some, None, length, map, take, drop}
 use Rattle.std.specs.List.{AllByRecursion, flat_map}
 
--- number by number, a proper prefix before what it begins
+-- xs stands before ys: number by number, and a proper prefix before what it begins
 abbrev pub IsBelow : List ℕ → List ℕ → Type 0
 IsBelow xs [] = ⊥
 IsBelow [] (y ∷ ys) = Unit {0}

@@ -24,8 +24,8 @@ bond_orders_sum kinds = sum_by order kinds + aromatic_orders (count_by (λ kind.
 abbrev pub radical_share : ℕ → ℕ
 radical_share radical = if radical == 0 then 0 else (if radical == 2 then 1 else 2)
 
--- up to the first valence of the row that isn't below the sum; rows rise, so it is the least; none
--- where there is none
+-- how many are wanting from the sum to the first valence of the row that isn't below it, which is
+-- the least, since rows rise; none where there is no such valence
 abbrev pub up_to_valence : ℕ → Option ℕ → ℕ
 up_to_valence total None = 0
 up_to_valence total (Some valence) = valence - total
