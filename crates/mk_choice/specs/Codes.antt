@@ -40,7 +40,7 @@ IsNextOf old (Some code) new = IsNext old new code.now
 
 -- ---- laws
 
--- these are the codes that are left, in rising order
+-- the codes are those that are left, in rising order
 abbrev pub AreLeft : CodesLeft → List (List ℕ) → Type 0
 AreLeft left codes = IsRisingListOfAll (λ code. IsValid left.query code × (IsBelow code left.place → ⊥)) codes
 

@@ -35,7 +35,7 @@ abbrev pub is_end : Property → Bool
 is_end kinds.End = true
 is_end p = false
 
--- there is a property, and it is `M  END`
+-- the property is there, and is `M  END`
 abbrev pub is_some_end : Option Property → Bool
 is_some_end (Some p) = is_end p
 is_some_end None = false

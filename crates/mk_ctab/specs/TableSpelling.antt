@@ -36,7 +36,7 @@ three z = signed_right_in 3 z
 abbrev pub spaced : ℤ → List ℕ
 spaced z = codes " " ++ three z
 
--- how many there are, in three columns
+-- the length of a list, at the right of three columns
 abbrev pub count_text : {X : Type 0} → List X → List ℕ
 count_text xs = three (pos (length xs))
 
@@ -130,7 +130,7 @@ property_line kinds.End = end_line
 
 -- ---- tables
 
--- all lines in order
+-- the lines of a table, in the order of the format
 abbrev pub table_lines : RawTable → List Line
 table_lines table =
     counts_line table ∷ (map atom_line table.atoms ++ (map bond_line table.bonds ++ (map numbers_line table.lists ++ (map property_line table.props ++ end_line ∷ []))))

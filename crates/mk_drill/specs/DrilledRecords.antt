@@ -26,7 +26,7 @@ use Rattle.mk_drill.specs.Draws.{drilled_table, state_for}
 unfoldable pub drilled_text : RawTable → List ℕ
 drilled_text table = codes "\n\n\n" ++ spelling table
 
--- what is kept of its lines
+-- the text of a table's record: what is kept of the table's lines
 unfoldable pub record_text : RawTable → List ℕ
 record_text table = kept_lines (lines_of (drilled_text table))
 

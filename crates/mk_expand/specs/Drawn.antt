@@ -62,7 +62,7 @@ beside_two x y = if nat_lt x y then y + 1 else y
 abbrev pub end_beside_two : ℕ → ℕ → ℕ → ℕ → ℕ
 end_beside_two x far y z = if (x == y) && (far == z) then y + 1 else beside_two x y
 
--- a bond with its ends there
+-- a bond where two atoms stand in the place of atom x, the second at its neighbour `far`
 abbrev pub moved_beside_two : ℕ → ℕ → QueryBond → QueryBond
 moved_beside_two x far bond =
     record bond { first = end_beside_two x far bond.first bond.second; second = end_beside_two x far bond.second bond.first }

@@ -25,7 +25,7 @@ bare bond = record {
   aromatic = false;
 }
 
--- the drawn bonds are these, in order
+-- the drawn bonds are the bonds as those of a graph, without marks, and stand in order
 pub record HasOrdered (bonds : List QueryBond) (drawn : List GraphBond) : Type 0 where
   pub order : AllPairs IsBefore drawn
   pub each : (d : GraphBond) → Contains drawn d → (bond : QueryBond) × Contains bonds bond × (bare bond ≡ d)

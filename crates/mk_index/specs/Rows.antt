@@ -54,7 +54,7 @@ pub record IsLeastFrom {T : Type 0} (from : ℕ) (rows : List (Numbered T)) (n :
   pub not_below : from ≤ n
   pub least : (other : ℕ) → from ≤ other → holds other rows ≡ true → n ≤ other
 
--- no number is held from there on
+-- no number is held from this one on
 abbrev pub NoneFrom : {T : Type 0} → ℕ → List (Numbered T) → Type 0
 NoneFrom from rows = (n : ℕ) → from ≤ n → holds n rows ≡ false
 

@@ -45,7 +45,7 @@ IsNextOf old (Some hit) new = IsNext old new hit.now
 
 -- ---- laws
 
--- these are the hits that are left, in rising order
+-- the hits are those that are left, in rising order
 abbrev pub AreLeft : MapsLeft → List (List ℕ) → Type 0
 AreLeft left hits = IsRisingListOfAll (λ hit. IsHit left.graph left.mol hit × (IsBelow hit left.place → ⊥)) hits
 
