@@ -5,7 +5,7 @@ use Rattle.std.proofs.lemmas.Bool.{cases_lt}
 use Rattle.mk_text.specs.Items.{FindsLeast}
 use Rattle.mk_ctab.specs.declared.raw.RawTable.{RawTable}
 use Rattle.mk_rgfile.specs.declared.raw_query.RawGroup.{RawGroup}
-use Rattle.mk_query.specs.declared.table_faults.Fault.{Fault}
+use Rattle.mk_query.specs.declared.checking.Fault.{Fault}
 use Rattle.mk_query.specs.FirstFault.{Check, query_atoms, query_bonds, query_properties, element_lists, site_labels, site_places, site_orders, attachment_points, link_atoms, group_logic, number, Demands, Passes, PassesAll, PassesBelow, IsFirstFault, FindsBelow}
 
 -- the check of a number

@@ -1,4 +1,4 @@
--- A raw query that is read has a query that passes every check, or a first fault.
+-- A raw query in range has a query that passes every check, or a first fault.
 --     in_tables, across    what is found in the tables, and across them
 --     fault_or_query       the law
 use Rattle.std.proofs.Common.{◌≡◌, ◌<◌, ◌≤◌, ◌+◌, ◌-◌, ℕ, zero, suc, Bool, true, false, List, [], ◌∷◌, Option, Some, None, refl, sym, ap, subst, ◌∙◌, arith, inl, inr, length, get_or, sum_by, cond, All, ⊎_elim}
@@ -18,12 +18,13 @@ use Rattle.mk_model.proofs.ForCallers.{sizing_of, size_by_rank}
 use Rattle.mk_ctab.specs.declared.raw.RawTable.{RawTable}
 use Rattle.mk_rgfile.specs.declared.raw_query.RawGroup.{RawGroup}
 use Rattle.mk_rgfile.specs.declared.raw_query.RawQuery.{RawQuery}
-use Rattle.mk_rgfile.specs.QueryFacts.{IsRawGroup, IsRawQuery, member_count}
+use Rattle.mk_rgfile.specs.QueryFacts.{member_count}
+use Rattle.mk_query.specs.declared.checking.Fault.{Fault}
 use Rattle.mk_query.specs.declared.compile_fault.FaultAt.{FaultAt}
-use Rattle.mk_query.specs.declared.table_faults.Fault.{Fault}
 use Rattle.mk_query.specs.Compiled.{IsQueryOf, tables_of}
 use Rattle.mk_query.specs.CompileFaults.{FitsAt, FitsTable, IsAcross, IsFirstCompileFault, IsFirstInTables, IsNoCycle, IsSmall, IsWhole, PassAcross, PassChecks, PassEach, across_tables, groups_of_number, in_a_table, points, recursion, size, whole}
 use Rattle.mk_query.specs.FirstFault.{IsFirstFault, PassesAll}
+use Rattle.mk_query.specs.InRange.{IsGroupInRange, IsQueryInRange}
 use Rattle.mk_query.specs.Laws.{FaultOrQuery}
 use Rattle.mk_query.specs.Recursion.{comes_back, leads}
 use Rattle.mk_query.proofs.KnownCheckLemmas.{first_in_table}
@@ -165,14 +166,14 @@ other_number : (k n : ℕ) (b : Bool) → (n == k) ≡ b → n ≤ 32 → 32 < k
 other_number k n true is most past = absurd (let same = eqb-true n k is in omega (arith, same, most, past))
 other_number k n false is most past = rw is refl
 
-numbers_none : (k : ℕ) (groups : List RawGroup) → All IsRawGroup groups → 32 < k → groups_of_number k groups ≡ 0
+numbers_none : (k : ℕ) (groups : List RawGroup) → All IsGroupInRange groups → 32 < k → groups_of_number k groups ≡ 0
 numbers_none k [] all past = refl
 numbers_none k (group ∷ groups) all past =
-    let here = other_number k group.number (group.number == k) refl (All-head IsRawGroup group groups all).to_32 past in
-    let later = numbers_none k groups (All-tail IsRawGroup group groups all) past in
+    let here = other_number k group.number (group.number == k) refl (All-head IsGroupInRange group groups all).to_32 past in
+    let later = numbers_none k groups (All-tail IsGroupInRange group groups all) past in
     omega (arith, here, later, sum_by-cons (λ (g : RawGroup). cond (g.number == k) 1 0) group groups)
 
-module _ (raw : RawQuery) (is : IsRawQuery raw) (passed : PassEach raw) (query : QueryView) (of : IsQueryOf raw query) where
+module _ (raw : RawQuery) (is : IsQueryInRange raw) (passed : PassEach raw) (query : QueryView) (of : IsQueryOf raw query) where
   known_whole : (item : ℕ) → Known (IsWhole raw item)
   known_whole item =
       known_as

@@ -17,10 +17,10 @@ use Rattle.mk_model.specs.Tests.{IsBondInRange}
 use Rattle.mk_model.specs.Templates.{TemplateView, is_in_block, slot_atom}
 use Rattle.mk_ctab.specs.declared.raw.RawTable.{RawTable}
 use Rattle.mk_ctab.specs.Numbers.{byte, natural}
-use Rattle.mk_ctab.specs.TableFacts.{IsRawTable}
 use Rattle.mk_ctab.proofs.ForCallers.{atoms_differ}
 use Rattle.mk_query.specs.Compiled.{IsTemplateOf, ordered_neighbours, points_of, slot_at, slot_with, slots_of}
 use Rattle.mk_query.specs.Drawn.{labels_at, links_at, query_bond, query_bonds}
+use Rattle.mk_query.specs.InRange.{IsTableInRange}
 use Rattle.mk_query.specs.OwnSizes.{IsSized}
 use Rattle.mk_query.specs.Passed.{HasPassed}
 use Rattle.mk_query.specs.Recursion.{HasGroup}
@@ -165,7 +165,7 @@ points_within table template passed is =
 pub has_groups : (table : RawTable) (template : TemplateView) → HasPassed table → IsTemplateOf table template → All HasGroup template.slots
 has_groups table template passed is = by_view (λ (t : TemplateView). All HasGroup t.slots) table template is (slots_have_groups table passed)
 
-pub is_sized : (table : RawTable) (template : TemplateView) → IsRawTable table → HasPassed table → IsTemplateOf table template → IsSized template
+pub is_sized : (table : RawTable) (template : TemplateView) → IsTableInRange table → HasPassed table → IsTemplateOf table template → IsSized template
 is_sized table template raw passed is =
     by_view IsSized table template is
     (record {
@@ -176,7 +176,7 @@ is_sized table template raw passed is =
     })
 
 -- all numbers of the template are in range
-pub in_range : (table : RawTable) (template : TemplateView) → IsRawTable table → HasPassed table → IsTemplateOf table template → IsInRange template
+pub in_range : (table : RawTable) (template : TemplateView) → IsTableInRange table → HasPassed table → IsTemplateOf table template → IsInRange template
 in_range table template raw passed is = record {
   tests = tests_in_range table template.atoms raw passed is.atoms;
   bond_tests = by_view (λ (t : TemplateView). All (λ bond. IsBondInRange bond.kind bond.topology) t.bonds) table template is (bonds_in_range table passed);

@@ -20,11 +20,12 @@ use Rattle.mk_ctab.specs.declared.raw.RawAtom.{RawAtom}
 use Rattle.mk_ctab.specs.declared.raw.RawTable.{RawTable}
 use Rattle.mk_ctab.specs.Charges.{charge_at, charge_of_column, charge_pairs, charges_of, last_or, lists_values, radical_at, radical_of_column, radical_pairs, radicals_of, values_for}
 use Rattle.mk_ctab.specs.Numbers.{IsWithin, natural}
-use Rattle.mk_ctab.specs.TableFacts.{HasSymbols, IsRawTable}
+use Rattle.mk_ctab.specs.TableFacts.{HasSymbols}
 use Rattle.mk_query.specs.Checks.{HasQueryValues, IsQueryProperty, IsRingBondCount}
 use Rattle.mk_query.specs.Compiled.{AreTestsOf, HasElements, IsKindOf, IsTestBy, IsTestDrawn, NameElements, is_not_list, kind_by, no_test, of_any, of_any_heavy, of_element, of_hetero, of_list}
 use Rattle.mk_query.specs.Drawn.{ElementList, all_lists, by_numbers, by_symbols, is_site, list_in_force, listed_atom, lists_at, pairs_by, ring_bonds_of, substitutions_of, symbol_lists, value_at}
 use Rattle.mk_query.specs.FirstFault.{query_properties}
+use Rattle.mk_query.specs.InRange.{IsTableInRange}
 use Rattle.mk_query.specs.Passed.{HasPassed}
 use Rattle.mk_query.specs.SiteChecks.{HasKnownMembers}
 use Rattle.mk_query.proofs.KindLemmas.{last_all, listed_at}
@@ -84,7 +85,7 @@ symbols_short (p ∷ props) all =
     subst (All IsShort) (sym (symbols_first p props))
     (All-append IsShort (lists_of p) (symbol_lists props) (lists_short p (all 0 p (omega arith))) (symbols_short props (λ k d below. all (suc k) d (omega (arith, below)))))
 
-all_short : (table : RawTable) → IsRawTable table → All IsShort (all_lists table)
+all_short : (table : RawTable) → IsTableInRange table → All IsShort (all_lists table)
 all_short table raw =
     All-append IsShort (map by_numbers table.lists) (symbol_lists table.props)
     (All-map IsShort by_numbers table.lists (λ k d below. (let h = raw.numbers k d below in (h.0, omega (arith, h.1))))) (symbols_short table.props raw.symbols)
@@ -92,10 +93,10 @@ all_short table raw =
 by_list : (list : ElementList) (elements : List ℕ) → IsListOfElements elements → IsKindInRange (kind_by list elements)
 by_list list elements right = by_not (is_not_list list) elements right
 
-short_at : (table : RawTable) (x : ℕ) → IsRawTable table → All IsShort (lists_at table x)
+short_at : (table : RawTable) (x : ℕ) → IsTableInRange table → All IsShort (lists_at table x)
 short_at table x raw = All-filter (λ (list : ElementList). eqb (listed_atom list) x) IsShort (all_lists table) (all_short table raw)
 
-kind_right : (table : RawTable) (i : ℕ) (line : RawAtom) (kind : Kind) → IsRawTable table → HasPassed table → slice_get table.atoms i ≡ Some line → IsKindOf (list_in_force table (i + 1)) line.symbol kind → IsKindInRange kind
+kind_right : (table : RawTable) (i : ℕ) (line : RawAtom) (kind : Kind) → IsTableInRange table → HasPassed table → slice_get table.atoms i ≡ Some line → IsKindOf (list_in_force table (i + 1)) line.symbol kind → IsKindInRange kind
 kind_right table i line kind raw passed at (of_element z names is) = rw is (element_of line.symbol z names)
 kind_right table i line kind raw passed at (of_list word list force elements has is) =
     let short : IsShort list = last_all IsShort None (lists_at table (i + 1)) list (λ l e. absurd cc) (short_at table (i + 1) raw) force in
@@ -206,7 +207,7 @@ radical_right table x line passed =
 
 -- ---- tests
 
-drawn_right : (table : RawTable) (i : ℕ) (line : RawAtom) (test : AtomTest) → IsRawTable table → HasPassed table → slice_get table.atoms i ≡ Some line → IsTestDrawn table (i + 1) line test → IsTestInRange test
+drawn_right : (table : RawTable) (i : ℕ) (line : RawAtom) (test : AtomTest) → IsTableInRange table → HasPassed table → slice_get table.atoms i ≡ Some line → IsTestDrawn table (i + 1) line test → IsTestInRange test
 drawn_right table i line test raw passed at drawn =
     let charge : IsCharge test.charge = rw drawn.charge (charge_right table (i + 1) line passed) in
     let radical : IsRadical (pos test.radical) = rw drawn.radical (radical_right table (i + 1) line passed) in
@@ -234,12 +235,12 @@ none_right = record {
   substitution = (omega (arith, ints), omega (arith, ints));
 }
 
-test_right : (table : RawTable) (i : ℕ) (line : RawAtom) (test : AtomTest) (site : Bool) → IsRawTable table → HasPassed table → slice_get table.atoms i ≡ Some line → IsTestBy site table (i + 1) line test → IsTestInRange test
+test_right : (table : RawTable) (i : ℕ) (line : RawAtom) (test : AtomTest) (site : Bool) → IsTableInRange table → HasPassed table → slice_get table.atoms i ≡ Some line → IsTestBy site table (i + 1) line test → IsTestInRange test
 test_right table i line test true raw passed at is = rw is none_right
 test_right table i line test false raw passed at is = drawn_right table i line test raw passed at is
 
 -- the numbers of tests are those that a query may have
-pub tests_in_range : (table : RawTable) (tests : List AtomTest) → IsRawTable table → HasPassed table → AreTestsOf table tests → All IsTestInRange tests
+pub tests_in_range : (table : RawTable) (tests : List AtomTest) → IsTableInRange table → HasPassed table → AreTestsOf table tests → All IsTestInRange tests
 tests_in_range table tests raw passed are k d below =
     let there = atom_line table (k + 1) (omega arith) (omega (arith, below, are.size)) in
     let place : k + 1 - 1 ≡ k = omega arith in

@@ -13,7 +13,7 @@ use Rattle.mk_model.specs.declared.template.QueryBond.{QueryBond}
 use Rattle.mk_model.specs.Edges.{AreBetween, IsBetween, numbers_at, touches}
 use Rattle.mk_model.specs.Templates.{hang_together, query_edge, query_edges}
 use Rattle.mk_model.proofs.ForCallers.{IsNumberOf, numbers_at-each, numbers_at-all, Hangs, hangs, hangs_tested, hangs_on, hangs_by, hangs_back, kept_all, kept_within}
-use Rattle.mk_query.specs.declared.link_ends.LinkEnds.{LinkEnds}
+use Rattle.mk_query.specs.declared.blocks.LinkEnds.{LinkEnds}
 use Rattle.mk_query.specs.BlockSearch.{AreNumbersOf, IsLed, IsLonger, IsReached, KeepReached, LeadsOn, is_own, is_reached, others, unreached}
 
 -- ---- bonds and their numbers

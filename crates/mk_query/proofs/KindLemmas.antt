@@ -11,11 +11,11 @@ use Rattle.mk_model.specs.declared.atom_test.Kind.{Kind}
 use Rattle.mk_ctab.specs.declared.raw.RawAtom.{RawAtom}
 use Rattle.mk_ctab.specs.declared.raw.RawList.{RawList}
 use Rattle.mk_ctab.specs.declared.raw.RawTable.{RawTable}
-use Rattle.mk_query.specs.declared.list_place.ListPlace.{ListPlace}
-use Rattle.mk_query.specs.declared.list_place.ListPlace.TheVariants as place
+use Rattle.mk_query.specs.declared.list_places.ListPlace.{ListPlace}
+use Rattle.mk_query.specs.declared.list_places.ListPlace.TheVariants as place
+use Rattle.mk_query.specs.Checks.{IsElementName, IsQueryWord}
 use Rattle.mk_query.specs.Compiled.{IsKindOf, NameElements, of_list}
 use Rattle.mk_query.specs.Drawn.{ElementList, by_numbers, by_symbols, last_list, list_in_force, lists_at}
-use Rattle.mk_query.specs.Checks.{IsElementName, IsQueryWord}
 use Rattle.mk_query.specs.FirstFault.{element_lists}
 use Rattle.mk_query.specs.KindMarks.{AreKnownAt, IsKindAt, IsKindBy, IsKindFor, IsKindIn, IsPlainSymbol, listed, plain}
 use Rattle.mk_query.specs.ListMarks.{IsPlaceOf}

@@ -31,7 +31,7 @@ use Rattle.mk_logic.specs.RangeReading.{range_of}
 use Rattle.mk_logic.specs.RangeTexts.{IsRangeText}
 use Rattle.mk_logic.proofs.ForCallers.{range_is_read}
 use Rattle.mk_rgfile.specs.declared.raw_query.RawGroup.{RawGroup}
-use Rattle.mk_query.specs.declared.table_faults.Fault.{Fault}
+use Rattle.mk_query.specs.declared.checking.Fault.{Fault}
 use Rattle.mk_query.specs.Checks.{HasQueryType, HasQueryValues, IsElementName, IsQueryAtom, IsQueryBond, IsQueryProperty, IsQueryWord, IsRingBondCount, LeavesFewBonds, NamesItsAtoms}
 use Rattle.mk_query.specs.Drawn.{ElementList, bears_point, by_numbers, by_symbols, drawn_neighbours, is_site, is_site_at, labels_at, links_at, lists_at, query_bonds}
 use Rattle.mk_query.specs.FirstFault.{Check, Demands, IsFirstFault, Passes, PassesAll, PassesBelow, attachment_points, element_lists, group_logic, link_atoms, number, query_atoms, query_bonds as bonds_checked, query_properties, site_labels, site_orders, site_places}

@@ -11,8 +11,8 @@ use Rattle.mk_props.specs.declared.property.Pair.{Pair}
 use Rattle.mk_props.specs.declared.property.Property.{Property}
 use Rattle.mk_ctab.specs.Charges.{values_for}
 use Rattle.mk_ctab.proofs.ForCallers.{values_for-append}
+use Rattle.mk_query.specs.declared.drawn.Labels.{Labels}
 use Rattle.mk_query.specs.Drawn.{labels_at, labels_of, pairs_by}
-use Rattle.mk_query.specs.declared.marks.Labels.{Labels}
 use Rattle.mk_query.specs.Marks.{AreMarks, AreMore, AreServed, IsLabels, is_served}
 use Rattle.mk_query.specs.SiteChecks.{HasMember, IsLabelled}
 use Rattle.mk_query.proofs.MarkLemmas.{TellsOn, more-same}

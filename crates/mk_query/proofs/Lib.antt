@@ -1,4 +1,5 @@
 pub mod AtomLemmas
+pub mod AtomMarkLemmas
 pub mod BlockSearchLemmas
 pub mod BondLemmas
 pub mod CapLemmas
@@ -34,7 +35,6 @@ pub mod RecursionLemmas
 pub mod RootSizesLemmas
 pub mod SiteLemmas
 pub mod SlotMarkLemmas
-pub mod StandingLemmas
 pub mod TableWalkLemmas
 pub mod TemplatePointLemmas
 pub mod TestLemmas

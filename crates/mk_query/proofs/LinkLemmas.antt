@@ -18,19 +18,19 @@ use Rattle.mk_ctab.specs.declared.raw.RawTable.{RawTable}
 use Rattle.mk_ctab.specs.Bonds.{HasTwoEnds}
 use Rattle.mk_ctab.specs.Numbers.{natural}
 use Rattle.mk_ctab.proofs.ForCallers.{atom_within, atoms_differ}
-use Rattle.mk_query.specs.declared.link_ends.LinkEnds.{LinkEnds}
-use Rattle.mk_query.specs.declared.linked.Linked.{Linked}
-use Rattle.mk_query.specs.declared.linked.Linked.TheVariants as linked
-use Rattle.mk_query.specs.declared.standing.Standing.{Standing}
+use Rattle.mk_query.specs.declared.atom_marks.Standing.{Standing}
+use Rattle.mk_query.specs.declared.blocks.LinkEnds.{LinkEnds}
+use Rattle.mk_query.specs.declared.linked_atoms.Linked.{Linked}
+use Rattle.mk_query.specs.declared.linked_atoms.Linked.TheVariants as linked
+use Rattle.mk_query.specs.AtomMarks.{AreStanding}
 use Rattle.mk_query.specs.BlockSearch.{AreNumbersOf, MayHold, is_own, others}
 use Rattle.mk_query.specs.Checks.{IsQueryBond}
 use Rattle.mk_query.specs.Drawn.{bears_point, is_site_at, links_at, query_bond, query_bonds}
 use Rattle.mk_query.specs.LinkChecks.{AreRightLinks, BearsSome, IsInBlock, IsLinkAt}
 use Rattle.mk_query.specs.LinkMarks.{IsLinked}
 use Rattle.mk_query.specs.LinkSearch.{AreRightBy, IsRightBy, IsRightLink, ends_of}
-use Rattle.mk_query.specs.Standings.{AreStanding}
 use Rattle.mk_query.proofs.FollowLemmas.{bond_number, edge_at, number_bond}
-use Rattle.mk_query.proofs.StandingLemmas.{bears_is, link_none, links_are, none_link, site_is}
+use Rattle.mk_query.proofs.AtomMarkLemmas.{bears_is, link_none, links_are, none_link, site_is}
 
 -- ---- among the bonds of an atom
 

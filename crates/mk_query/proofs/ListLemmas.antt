@@ -12,7 +12,7 @@ use Rattle.mk_ctab.specs.declared.raw.RawList.{RawList}
 use Rattle.mk_ctab.specs.declared.raw.RawTable.{RawTable}
 use Rattle.mk_ctab.specs.Numbers.{IsAtom}
 use Rattle.mk_text.specs.Items.{IsLeastFailing}
-use Rattle.mk_query.specs.declared.marks.ListMark.{ListMark}
+use Rattle.mk_query.specs.declared.lists.ListMark.{ListMark}
 use Rattle.mk_query.specs.Drawn.{ElementList, by_numbers, by_symbols, listed_atom, lists_at, symbol_lists}
 use Rattle.mk_query.specs.Marks.{AreMarks, AreMore, HasMore, IsListMark, lists_for}
 use Rattle.mk_query.specs.SiteChecks.{HasKnownMembers, HasLists, IsListed}

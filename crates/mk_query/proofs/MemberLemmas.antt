@@ -14,8 +14,9 @@ use Rattle.std.proofs.lemmas.List.FromFn.{get_or-range_with_len, length-range_wi
 use Rattle.std.proofs.lemmas.List.Sums.{sum_by-cons}
 use Rattle.mk_model.specs.declared.group.Group.{Group}
 use Rattle.mk_rgfile.specs.declared.raw_query.RawGroup.{RawGroup}
-use Rattle.mk_rgfile.specs.QueryFacts.{IsRawGroup, members_in}
+use Rattle.mk_rgfile.specs.QueryFacts.{members_in}
 use Rattle.mk_query.specs.Compiled.{members_from}
+use Rattle.mk_query.specs.InRange.{IsGroupInRange}
 
 -- by whether the group has this number
 by_number : {A : Type 0} (n g : ℕ) (P : A → Type 0) (x y : A) → ((n ≡ g) → P x) → P y → P (cond (n == g) x y)
@@ -161,7 +162,7 @@ size_more next g part parts = by_test (part.number == g)
     by_test false = omega arith
 
 -- over the 32 groups
-sum_members : (next : ℕ) (parts : List RawGroup) → All IsRawGroup parts → sum_range (λ g. length (members_from next g parts)) 1 32 ≡ members_in parts
+sum_members : (next : ℕ) (parts : List RawGroup) → All IsGroupInRange parts → sum_range (λ g. length (members_from next g parts)) 1 32 ≡ members_in parts
 sum_members next [] raw = sum_zeros 1 32
   where
     sum_zeros : (k n : ℕ) → sum_range (λ g. 0) k n ≡ 0
@@ -190,7 +191,7 @@ sum_groups (group ∷ groups) f k each =
       sum_groups groups f (k + 1) (λ i g at. let sum : k + suc i ≡ k + 1 + i = omega arith in each (suc i) g at ∙ ap f sum),
     )
 
-pub members_total : (parts : List RawGroup) (groups : List Group) → All IsRawGroup parts → length groups ≡ 32 → ((i : ℕ) (group : Group) → slice_get groups i ≡ Some group → group.members ≡ members_from 1 (i + 1) parts)
+pub members_total : (parts : List RawGroup) (groups : List Group) → All IsGroupInRange parts → length groups ≡ 32 → ((i : ℕ) (group : Group) → slice_get groups i ≡ Some group → group.members ≡ members_from 1 (i + 1) parts)
     → sum_by (λ (group : Group). length group.members) groups ≡ members_in parts
 members_total parts groups raw size each =
     sum_groups groups (λ g. length (members_from 1 g parts)) 1 (λ i group at. let place : i + 1 ≡ 1 + i = omega arith in ap length (each i group at) ∙ ap (λ (g : ℕ). length (members_from 1 g parts)) place)

@@ -10,8 +10,8 @@ use Rattle.mk_model.specs.Queries.{QueryView}
 use Rattle.mk_ctab.specs.declared.raw.RawTable.{RawTable}
 use Rattle.mk_rgfile.specs.declared.raw_query.RawGroup.{RawGroup}
 use Rattle.mk_rgfile.specs.declared.raw_query.RawQuery.{RawQuery}
+use Rattle.mk_query.specs.declared.checking.Fault.{Fault}
 use Rattle.mk_query.specs.declared.compile_fault.FaultAt.{FaultAt}
-use Rattle.mk_query.specs.declared.table_faults.Fault.{Fault}
 use Rattle.mk_query.specs.Compiled.{IsQueryOf, tables_of}
 use Rattle.mk_query.specs.CompileFaults.{FitsAt, FitsTable, IsAcross, IsFirstCompileFault, IsFirstInTables, IsNoCycle, IsSmall, IsWhole, PassAcross, PassChecks, PassEach, across_tables, in_a_table, points, recursion, size, whole}
 use Rattle.mk_query.specs.FirstFault.{Check, Demands, IsFirstFault, PassesAll}

@@ -16,8 +16,8 @@ use Rattle.mk_ctab.specs.declared.raw.RawAtom.{RawAtom}
 use Rattle.mk_ctab.specs.declared.raw.RawTable.{RawTable}
 use Rattle.mk_ctab.specs.Numbers.{IsAtom, natural}
 use Rattle.mk_ctab.proofs.ForCallers.{atom_is, atom_within}
-use Rattle.mk_query.specs.declared.marks.Near.{Near}
-use Rattle.mk_query.specs.declared.marks.Near.TheVariants as near
+use Rattle.mk_query.specs.declared.drawn.Near.{Near}
+use Rattle.mk_query.specs.declared.drawn.Near.TheVariants as near
 use Rattle.mk_query.specs.Drawn.{drawn_neighbours, is_site, is_site_at}
 use Rattle.mk_query.specs.Marks.{AreMarks, IsNear, site_mark}
 use Rattle.mk_query.specs.OrderSearch.{Gives, IsOrderBy, IsOrderedBy, IsSeen, Names, OrdersNear, names_site}

@@ -5,12 +5,12 @@ use Rattle.std.proofs.Common.{◌≡◌, ◌≤◌, ◌<◌, ◌+◌, ℕ, Bool,
 use Rattle.std.specs.Prelude.{◌⊎◌, ◌↔◌, IsTrue}
 use Rattle.std.proofs.lemmas.Bool.{cases_eq, cases_order, true≢false}
 use Rattle.mk_ctab.specs.declared.raw.RawTable.{RawTable}
-use Rattle.mk_query.specs.declared.standing.Standing.{Standing}
+use Rattle.mk_query.specs.declared.atom_marks.Standing.{Standing}
+use Rattle.mk_query.specs.AtomMarks.{AreStanding, bears}
 use Rattle.mk_query.specs.Drawn.{bears_point, is_site_at}
 use Rattle.mk_query.specs.LinkChecks.{BearsSome, IsPointed}
 use Rattle.mk_query.specs.PointSearch.{IsFirstBearer, IsPointedBy}
-use Rattle.mk_query.specs.Standings.{AreStanding, bears}
-use Rattle.mk_query.proofs.StandingLemmas.{bears_is, link_none, none_link, site_is}
+use Rattle.mk_query.proofs.AtomMarkLemmas.{bears_is, link_none, none_link, site_is}
 
 -- ---- the lowest
 

@@ -23,7 +23,7 @@ use Rattle.mk_ctab.specs.Numbers.{IsWithin, natural}
 use Rattle.mk_logic.specs.RangeTexts.{IsRangeText}
 use Rattle.mk_rgfile.specs.declared.raw_query.RawQuery.{RawQuery}
 use Rattle.mk_query.specs.Checks.{IsElementName, IsQueryWord}
-use Rattle.mk_query.specs.Compiled.{HasElements, IsGroupOf, IsKindOf, IsLogicOf, IsQueryOf, IsTemplateOf, IsTestBy, IsTestOf, NameElements, kind_by, logic_for, members_in, no_test, of_any, of_any_heavy, of_element, of_hetero, of_list, points_of, slots_of, tables_of}
+use Rattle.mk_query.specs.Compiled.{HasElements, IsGroupOf, IsKindOf, IsLogicOf, IsQueryOf, IsTemplateOf, IsTestBy, IsTestOf, NameElements, kind_by, logic_for, members_of_group, no_test, of_any, of_any_heavy, of_element, of_hetero, of_list, points_of, slots_of, tables_of}
 use Rattle.mk_query.specs.CompileFaults.{PassEach}
 use Rattle.mk_query.specs.Drawn.{ElementList, by_numbers, by_symbols, is_site, last_list, list_in_force, lists_at, query_bonds, ring_bonds_of, substitutions_of, unsaturations_of, value_at}
 use Rattle.mk_query.specs.GroupMarks.{HasKnownLogic, IsKnownLogic}
@@ -159,11 +159,11 @@ logic_is g (kinds.Logic first ∷ props) logic all is =
 logic_is g (other ∷ props) logic all is = logic_is g props logic (All-tail HasKnownLogic other props all) is
 
 module _ (raw : RawQuery) (root : HasPassed raw.root) (g : ℕ) where
-  by_logic : (found : Option LogicLine) → logic_for g raw.root.props ≡ found → (group : Group) × (group.members ≡ members_in raw g) × IsLogicOf found group
-  by_logic None is = (record { members = members_in raw g; then_group = 0; rest_hydrogen = false; range = blank_range.0 }, refl, (refl, (refl, blank_range.1)))
+  by_logic : (found : Option LogicLine) → logic_for g raw.root.props ≡ found → (group : Group) × (group.members ≡ members_of_group raw g) × IsLogicOf found group
+  by_logic None is = (record { members = members_of_group raw g; then_group = 0; rest_hydrogen = false; range = blank_range.0 }, refl, (refl, (refl, blank_range.1)))
   by_logic (Some logic) is =
       let known = logic_is g raw.root.props logic (known_logic raw.root root) is in (
-        record { members = members_in raw g; then_group = natural logic.then_group; rest_hydrogen = int_eq logic.rest (pos 1); range = known.range.0 },
+        record { members = members_of_group raw g; then_group = natural logic.then_group; rest_hydrogen = int_eq logic.rest (pos 1); range = known.range.0 },
         refl,
         (of_natural logic.then_group known.then_group.least, (refl, known.range.1)),
       )

@@ -7,8 +7,8 @@ use Rattle.std.proofs.lemmas.List.Elements.{All-cons, All-head, All-nil, All-tai
 use Rattle.std.proofs.lemmas.Option.{slice_get-map, unwrap_or-slice_get}
 use Rattle.mk_ctab.specs.declared.raw.RawAtom.{RawAtom}
 use Rattle.mk_ctab.specs.declared.raw.RawTable.{RawTable}
-use Rattle.mk_query.specs.declared.marks.Near.{Near}
-use Rattle.mk_query.specs.declared.marks.Near.TheVariants as near
+use Rattle.mk_query.specs.declared.drawn.Near.{Near}
+use Rattle.mk_query.specs.declared.drawn.Near.TheVariants as near
 use Rattle.mk_query.specs.Drawn.{drawn_neighbours, is_site, is_site_at}
 use Rattle.mk_query.specs.Marks.{are_apart, AreMarks, IsNear, site_mark}
 use Rattle.mk_query.specs.SiteChecks.{ArePlaced}

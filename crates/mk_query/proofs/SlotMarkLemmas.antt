@@ -17,11 +17,11 @@ use Rattle.mk_ctab.specs.declared.raw.RawAtom.{RawAtom}
 use Rattle.mk_ctab.specs.declared.raw.RawTable.{RawTable}
 use Rattle.mk_ctab.specs.Charges.{last_or}
 use Rattle.mk_ctab.specs.Numbers.{natural}
-use Rattle.mk_query.specs.declared.linked.Linked.{Linked}
-use Rattle.mk_query.specs.declared.linked.Linked.TheVariants as linked
-use Rattle.mk_query.specs.declared.marks.Near.{Near}
-use Rattle.mk_query.specs.declared.marks.Near.TheVariants as near
-use Rattle.mk_query.specs.declared.site_ends.SiteEnds.{SiteEnds}
+use Rattle.mk_query.specs.declared.drawn.Near.{Near}
+use Rattle.mk_query.specs.declared.drawn.Near.TheVariants as near
+use Rattle.mk_query.specs.declared.linked_atoms.Linked.{Linked}
+use Rattle.mk_query.specs.declared.linked_atoms.Linked.TheVariants as linked
+use Rattle.mk_query.specs.declared.site_orders.SiteEnds.{SiteEnds}
 use Rattle.mk_query.specs.Compiled.{atom_placed, neighbours_by, order_for, order_of, ordered_neighbours, rising_neighbours, slot_at, slot_with, slots_at, slots_in, slots_of}
 use Rattle.mk_query.specs.Drawn.{drawn_neighbours, is_site, labels_at, labels_of, links_at, neighbours_at, query_bonds}
 use Rattle.mk_query.specs.FirstFault.{link_atoms, site_labels, site_places}

@@ -17,8 +17,8 @@ use Rattle.mk_ctab.specs.declared.raw.RawTable.{RawTable}
 use Rattle.mk_rgfile.specs.declared.raw_query.RawGroup.{RawGroup}
 use Rattle.mk_rgfile.specs.declared.raw_query.RawQuery.{RawQuery}
 use Rattle.mk_rgfile.specs.QueryFacts.{members_in}
+use Rattle.mk_query.specs.declared.checking.Fault.{Fault}
 use Rattle.mk_query.specs.declared.compile_fault.FaultAt.{FaultAt}
-use Rattle.mk_query.specs.declared.table_faults.Fault.{Fault}
 use Rattle.mk_query.specs.Compiled.{AreTemplatesOf, IsTemplateOf, member_tables, tables_of}
 use Rattle.mk_query.specs.CompileFaults.{IsFirstInTables, PassEach}
 use Rattle.mk_query.specs.FirstFault.{IsFirstFault, PassesAll}

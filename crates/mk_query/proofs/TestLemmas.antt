@@ -20,8 +20,8 @@ use Rattle.mk_ctab.specs.declared.raw.RawTable.{RawTable}
 use Rattle.mk_ctab.specs.Charges.{last_or, values_for}
 use Rattle.mk_ctab.specs.Numbers.{IsWithin, natural}
 use Rattle.mk_ctab.specs.Values.{HasKnownValues, NamesAtoms}
-use Rattle.mk_query.specs.declared.atom_notes.AtomNotes.{AtomNotes}
-use Rattle.mk_query.specs.declared.list_place.ListPlace.{ListPlace}
+use Rattle.mk_query.specs.declared.atom_tests.AtomNotes.{AtomNotes}
+use Rattle.mk_query.specs.declared.list_places.ListPlace.{ListPlace}
 use Rattle.mk_query.specs.Checks.{HasQueryValues, IsQueryAtom, IsQueryProperty, NamesItsAtoms}
 use Rattle.mk_query.specs.Compiled.{AreTestsOf, IsTestBy, IsTestDrawn, IsTestOf, no_test}
 use Rattle.mk_query.specs.Drawn.{is_site, list_in_force, pairs_by, ring_bonds_of, substitutions_of, unsaturations_of, value_at}

@@ -12,9 +12,10 @@ use Rattle.mk_ctab.specs.declared.raw.RawAtom.{RawAtom}
 use Rattle.mk_ctab.specs.declared.raw.RawTable.{RawTable}
 use Rattle.mk_rgfile.specs.declared.raw_query.RawGroup.{RawGroup}
 use Rattle.mk_rgfile.specs.declared.raw_query.RawQuery.{RawQuery}
-use Rattle.mk_rgfile.specs.QueryFacts.{IsRawGroup, IsRawQuery, member_count, members_in}
+use Rattle.mk_rgfile.specs.QueryFacts.{member_count, members_in}
 use Rattle.mk_query.specs.Compiled.{member_tables}
 use Rattle.mk_query.specs.CompileFaults.{IsWhole, groups_of_number}
+use Rattle.mk_query.specs.InRange.{IsGroupInRange, IsQueryInRange}
 use Rattle.mk_query.proofs.TableWalkLemmas.{members_count, members_more}
 
 -- the members of one group more
@@ -26,7 +27,7 @@ members_in-more groups i group at =
 no_number : (g n : ℕ) → n ≤ 32 → 32 < g → (n == g) ≡ false
 no_number g n few above = grind (arith, nat_tests)
 
-none_above : (groups : List RawGroup) (g : ℕ) → 32 < g → All IsRawGroup groups → groups_of_number g groups ≡ 0
+none_above : (groups : List RawGroup) (g : ℕ) → 32 < g → All IsGroupInRange groups → groups_of_number g groups ≡ 0
 none_above [] g above raw = refl
 none_above (group ∷ groups) g above raw =
     let others = none_above groups g above (λ k d below. raw (suc k) d (omega (arith, below))) in
@@ -38,7 +39,7 @@ none_above (group ∷ groups) g above raw =
     counted false e = refl
 
 -- each number stands once, where those up to 32 do
-module _ (raw : RawQuery) (is : IsRawQuery raw) (some : length raw.root.atoms ≢ 0) (once : (g : ℕ) → 1 ≤ g → g ≤ 32 → groups_of_number g raw.groups ≤ 1) where
+module _ (raw : RawQuery) (is : IsQueryInRange raw) (some : length raw.root.atoms ≢ 0) (once : (g : ℕ) → 1 ≤ g → g ≤ 32 → groups_of_number g raw.groups ≤ 1) where
   root_has : raw.root.atoms ≢ []
   root_has none = some (ap (λ (l : List RawAtom). length l) none)
 

@@ -1,5 +1,7 @@
--- The first fault of a raw query: the first check that fails, and the table and the item at which it does.
---     IsFirstInTables raw fault      the first fault of the first table that fails a check of its own
+-- The first fault of a raw query: the first check that fails, and the table and the item at which
+-- it does.
+--     IsFirstInTables raw fault      the first fault of the first table that fails a check of its
+--                                    own
 --     IsAcross raw query fault       the first of the checks across tables that fails
 --     PassChecks raw query           every check passes
 --     IsFirstCompileFault raw fault  the first fault of the raw query
@@ -28,7 +30,7 @@ use Rattle.mk_query.specs.FirstFault.{PassesAll, IsFirstFault}
 abbrev pub PassEach : RawQuery → Type 0
 PassEach raw = (t : ℕ) (table : RawTable) → slice_get (tables_of raw) t ≡ Some table → PassesAll raw.groups (t == 0) table
 
--- the tables before this one pass, and it has this fault
+-- the tables before that of the fault pass, and it has this fault
 pub record IsFirstInTables (raw : RawQuery) (fault : FaultAt) : Type 0 where
   pub table : RawTable
   pub at : slice_get (tables_of raw) fault.table ≡ Some table
@@ -41,13 +43,14 @@ pub record IsFirstInTables (raw : RawQuery) (fault : FaultAt) : Type 0 where
 abbrev pub IsNoCycle : QueryView → ℕ → Type 0
 IsNoCycle query t = (via : List ℕ) → IsChain query t via t → ⊥
 
--- the members of the slot at atom x of table t have as many points as it has neighbours, where a slot stands there
+-- the members of the slot at atom x of table t have as many points as it has neighbours, where a
+-- slot stands there
 abbrev pub FitsAt : QueryView → ℕ → ℕ → Type 0
 FitsAt query t x =
     (template : TemplateView) (slot : Slot) → slice_get query.templates t ≡ Some template → Contains template.slots slot → slot_atom slot ≡ x
     → FitsPoints query slot
 
--- and so at every slot of table t
+-- the members of each slot of table t have as many points as the slot has neighbours
 abbrev pub FitsTable : QueryView → ℕ → Type 0
 FitsTable query t = (x : ℕ) → FitsAt query t x
 
@@ -61,12 +64,12 @@ pub record IsSmall (query : QueryView) : Type 0 where
 abbrev pub groups_of_number : ℕ → List RawGroup → ℕ
 groups_of_number g groups = sum_by (λ group. if group.number == g then 1 else 0) groups
 
--- Groups of one number are one at most.
+-- at most one group has the number g
 abbrev pub IsNumberOnce : RawQuery → ℕ → Type 0
 IsNumberOnce raw g = groups_of_number g raw.groups ≤ 1
 
--- What is asked of the whole: by item 0 that the root has an atom, by an item that is a group's number that no other group has it,
--- and by 4,097 that there are at most 4,096 members.
+-- What is asked of the whole: by item 0 that the root has an atom, by an item that is a group's
+-- number that no other group has it, and by 4,097 that there are at most 4,096 members.
 pub record IsWhole (raw : RawQuery) (item : ℕ) : Type 0 where
   pub root : item ≡ 0 → raw.root.atoms ≢ []
   pub once : item ≢ 0 → IsNumberOnce raw item

@@ -1,6 +1,7 @@
--- The query that a raw query means. Tables count from 0: the root, then the members in the order of the file.
+-- The query that a raw query means. Tables count from 0: the root, then the members in the order of
+-- the file.
 --     tables_of raw              the tables, by their numbers
---     members_in raw g           the numbers of the members of group g
+--     members_of_group raw g     the numbers of the members of group g
 --     IsTestOf table x line test the test of atom x, of which this is the atom line
 --     slots_of table             the sites and links of a table
 --     points_of table            its atoms with attachment point 1 and 2
@@ -51,9 +52,10 @@ members_from next g (group ∷ groups) =
     let later = members_from (next + length group.members) g groups in
     if group.number == g then range_with_len next (length group.members) ++ later else later
 
--- the numbers of the members of group g: the tables of all groups of this number, in the order of the file
-abbrev pub members_in : RawQuery → ℕ → List ℕ
-members_in raw g = members_from 1 g raw.groups
+-- the numbers of the members of group g: the tables of all groups of this number, in the order of
+-- the file
+abbrev pub members_of_group : RawQuery → ℕ → List ℕ
+members_of_group raw g = members_from 1 g raw.groups
 
 -- ---- tests
 
@@ -74,12 +76,13 @@ abbrev pub is_not_list : ElementList → Bool
 is_not_list (by_numbers list) = list.not
 is_not_list (by_symbols list) = list.not
 
--- one of the elements, or none of them
+-- the kind that a list with these elements tells: one of them, or none of them
 abbrev pub kind_by : ElementList → List ℕ → Kind
 kind_by list elements = if is_not_list list then NoneOf elements else OneOf elements
 
--- The kind of an atom of this symbol, where this list is in force for it: an element by its symbol; for `L` the list; for `A` any
--- element but hydrogen, for `Q` any but hydrogen and carbon, for `*` any.
+-- The kind of an atom of this symbol, where this list is in force for it: an element by its symbol;
+-- for `L` the list; for `A` any element but hydrogen, for `Q` any but hydrogen and carbon, for `*`
+-- any.
 pub data IsKindOf (in_force : Option ElementList) (symbol : List ℕ) (kind : Kind) : Type 0 where
   of_element : (z : ℕ) → Names symbol z → kind ≡ Element z → IsKindOf in_force symbol kind
   of_list : symbol ≡ codes "L" → (list : ElementList) → in_force ≡ Some list
@@ -93,7 +96,8 @@ abbrev pub no_test : AtomTest
 no_test =
     record { kind = Anything; charge = pos 0; radical = 0; hydrogens = 0; ring_bonds = pos 0; substitution = pos 0; unsaturated = false }
 
--- The kind, the charge and the radical that hold, the hydrogen column, and what the last property line gives the atom.
+-- The test of atom x that is no site: the kind, the charge and the radical that hold, the hydrogen
+-- column, and what the last property line gives the atom.
 pub record IsTestDrawn (table : RawTable) (x : ℕ) (line : RawAtom) (test : AtomTest) : Type 0 where
   pub kind : IsKindOf (list_in_force table x) line.symbol test.kind
   pub charge : test.charge ≡ charge_at table x line
@@ -103,7 +107,7 @@ pub record IsTestDrawn (table : RawTable) (x : ℕ) (line : RawAtom) (test : Ato
   pub substitution : test.substitution ≡ value_at substitutions_of table x
   pub unsaturated : test.unsaturated ≡ int_eq (value_at unsaturations_of table x) (pos 1)
 
--- no test at a site, whatever its columns say, and else the one that is drawn
+-- the test of atom x: none at a site, whatever its columns say, and else the one that is drawn
 abbrev pub IsTestBy : Bool → RawTable → ℕ → RawAtom → AtomTest → Type 0
 IsTestBy true table x line test = test ≡ no_test
 IsTestBy false table x line test = IsTestDrawn table x line test
@@ -145,11 +149,13 @@ abbrev pub neighbours_by : Option (List Pair) → List ℕ → ℕ × ℕ
 neighbours_by (Some entries) neighbours = (atom_placed 1 entries, atom_placed 2 entries)
 neighbours_by None neighbours = rising_neighbours neighbours
 
--- the neighbours of the site at atom x in their order: the order of an `M  AAL`, and else by rising atom
+-- the neighbours of the site at atom x in their order: the order of an `M  AAL`, and else by rising
+-- atom
 abbrev pub ordered_neighbours : RawTable → ℕ → ℕ × ℕ
 ordered_neighbours table x = neighbours_by (order_for x table.props) (drawn_neighbours table x)
 
--- the slot of atom x by the links and the labels that stand there, and its neighbours in their order
+-- the slot of atom x by the links and the labels that stand there, and its neighbours in their
+-- order
 abbrev pub slot_with : ℕ → List LinkEntry → List ℤ → ℕ × ℕ → Option Slot
 slot_with x (link ∷ links) labels both = Some (Link x (natural link.most) (natural link.from) (natural link.to))
 slot_with x [] (label ∷ labels) both = Some (Site x (byte label) both.0 both.1)
@@ -159,7 +165,7 @@ slot_with x [] [] both = None
 abbrev pub slot_at : RawTable → ℕ → Option Slot
 slot_at table x = slot_with x (links_at table x) (labels_at table x) (ordered_neighbours table x)
 
--- the slot, where there is one
+-- the slot as a list, and no slot as an empty one
 abbrev pub slots_in : Option Slot → List Slot
 slots_in None = []
 slots_in (Some slot) = slot ∷ []
@@ -202,7 +208,8 @@ abbrev pub logic_for : ℕ → List Property → Option LogicLine
 logic_for g [] = None
 logic_for g (property ∷ props) = logic_of g property (logic_for g props)
 
--- What an `M  LOG` says of its group. Without one there is no THEN group, no rest hydrogen, and the range of a blank text.
+-- What an `M  LOG` says of its group. Without one there is no THEN group, no rest hydrogen, and the
+-- range of a blank text.
 abbrev pub IsLogicOf : Option LogicLine → Group → Type 0
 IsLogicOf None group = (group.then_group ≡ 0) × ((group.rest_hydrogen ≡ false) × IsRangeText [] group.range)
 IsLogicOf (Some logic) group =
@@ -210,7 +217,7 @@ IsLogicOf (Some logic) group =
 
 -- the group of number g: its members, and what the root says of it
 pub record IsGroupOf (raw : RawQuery) (g : ℕ) (group : Group) : Type 0 where
-  pub members : group.members ≡ members_in raw g
+  pub members : group.members ≡ members_of_group raw g
   pub logic : IsLogicOf (logic_for g raw.root.props) group
 
 -- ---- the query

@@ -35,7 +35,8 @@ is_site_at table x = is (slice_get table.atoms (x - 1))
     is None = false
     is (Some atom) = is_site atom
 
--- A bond as a query has it. A number below 0 is 0 there, and so is a type or a topology above 255: no bond that passes has one.
+-- A bond as a query has it. A number below 0 is 0 there, and so is a type or a topology above 255:
+-- no bond that passes has one.
 abbrev pub query_bond : RawBond → QueryBond
 query_bond bond = record { first = natural bond.first; second = natural bond.second; kind = byte bond.kind; topology = byte bond.topology }
 
@@ -82,9 +83,9 @@ labels_of (kinds.Label pairs) = pairs
 labels_of other = []
 
 -- the pairs of an `M  APO`
-abbrev pub points_of : Property → List Pair
-points_of (kinds.Points pairs) = pairs
-points_of other = []
+abbrev pub point_pairs : Property → List Pair
+point_pairs (kinds.Points pairs) = pairs
+point_pairs other = []
 
 -- the value that the last entry of one kind gives atom x, and 0 where none names it
 abbrev pub value_at : (Property → List Pair) → RawTable → ℕ → ℤ
@@ -101,7 +102,7 @@ gives_point p other = false
 
 -- atom x bears attachment point p where the last entry for it gives the point
 abbrev pub bears_point : RawTable → ℕ → ℕ → Bool
-bears_point table p x = gives_point p (value_at points_of table x)
+bears_point table p x = gives_point p (value_at point_pairs table x)
 
 -- ---- links
 
@@ -121,7 +122,8 @@ links_at table x = links_for x table.props
 
 -- ---- lists of elements
 
--- a list of elements as it is written: by numbers on an atom-list line, or by symbols on an `M  ALS`
+-- a list of elements as it is written: by numbers on an atom-list line, or by symbols on an
+-- `M  ALS`
 pub data ElementList : Type 0 where
   by_numbers : RawList → ElementList
   by_symbols : AtomList → ElementList
@@ -140,7 +142,8 @@ symbol_lists (property ∷ props) = lists property ++ symbol_lists props
     lists (kinds.List list) = by_symbols list ∷ []
     lists other = []
 
--- The lists of a table in the order in which a later one holds in place of an earlier one: the atom-list lines, then the `M  ALS`.
+-- The lists of a table in the order in which a later one holds in place of an earlier one: the
+-- atom-list lines, then the `M  ALS`.
 abbrev pub all_lists : RawTable → List ElementList
 all_lists table = map by_numbers table.lists ++ symbol_lists table.props
 

@@ -3,19 +3,21 @@
 --     Demands groups is_root table check item     what a check demands of the item of a number
 --     PassesAll groups is_root table       every check passes at every item
 --     IsFirstFault groups is_root table fault     the first check that fails, and its least item
---     FindsBelow groups is_root table n found     the first fault, or none where the checks of lower numbers pass
+--     FindsBelow groups is_root table n found     the first fault, or none where the checks of
+--                                                 lower numbers pass
 --     FindsFirst groups is_root table found       the first fault, or none where every check passes
 use Rattle.std.specs.Prelude.{◌≡◌, ◌<◌, ℕ, Bool, List, Option, Some, None, length}
 use Rattle.mk_text.specs.Items.{IsLeastFailing, OfItem}
 use Rattle.mk_ctab.specs.declared.raw.RawTable.{RawTable}
 use Rattle.mk_rgfile.specs.declared.raw_query.RawGroup.{RawGroup}
-use Rattle.mk_query.specs.declared.table_faults.Fault.{Fault}
+use Rattle.mk_query.specs.declared.checking.Fault.{Fault}
 use Rattle.mk_query.specs.Checks.{IsQueryAtom, IsQueryBond, IsQueryProperty}
 use Rattle.mk_query.specs.LinkChecks.{HasLink, HasLogic, HasPoint}
 use Rattle.mk_query.specs.SiteChecks.{HasLabel, HasLists, HasSiteOrder, HasSitePlace}
 
--- Symbols and columns of atoms; ends, columns and number of bonds; atoms and values of properties; lists of elements; labels;
--- the neighbours of sites, and their orders; attachment points; links; logic.
+-- Symbols and columns of atoms; ends, columns and number of bonds; atoms and values of properties;
+-- lists of elements; labels; the neighbours of sites, and their orders; attachment points; links;
+-- logic.
 pub data Check : Type 0 where
   query_atoms : Check
   query_bonds : Check
@@ -41,8 +43,9 @@ number attachment_points = 8
 number link_atoms = 9
 number group_logic = 10
 
--- What a check demands of the item of a number, which is an atom, a bond or a property, where these are the query's groups. The
--- atom-list lines together are item 0 of the lists. An item that isn't there is right.
+-- What a check demands of the item of a number, which is an atom, a bond or a property, where these
+-- are the query's groups. The atom-list lines together are item 0 of the lists. An item that isn't
+-- there is right.
 abbrev pub Demands : List RawGroup → Bool → RawTable → Check → ℕ → Type 0
 Demands groups is_root table query_atoms item = OfItem IsQueryAtom table.atoms item
 Demands groups is_root table query_bonds item = IsQueryBond (length table.atoms) table.bonds item

@@ -21,7 +21,7 @@ pub record IsKnownLogic (logic : LogicLine) : Type 0 where
   pub then_group : IsWithin (pos 0) (pos 32) logic.then_group
   pub range : (range : List Interval) × IsRangeText logic.range range
 
--- so it is where the property is an `M  LOG`
+-- where the property is an `M  LOG`, its THEN group is 0 to 32, and its text is a range
 abbrev pub HasKnownLogic : Property → Type 0
 HasKnownLogic (kinds.Logic logic) = IsKnownLogic logic
 HasKnownLogic other = Unit {0}

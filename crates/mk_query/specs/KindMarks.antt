@@ -1,7 +1,7 @@
 -- What the code knows of the kinds of atoms. For the code alone.
 --     IsPlainSymbol symbol              an element's symbol or a word for one, other than `R#`
 --     IsKindIn list kind                the kind that a list of elements tells
---     IsKindAt lists props place kind   the same of the list at a place, where there is one
+--     IsKindAt lists props place kind   the kind that the list at a place tells, where there is one
 --     AreKnownAt lists props place      its members are elements
 --     IsKindFor symbol lists props place kind   the kind for a symbol
 use Rattle.std.specs.Prelude.{◌≡◌, ◌⊎◌, ℕ, pos, Bool, List, Option, Some, All, codes, slice_get, if◌then◌else◌}
@@ -11,8 +11,8 @@ use Rattle.mk_model.specs.declared.atom_test.Kind.{Kind}
 use Rattle.mk_model.specs.declared.atom_test.Kind.TheVariants.{OneOf, NoneOf}
 use Rattle.mk_ctab.specs.declared.raw.RawList.{RawList}
 use Rattle.mk_ctab.specs.Numbers.{IsWithin}
-use Rattle.mk_query.specs.declared.list_place.ListPlace.{ListPlace}
-use Rattle.mk_query.specs.declared.list_place.ListPlace.TheVariants as place
+use Rattle.mk_query.specs.declared.list_places.ListPlace.{ListPlace}
+use Rattle.mk_query.specs.declared.list_places.ListPlace.TheVariants as place
 use Rattle.mk_query.specs.Checks.{IsElementName, IsQueryWord}
 use Rattle.mk_query.specs.Compiled.{HasElements, IsKindOf, kind_by}
 use Rattle.mk_query.specs.Drawn.{ElementList, by_numbers, by_symbols}
@@ -54,7 +54,8 @@ AreKnownAt lists props place.Nothing = Unit {0}
 AreKnownAt lists props (place.Line i) = (list : RawList) × (slice_get lists i ≡ Some list) × All (IsWithin (pos 1) (pos 118)) list.numbers
 AreKnownAt lists props (place.Property i) = (property : Property) × (slice_get props i ≡ Some property) × AreKnownIn property
 
--- the kind for a symbol: that of the list at a place for `L`, and else the same whatever list is in force
+-- the kind for a symbol: for `L` that of the list at a place, and for any other one that no list
+-- changes
 pub data IsKindFor (symbol : List ℕ) (lists : List RawList) (props : List Property) (put : ListPlace) (kind : Kind) : Type 0 where
   listed : symbol ≡ codes "L" → IsKindAt lists props put kind → IsKindFor symbol lists props put kind
   plain : ((found : Option ElementList) → IsKindOf found symbol kind) → IsKindFor symbol lists props put kind

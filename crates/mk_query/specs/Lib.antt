@@ -1,3 +1,4 @@
+pub mod AtomMarks
 pub mod BlockSearch
 pub mod Checks
 pub mod CompileFaults
@@ -5,6 +6,7 @@ pub mod Compiled
 pub mod Drawn
 pub mod FirstFault
 pub mod GroupMarks
+pub mod InRange
 pub mod KindMarks
 pub mod Laws
 pub mod LastValues
@@ -24,7 +26,6 @@ pub mod RootSizes
 pub mod Searches
 pub mod SiteChecks
 pub mod SlotMarks
-pub mod Standings
 pub mod TableWalk
 pub mod TemplateMarks
 pub mod TestMarks

@@ -1,19 +1,21 @@
 -- How the first link that isn't right is found. For the code alone.
 --     ends_of x link                                  the atom of a link and its two neighbours
---     AreAlikeBonds bonds link                        two bonds that are alike lead to the two neighbours
+--     AreAlikeBonds bonds link                        two bonds that are alike lead to the two
+--                                                     neighbours
 --     IsRightLink atoms bonds standing x link         the link can stand at atom x
---     AreRightBy atoms bonds standing x               no link names atom x, or one that can stand there
+--     AreRightBy atoms bonds standing x               no link names atom x, or one that can stand
+--                                                     there
 use Rattle.std.specs.Prelude.{◌≡◌, ◌≢◌, ◌≤ℤ◌, ◌-◌, ℕ, pos, false, List, Contains, slice_index_or, IsTrue}
 use Rattle.mk_props.specs.declared.property.LinkEntry.{LinkEntry}
 use Rattle.mk_model.specs.declared.template.QueryBond.{QueryBond}
 use Rattle.mk_model.specs.Templates.{joins}
 use Rattle.mk_ctab.specs.Numbers.{IsAtom, natural}
-use Rattle.mk_query.specs.declared.link_ends.LinkEnds.{LinkEnds}
-use Rattle.mk_query.specs.declared.linked.Linked.{Linked}
-use Rattle.mk_query.specs.declared.linked.Linked.TheVariants as linked
-use Rattle.mk_query.specs.declared.standing.Standing.{Standing}
+use Rattle.mk_query.specs.declared.atom_marks.Standing.{Standing}
+use Rattle.mk_query.specs.declared.blocks.LinkEnds.{LinkEnds}
+use Rattle.mk_query.specs.declared.linked_atoms.Linked.{Linked}
+use Rattle.mk_query.specs.declared.linked_atoms.Linked.TheVariants as linked
+use Rattle.mk_query.specs.AtomMarks.{is_site}
 use Rattle.mk_query.specs.BlockSearch.{HasPlainBlock}
-use Rattle.mk_query.specs.Standings.{is_site}
 
 -- the atom of a link and its two neighbours
 abbrev pub ends_of : ℕ → LinkEntry → LinkEnds
@@ -38,7 +40,8 @@ pub record AreAlikeBonds (bonds : List QueryBond) (link : LinkEnds) : Type 0 whe
   pub joined : IsTrue (joins link.atom link.from one)
   pub like : HasLike bonds link one
 
--- the atom is no site, and the numbers of the link are such as there are
+-- the atom is no site, the link stands at least up to twice, and its two neighbours are atoms and
+-- differ
 pub record IsLinkable (atoms : ℕ) (standing : Standing) (x : ℕ) (link : LinkEntry) : Type 0 where
   pub no_site : is_site standing x ≡ false
   pub twice : pos 2 ≤ℤ link.most
@@ -52,11 +55,12 @@ pub record IsRightLink (atoms : ℕ) (bonds : List QueryBond) (standing : Standi
   pub alike : AreAlikeBonds bonds (ends_of x link)
   pub plain : HasPlainBlock bonds standing (ends_of x link)
 
--- no link names an atom, or one that can stand there
+-- where this is noted of an atom, no link names it, or one that can stand there
 abbrev pub IsRightBy : ℕ → List QueryBond → Standing → ℕ → Linked → Type 0
 IsRightBy atoms bonds standing x linked.Nothing = Unit {0}
 IsRightBy atoms bonds standing x (linked.One link) = IsRightLink atoms bonds standing x link
 IsRightBy atoms bonds standing x linked.More = ⊥
 
+-- no link names atom x, or one that can stand there, by what is noted of it
 abbrev pub AreRightBy : ℕ → List QueryBond → Standing → ℕ → Type 0
 AreRightBy atoms bonds standing x = IsRightBy atoms bonds standing x (slice_index_or standing.links.items (x - 1) linked.Nothing)

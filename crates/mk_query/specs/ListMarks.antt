@@ -11,8 +11,8 @@ use Rattle.mk_props.specs.declared.property.Property.{Property}
 use Rattle.mk_props.specs.declared.property.Property.TheVariants as kinds
 use Rattle.mk_ctab.specs.declared.raw.RawList.{RawList}
 use Rattle.mk_ctab.specs.Numbers.{natural}
-use Rattle.mk_query.specs.declared.list_place.ListPlace.{ListPlace}
-use Rattle.mk_query.specs.declared.list_place.ListPlace.TheVariants as place
+use Rattle.mk_query.specs.declared.list_places.ListPlace.{ListPlace}
+use Rattle.mk_query.specs.declared.list_places.ListPlace.TheVariants as place
 use Rattle.mk_query.specs.Drawn.{ElementList, by_numbers, by_symbols, last_list, listed_atom}
 use Rattle.mk_query.specs.Marks.{AreMarks}
 
@@ -26,7 +26,7 @@ IsPlaceOf lists props (place.Property i) found = (list : AtomList) × (slice_get
 abbrev pub in_force : List ElementList → ℕ → Option ElementList
 in_force front x = last_list None (filter (λ list. listed_atom list == x) front)
 
--- what is noted of each atom is the place of that list
+-- what is noted of each atom is the place of the last of these lists that names it
 abbrev pub AreInForce : List RawList → List Property → List ElementList → List ListPlace → Type 0
 AreInForce lists props front places = AreMarks (λ x found. IsPlaceOf lists props found (in_force front x)) places
 

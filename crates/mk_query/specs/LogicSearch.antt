@@ -1,7 +1,8 @@
 -- How the first `M  LOG` that isn't right is found. For the code alone.
 --     HasLogicIn is_root props item        what is demanded of the property of this number
 --     names_group g property               the property is an `M  LOG` of group g
---     AreLastLogics props n last           for each group the number of its last `M  LOG` among the first n properties
+--     AreLastLogics props n last           for each group the number of its last `M  LOG` among the
+--                                          first n properties
 --     IsMarkedBy property item old new     one property more
 --     IsLogicalBy is_root last item property     the demand, by these numbers
 use Rattle.std.specs.Prelude.{◌≡◌, ◌≤◌, ◌<◌, ◌-◌, ◌==◌, ℕ, pos, Bool, true, false, List, Some, drop, length, slice_get, slice_index, if◌then◌else◌, IsTrue}
@@ -25,7 +26,7 @@ abbrev pub names_group : ℕ → Property → Bool
 names_group g (kinds.Logic logic) = natural logic.group == g
 names_group g other = false
 
--- an `M  LOG` of group g stands there
+-- an `M  LOG` of group g stands at this place
 pub record NamesAt (props : List Property) (g place : ℕ) : Type 0 where
   pub property : Property
   pub at : slice_get props place ≡ Some property
@@ -36,7 +37,8 @@ pub record IsLastLogic (props : List Property) (n g last : ℕ) : Type 0 where
   pub others : (k : ℕ) → k < n → NamesAt props g k → k < last
   pub here : 1 ≤ last → (last ≤ n) × NamesAt props g (last - 1)
 
--- so it is for each group, and for 0
+-- for each group, and for 0, the list has the number of the last of the first n properties that
+-- names it
 pub record AreLastLogics (props : List Property) (n : ℕ) (last : List ℕ) : Type 0 where
   pub size : length last ≡ 33
   pub each : (g : ℕ) → g < 33 → IsLastLogic props n g (slice_index last g)
@@ -48,7 +50,8 @@ pub record IsMarkedBy (property : Property) (item : ℕ) (old new : List ℕ) : 
 
 -- ---- one property
 
--- the `M  LOG` stands in the root and is the last of its group, and its numbers and its range are such as there are
+-- The `M  LOG` stands in the root and is the last of its group, its group is 1 to 32, its THEN
+-- group 0 to 32, RestH 0 or 1, and its range text is a range.
 pub record IsRightBy (is_root is_last : Bool) (logic : LogicLine) : Type 0 where
   pub root : is_root ≡ true
   pub last : is_last ≡ true

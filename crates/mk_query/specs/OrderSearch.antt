@@ -2,15 +2,16 @@
 --     Names entries y, Gives entries k     an entry is for atom y, an entry gives place k
 --     OrdersNear entries near              the entries order these neighbours
 --     IsOrderedBy sites near seen property    an `M  AAL` is right by what is noted of the atoms
---     names_site x property, IsSeen property old new    the marks on the sites of the properties behind
+--     names_site x property, IsSeen property old new    the marks on the sites of the properties
+--                                                       behind
 use Rattle.std.specs.Prelude.{◌≡◌, ◌<◌, ◌+◌, ◌-◌, ◌==◌, ◌||◌, ℕ, pos, Bool, false, List, Contains, IsTrue, length, slice_index_or}
 use Rattle.mk_props.specs.declared.property.Pair.{Pair}
 use Rattle.mk_props.specs.declared.property.Property.{Property}
 use Rattle.mk_props.specs.declared.property.Property.TheVariants as kinds
 use Rattle.mk_props.specs.declared.property.SiteOrder.{SiteOrder}
 use Rattle.mk_ctab.specs.Numbers.{IsAtom, natural}
-use Rattle.mk_query.specs.declared.marks.Near.{Near}
-use Rattle.mk_query.specs.declared.marks.Near.TheVariants as near
+use Rattle.mk_query.specs.declared.drawn.Near.{Near}
+use Rattle.mk_query.specs.declared.drawn.Near.TheVariants as near
 use Rattle.mk_query.specs.Marks.{site_mark}
 
 -- an entry is for atom y
@@ -27,14 +28,15 @@ OrdersNear entries (near.One y) = (length entries ≡ 1) × (Names entries y × 
 OrdersNear entries (near.Two y z) = (length entries ≡ 2) × ((Names entries y × Names entries z) × (Gives entries 1 × Gives entries 2))
 OrdersNear entries other = ⊥
 
--- the order is of an atom that is noted as a site and not as seen, and orders the neighbours that are noted
+-- the order is of an atom that is noted as a site and not as seen, and orders the neighbours that
+-- are noted
 pub record IsOrderBy (sites : List Bool) (notes : List Near) (seen : List Bool) (order : SiteOrder) : Type 0 where
   pub atom : IsAtom (length sites) order.atom
   pub site : IsTrue (site_mark sites (natural order.atom))
   pub last : site_mark seen (natural order.atom) ≡ false
   pub orders : OrdersNear order.entries (slice_index_or notes (natural order.atom - 1) near.Nothing)
 
--- any other property is right
+-- an `M  AAL` is right by what is noted of the atoms, and any other property always
 abbrev pub IsOrderedBy : List Bool → List Near → List Bool → Property → Type 0
 IsOrderedBy sites notes seen (kinds.Order order) = IsOrderBy sites notes seen order
 IsOrderedBy sites notes seen other = Unit {0}

@@ -1,4 +1,5 @@
--- For code alone: the atoms that the slots of a template take, as lists of marks. Place x of a list stands for atom x.
+-- For code alone: the atoms that the slots of a template take, as lists of marks. Place x of a list
+-- stands for atom x.
 --     IsSized template            few atoms, and bonds and slots at them
 --     takes bonds slot x          the slot takes atom x of a template with these bonds
 --     Marks n p list              the list marks those of the first n atoms of which p holds
@@ -14,7 +15,7 @@ use Rattle.mk_model.specs.Edges.{AreBetween}
 use Rattle.mk_model.specs.Sizes.{takes_atom}
 use Rattle.mk_model.specs.Templates.{TemplateView, query_edges, slot_atom}
 
--- at most 999 atoms and bonds, each bond between two of them, and each slot at one
+-- a template has at most 999 atoms and bonds, each bond between two of them, and each slot at one
 pub record IsSized (template : TemplateView) : Type 0 where
   pub few : length template.atoms ≤ 999
   pub few_bonds : length template.bonds ≤ 999

@@ -2,7 +2,8 @@
 --     HasPoints templates n u          table u has n points
 --     AllHavePoints templates n members    each of the members has
 --     AreTold query n list             for each group, whether its members do
---     told_fit one two slot            the members of a site have as many points as it has neighbours, as two such lists tell it
+--     told_fit one two slot            the members of a site have as many points as it has
+--                                      neighbours, as two such lists tell it
 --     FindsUnfit one two slots found   the atom of the first slot that they tell not to fit
 --     FindsMisfit query found          the first table with a misfit, and its lowest atom
 use Rattle.std.specs.Prelude.{◌≡◌, ◌<◌, ◌+◌, ◌-◌, ◌==◌, ◌↔◌, ℕ, Bool, true, false, List, Option, Some, None, All, Contains, if◌then◌else◌, IsTrue, length, slice_get, slice_index_or}
@@ -18,7 +19,7 @@ use Rattle.mk_query.specs.CompileFaults.{FitsAt, FitsTable}
 abbrev pub HasPoints : List TemplateView → ℕ → ℕ → Type 0
 HasPoints templates n u = (template : TemplateView) → slice_get templates u ≡ Some template → length template.points ≡ n
 
--- each of these tables has n points
+-- each of these members has n points
 abbrev pub AllHavePoints : List TemplateView → ℕ → List ℕ → Type 0
 AllHavePoints templates n members = (u : ℕ) → Contains members u → HasPoints templates n u
 
@@ -27,12 +28,13 @@ pub record AreTold (query : QueryView) (n : ℕ) (list : List Bool) : Type 0 whe
   pub size : length list ≡ 32
   pub each : (g : ℕ) → g < 32 → IsTrue (slice_index_or list g false) ↔ AllHavePoints query.templates n (members_of query (g + 1))
 
--- a site's members have as many points as it has neighbours, as the lists for one point and for two tell it
+-- a site's members have as many points as it has neighbours, as the lists for one point and for two
+-- tell it
 abbrev pub told_fit : List Bool → List Bool → Slot → Bool
 told_fit one two (Link atom most from to) = true
 told_fit one two (Site atom group first second) = if second == 0 then slice_index_or one (group - 1) false else slice_index_or two (group - 1) false
 
--- the first slot that doesn't fit, and its atom
+-- x is the atom of the first slot that the lists tell not to fit
 pub record IsUnfit (one two : List Bool) (slots : List Slot) (x : ℕ) : Type 0 where
   pub place : ℕ
   pub slot : Slot
@@ -41,6 +43,7 @@ pub record IsUnfit (one two : List Bool) (slots : List Slot) (x : ℕ) : Type 0 
   pub unfit : told_fit one two slot ≡ false
   pub before : (j : ℕ) (earlier : Slot) → j < place → slice_get slots j ≡ Some earlier → told_fit one two earlier ≡ true
 
+-- the atom of the first slot that the lists tell not to fit, or none where all fit
 abbrev pub FindsUnfit : List Bool → List Bool → List Slot → Option ℕ → Type 0
 FindsUnfit one two slots None = (j : ℕ) (slot : Slot) → slice_get slots j ≡ Some slot → told_fit one two slot ≡ true
 FindsUnfit one two slots (Some x) = IsUnfit one two slots x

@@ -5,7 +5,8 @@
 --     Holds f list               the entry of row g - 1 and column h - 1 is f g h
 --     leads_on f g slot          a site whose group is g, or leads to it
 --     comes_back f g slots       some of the slots is one
---     ComesBack templates list members g u     table u is a member of group g, and one of its sites leads back
+--     ComesBack templates list members g u     table u is a member of group g, and one of its sites
+--                                              leads back
 use Rattle.std.specs.Prelude.{◌≡◌, ◌<◌, ◌≤◌, ◌+◌, ◌-◌, ◌*◌, ◌==◌, ◌&&◌, ◌||◌, ℕ, zero, suc, Bool, false, List, [], length, slice_index_or, Contains, IsTrue}
 use Rattle.std.specs.List.{list_any}
 use Rattle.mk_model.specs.declared.template.Slot.{Slot}
@@ -18,7 +19,8 @@ use Rattle.mk_model.specs.Templates.{TemplateView}
 abbrev pub asks_for : QueryView → ℕ → ℕ → Bool
 asks_for query g h = list_any (λ u. list_any (λ slot. bears_label slot h) (slots_of query u)) (members_of query g)
 
--- group g asks for h, or for a group that does, and so on, where all groups between are among the first k
+-- group g asks for h, or for a group that does, and so on, where all groups between are among the
+-- first k
 abbrev pub leads : QueryView → ℕ → ℕ → ℕ → Bool
 leads query zero g h = asks_for query g h
 leads query (suc k) g h = leads query k g h || (leads query k g (suc k) && leads query k (suc k) h)
@@ -41,12 +43,12 @@ abbrev pub HasGroup : Slot → Type 0
 HasGroup (Link atom most from to) = Unit {0}
 HasGroup (Site atom group first second) = (1 ≤ group) × (group ≤ 32)
 
--- a site whose group is g, or leads to it
+-- the slot is a site whose group is g, or leads to it
 abbrev pub leads_on : (ℕ → ℕ → Bool) → ℕ → Slot → Bool
 leads_on f g (Link atom most from to) = false
 leads_on f g (Site atom group first second) = (group == g) || f group g
 
--- some of these slots is such a site
+-- a site among these slots has group g, or its group leads to it
 abbrev pub comes_back : (ℕ → ℕ → Bool) → ℕ → List Slot → Bool
 comes_back f g slots = list_any (leads_on f g) slots
 

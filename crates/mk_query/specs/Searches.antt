@@ -8,7 +8,7 @@ use Rattle.std.specs.Prelude.{◌≡◌, ◌≤◌, ◌<◌, ◌+◌, ◌-◌, n
 use Rattle.mk_model.specs.Edges.{degree}
 use Rattle.mk_ctab.specs.declared.raw.RawBond.{RawBond}
 use Rattle.mk_ctab.specs.Bonds.{edges_of}
-use Rattle.mk_query.specs.declared.table_faults.Fault.{Fault}
+use Rattle.mk_query.specs.declared.checking.Fault.{Fault}
 
 -- the lesser of two numbers, where there are any
 abbrev pub least_of : Option ℕ → Option ℕ → Option ℕ

@@ -12,11 +12,11 @@ use Rattle.mk_model.specs.declared.template.Slot.{Slot}
 use Rattle.mk_model.specs.declared.template.Slot.TheVariants.{Link, Site}
 use Rattle.mk_ctab.specs.declared.raw.RawTable.{RawTable}
 use Rattle.mk_ctab.specs.Numbers.{byte, natural}
-use Rattle.mk_query.specs.declared.linked.Linked.{Linked}
-use Rattle.mk_query.specs.declared.linked.Linked.TheVariants as linked
-use Rattle.mk_query.specs.declared.marks.Near.{Near}
-use Rattle.mk_query.specs.declared.marks.Near.TheVariants as near
-use Rattle.mk_query.specs.declared.site_ends.SiteEnds.{SiteEnds}
+use Rattle.mk_query.specs.declared.drawn.Near.{Near}
+use Rattle.mk_query.specs.declared.drawn.Near.TheVariants as near
+use Rattle.mk_query.specs.declared.linked_atoms.Linked.{Linked}
+use Rattle.mk_query.specs.declared.linked_atoms.Linked.TheVariants as linked
+use Rattle.mk_query.specs.declared.site_orders.SiteEnds.{SiteEnds}
 use Rattle.mk_query.specs.Compiled.{atom_placed, order_for, ordered_neighbours}
 use Rattle.mk_query.specs.Drawn.{drawn_neighbours}
 use Rattle.mk_query.specs.Marks.{AreMarks}
@@ -59,7 +59,7 @@ pub record IsPutAt (n : ℕ) (pair : SiteEnds) (old new : List SiteEnds) : Type 
 
 -- ---- slots
 
--- the slot of atom x by what is noted of it; where more links than one are, no slot
+-- the slot of atom x by what is noted of it, and none where more links than one are
 abbrev pub slot_by : ℕ → Linked → Bool → ℤ → SiteEnds → Option Slot
 slot_by x (linked.One link) site label pair = Some (Link x (natural link.most) (natural link.from) (natural link.to))
 slot_by x linked.Nothing site label pair = if site then Some (Site x (byte label) pair.first pair.second) else None

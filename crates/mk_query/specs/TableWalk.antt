@@ -1,11 +1,11 @@
 -- For code alone: the checks of the tables of a raw query, one after the other.
---     HaveFewProperties raw              each table has fewer than 2^32 properties
---     PassNested raw                     the root passes its checks, and so does each member
---     FindsInMembers groups members t found    the first fault of some members, which count from t on
+--     PassNested raw                     the root and each member pass their checks
+--     FindsInMembers groups members t found    the first fault of some members, which count from t
+--                                              on
 --     FindsInRoot raw found              the first fault of the root
 --     FindsInTables raw found            the first fault of the tables
 --     FindsAcross raw query found        the first fault of the whole
-use Rattle.std.specs.Prelude.{◌≡◌, ◌<◌, ◌+◌, ◌^◌, ℕ, false, true, List, Option, Some, None, All, length, slice_get}
+use Rattle.std.specs.Prelude.{◌≡◌, ◌<◌, ◌+◌, ℕ, false, true, List, Option, Some, None, All, slice_get}
 use Rattle.mk_model.specs.Queries.{QueryView}
 use Rattle.mk_ctab.specs.declared.raw.RawTable.{RawTable}
 use Rattle.mk_rgfile.specs.declared.raw_query.RawGroup.{RawGroup}
@@ -14,16 +14,7 @@ use Rattle.mk_query.specs.declared.compile_fault.FaultAt.{FaultAt}
 use Rattle.mk_query.specs.CompileFaults.{IsAcross, IsFirstInTables, PassAcross}
 use Rattle.mk_query.specs.FirstFault.{IsFirstFault, PassesAll}
 
--- fewer than 2^32 properties
-abbrev pub HasFewProperties : RawTable → Type 0
-HasFewProperties table = length table.props < 2 ^ 32
-
--- and so in each table of the raw query
-pub record HaveFewProperties (raw : RawQuery) : Type 0 where
-  pub root : HasFewProperties raw.root
-  pub members : All (λ group. All HasFewProperties group.members) raw.groups
-
--- the root passes its checks, and so does each member of each group
+-- the root and each member of each group pass their checks
 pub record PassNested (raw : RawQuery) : Type 0 where
   pub root : PassesAll raw.groups true raw.root
   pub members : All (λ group. All (PassesAll raw.groups false) group.members) raw.groups
@@ -37,7 +28,7 @@ pub record IsFirstInMembers (groups : List RawGroup) (members : List RawTable) (
   pub before : (j : ℕ) (earlier : RawTable) → j < place → slice_get members j ≡ Some earlier → PassesAll groups false earlier
   pub here : IsFirstFault groups false table (record { check = fault.check; item = fault.item })
 
--- it, or none where all pass
+-- the first of these members that fails a check, where they count from t on, or none where all pass
 abbrev pub FindsInMembers : List RawGroup → List RawTable → ℕ → Option FaultAt → Type 0
 FindsInMembers groups members t None = All (PassesAll groups false) members
 FindsInMembers groups members t (Some fault) = IsFirstInMembers groups members t fault
@@ -52,7 +43,7 @@ abbrev pub FindsInTables : RawQuery → Option FaultAt → Type 0
 FindsInTables raw None = PassNested raw
 FindsInTables raw (Some fault) = IsFirstInTables raw fault
 
--- the first that fails, or none
+-- the first check across tables that fails, or none where all pass
 abbrev pub FindsAcross : RawQuery → QueryView → Option FaultAt → Type 0
 FindsAcross raw query None = PassAcross raw query
 FindsAcross raw query (Some fault) = IsAcross raw query fault

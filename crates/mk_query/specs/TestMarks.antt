@@ -1,4 +1,5 @@
--- What the code knows of the atoms of a table before their tests are put together. For the code alone.
+-- What the code knows of the atoms of a table before their tests are put together. For the code
+-- alone.
 --     AreNotes table notes          the notes are those of the table
 --     IsTestAt table i test         the test of the atom at place i
 --     AreTestsTo table k tests      the tests of the first k atoms
@@ -7,7 +8,7 @@ use Rattle.mk_model.specs.declared.atom_test.AtomTest.{AtomTest}
 use Rattle.mk_ctab.specs.declared.raw.RawAtom.{RawAtom}
 use Rattle.mk_ctab.specs.declared.raw.RawTable.{RawTable}
 use Rattle.mk_ctab.specs.Charges.{AreElectrons}
-use Rattle.mk_query.specs.declared.atom_notes.AtomNotes.{AtomNotes}
+use Rattle.mk_query.specs.declared.atom_tests.AtomNotes.{AtomNotes}
 use Rattle.mk_query.specs.Compiled.{IsTestOf}
 use Rattle.mk_query.specs.Drawn.{all_lists, ring_bonds_of, substitutions_of, unsaturations_of}
 use Rattle.mk_query.specs.LastValues.{AreLastValues}

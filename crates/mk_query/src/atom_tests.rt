@@ -7,14 +7,24 @@ ghost use Rattle.mk_query.specs.Passed.{HasPassed};
 ghost use Rattle.mk_query.specs.TestMarks.{AreNotes, IsTestAt};
 
 use crate::atom_kinds::kind_of;
-use crate::atom_notes::AtomNotes;
 use crate::drawn::is_site;
-use crate::list_places::list_places;
+use crate::list_places::{ListPlace, list_places};
 use crate::values::{ValueKind, last_values};
-use mk_ctab::{RawAtom, RawTable, charges_and_radicals};
+use mk_ctab::{Electrons, RawAtom, RawTable, charges_and_radicals};
 use mk_model::{AtomTest, Kind};
 use mk_text::Memory;
 use std::alloc::Global;
+
+/// For each atom its charge and radical, the place of the list that is in force for it, and the
+/// values that the last entries give it.
+#[derive(Debug, Drop)]
+pub struct AtomNotes {
+    pub electrons: Vec<Electrons>,
+    pub places: Vec<ListPlace>,
+    pub ring_bonds: Vec<i32>,
+    pub substitutions: Vec<i32>,
+    pub unsaturations: Vec<i32>,
+}
 
 /// The tests of the atoms of a table, in order.
 pub fn tests_of(alloc: Global, table: &RawTable) -> Result<Vec<AtomTest>, Memory>

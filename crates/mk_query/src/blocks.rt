@@ -1,20 +1,27 @@
-// The block of a link: what hangs together with it once its bonds to the two neighbours that it names are taken away.
+// The block of a link: what hangs together with it once its bonds to the two neighbours that it
+// names are taken away.
 //
-// The search goes from the link over the other bonds, and stops at the first atom that a block may not hold. So the blocks that
-// are searched whole have no atom in common.
+// The search goes from the link over the other bonds, and stops at the first atom that a block may
+// not hold. So the blocks that are searched whole have no atom in common.
 ghost use Rattle.std.specs.Prelude.{◌≡◌, ◌≤◌, ◌<◌, ◌+◌, ◌-◌, ◌↔◌, ◌||◌, false, true, IfOk, IsTrue, OnOk, length, slice_index, slice_index_or};
 ghost use Rattle.mk_model.specs.Edges.{AreBetween, rows_of};
 ghost use Rattle.mk_model.specs.Templates.{hang_together, joins, query_edges};
+ghost use Rattle.mk_query.specs.AtomMarks.{HasEachPlace, HasPlace, bears, is_link, is_site};
 ghost use Rattle.mk_query.specs.BlockSearch.{AreNumbersOf, HasPlainBlock, IsBlock, IsLonger, IsReached, KeepReached, LeadsOn, MayHold, is_own, is_reached, others, unreached};
-ghost use Rattle.mk_query.specs.Standings.{HasEachPlace, HasPlace, bears, is_link, is_site};
 
+use crate::atom_marks::{Standing, bears, is_link, is_site};
 use crate::drawn_bonds::joins;
-use crate::link_ends::LinkEnds;
-use crate::standing::Standing;
-use crate::standing_atoms::{bears, is_link, is_site};
 use mk_model::{Neighbours, QueryBond};
 use mk_text::Memory;
 use std::alloc::Global;
+
+/// The atom of a link, and the two neighbours that it names.
+#[derive(Clone, Copy, Debug, PartialEq, Eq)]
+pub struct LinkEnds {
+    pub atom: u32,
+    pub from: u32,
+    pub to: u32,
+}
 
 /// Whether the block of the link holds nothing that it may not hold.
 pub fn has_plain_block(

@@ -13,30 +13,20 @@ use crate::logic_lines::first_unknown_logic;
 use crate::orders::first_disordered_site;
 use crate::points::first_misplaced_point;
 use crate::property_checks::first_unknown_property;
-use crate::sites::{first_misplaced_site, first_unlabelled_atom, served_numbers};
-use crate::table_faults::Fault;
+use crate::sites::{first_misplaced_site, first_unlabelled_atom};
 use mk_ctab::RawTable;
-use mk_rgfile::RawGroup;
 use mk_text::Memory;
 use std::alloc::Global;
 
-/// The first of the checks Q1 to Q10 that a table fails, or None where it passes them.
-pub fn first_fault(
-    alloc: Global,
-    groups: &[RawGroup],
-    is_root: bool,
-    table: &RawTable,
-) -> Result<Option<Fault>, Memory>
-    requires few_atoms { length table.now.atoms ≤ 999 }
-    requires few_bonds { length table.now.bonds ≤ 999 }
-    requires few_properties { length table.now.props < 2 ^ 32 }
-    ensures { IfOk result (FindsFirst groups.now is_root table.now) }
-{
-    let served = served_numbers(alloc, groups)?;
-    fault_by(alloc, &served, is_root, table)
+/// A check that fails, by its number, and the least atom, bond or property at which it does.
+#[derive(Clone, Copy, Debug, PartialEq, Eq)]
+pub struct Fault {
+    pub check: u8,
+    pub item: u32,
 }
 
-/// The first of the checks, where these numbers of groups have members.
+/// The first of the checks Q1 to Q10 that a table fails, or None where it passes them. `served`
+/// tells which numbers of groups have members.
 pub fn fault_by(
     alloc: Global,
     served: &[bool],

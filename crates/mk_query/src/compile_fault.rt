@@ -7,7 +7,8 @@ use thiserror::Error;
 
 #[derive(Clone, Copy, Debug, PartialEq, Eq, Error)]
 pub enum CompileFault {
-    /// The first of the checks Q1 to Q14 that fails, the table at which it does, and the least atom, bond or property there.
+    /// The first of the checks Q1 to Q14 that fails, the table at which it does, and the least
+    /// atom, bond or property there.
     #[error("check Q{check} fails in table {table} at item {item}")]
     Check { check: u8, table: u32, item: u32 },
     /// There is no memory for the query.

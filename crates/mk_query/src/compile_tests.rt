@@ -1,12 +1,15 @@
-// Queries that fail a check, and queries that pass. The shorthand is that of docs/TESTING.md, "Tables of tests".
-ghost use Rattle.std.specs.Prelude.{◌+◌, ◌<◌, ◌^◌};
-ghost use Rattle.mk_rgfile.specs.QueryFacts.{IsRawQuery, member_count};
-ghost use Rattle.mk_query.specs.TableWalk.{HaveFewProperties};
+// Queries that fail a check, and queries that pass. The shorthand is that of docs/TESTING.md,
+// "Tables of tests".
+ghost use Rattle.std.specs.Prelude.{◌+◌, ◌<◌, ◌^◌, All, length};
+ghost use Rattle.mk_rgfile.specs.QueryFacts.{member_count};
+ghost use Rattle.mk_query.specs.InRange.{HasFewProperties, HaveFewProperties, IsGroupInRange, IsQueryInRange};
 
-use crate::{CompileFault, Fault, compile, first_fault};
+use crate::checking::{Fault, fault_by};
+use crate::sites::served_numbers;
+use crate::{CompileFault, compile};
 use mk_fixtures::rgfile_of_sketches;
 use mk_model::Query;
-use mk_rgfile::{RawQuery, read_rgfile};
+use mk_rgfile::{RawGroup, RawGroups, RawQuery, RawTables, read_rgfile};
 use std::alloc::Global;
 use std::test::Fail;
 
@@ -30,7 +33,8 @@ const ROUND: Groups = &[
     (2, &["N R# | 1-2 {M  RGP  1   2   1}{M  APO  1   1   1}"]),
 ];
 
-// A name, a root, its groups, and the check, the table and the item that are named; check 0 where none fails.
+// A name, a root, its groups, and the check, the table and the item that are named; check 0 where
+// none fails.
 static ROWS: [(&str, &str, Groups, (u8, u32, u32)); 32] = [
     ("a symbol", "Xx |", ONE, (1, 0, 1)),
     ("a pair twice", "C C | 1-2 2-1", ONE, (2, 0, 2)),
@@ -232,14 +236,55 @@ fn names_the_first_fault_of_a_root(rt: HostRuntime) -> Result<(), Fail> {
     Ok(())
 }
 
+// What fails where group 1 has no member, which no file can say. A name, a root, and the check, the
+// table and the item that are named; check 0 where none fails.
+static NO_MEMBER: [(&str, &str, (u8, u32, u32)); 2] = [
+    ("a group that nothing uses", "C |", (0, 0, 0)),
+    (
+        "the group of a site",
+        "C R# | 1-2 {M  RGP  1   2   1}",
+        (5, 0, 2),
+    ),
+];
+
+#[test]
+fn names_the_first_fault_without_a_member(rt: HostRuntime) -> Result<(), Fail> {
+    let alloc = rt.alloc();
+    for (name, root, fault) in NO_MEMBER.iter() {
+        let group = RawGroup {
+            number: 1,
+            members: RawTables::new(alloc),
+        };
+        assert!(rt; fault_with(alloc, root, group)? == *fault, "{name}");
+    }
+    Ok(())
+}
+
+/// What fails where a root has this one group, which may have no member, or more than a file holds.
+pub fn fault_with(alloc: Global, root: &str, group: RawGroup) -> Result<(u8, u32, u32), Fail>
+    requires in_range { IsGroupInRange group }
+    requires few_members { length group.members + 1 < 2 ^ 32 }
+    requires few_properties { All HasFewProperties group.members }
+{
+    let text = rgfile_of_sketches(alloc, root, &[])?;
+    match read_rgfile(alloc, &text) {
+        Ok(raw) if raw.root.props.as_slice().len() < 100 => {
+            let groups = RawGroups::of(vec![in alloc; group]?);
+            let root = raw.root;
+            fault_of_raw(alloc, &RawQuery { root, groups })
+        }
+        _ => Err(Fail::from("no query file")),
+    }
+}
+
 /// The check, the table and the item that are named, and zeros where the query passes.
 pub fn fault_of(alloc: Global, text: &[u8]) -> Result<(u8, u32, u32), Fail> {
     fault_in(query_of(alloc, text)?)
 }
 
-/// The same of a raw query.
-pub fn fault_of_raw(alloc: Global, raw: &RawQuery) -> Result<(u8, u32, u32), Fail>
-    requires raw { IsRawQuery raw.now }
+// The same of a raw query.
+fn fault_of_raw(alloc: Global, raw: &RawQuery) -> Result<(u8, u32, u32), Fail>
+    requires in_range { IsQueryInRange raw.now }
     requires few_members { member_count raw.now + 1 < 2 ^ 32 }
     requires few_properties { HaveFewProperties raw.now }
 {
@@ -256,12 +301,10 @@ fn fault_in(found: Result<Query, CompileFault>) -> Result<(u8, u32, u32), Fail> 
 
 fn fault_of_root(alloc: Global, text: &[u8]) -> Result<Option<Fault>, Fail> {
     match read_rgfile(alloc, text) {
-        Ok(raw) if raw.root.props.as_slice().len() < 100 => Ok(first_fault(
-            alloc,
-            raw.groups.as_slice(),
-            true,
-            &raw.root,
-        )?),
+        Ok(raw) if raw.root.props.as_slice().len() < 100 => {
+            let served = served_numbers(alloc, raw.groups.as_slice())?;
+            Ok(fault_by(alloc, &served, true, &raw.root)?)
+        }
         _ => Err(Fail::from("no query file")),
     }
 }

@@ -6,11 +6,27 @@ ghost use Rattle.mk_query.specs.Drawn.{is_site, labels_of, neighbours_at, pairs_
 ghost use Rattle.mk_query.specs.Marks.{AreMarks, AreMore, HasMore, IsLabels, IsNear};
 
 use crate::bond_checks::{first_end, second_end};
-use crate::marks::{Labels, Near};
 use mk_ctab::{RawAtom, RawBond, natural};
 use mk_props::{Pair, Property};
 use mk_text::Memory;
 use std::alloc::Global;
+
+/// The atoms bonded to an atom in the order of the bonds, told apart up to two.
+#[derive(Clone, Copy, Debug, PartialEq, Eq)]
+pub enum Near {
+    Nothing,
+    One(u32),
+    Two(u32, u32),
+    More,
+}
+
+/// The labels of an atom: none, one, or more than one.
+#[derive(Clone, Copy, Debug, PartialEq, Eq)]
+pub enum Labels {
+    Nothing,
+    One(i32),
+    More,
+}
 
 /// Whether each atom is a site.
 pub fn sites_of(alloc: Global, atoms: &[RawAtom]) -> Result<Vec<bool>, Memory>

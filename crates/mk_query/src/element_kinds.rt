@@ -7,7 +7,7 @@ ghost use Rattle.mk_query.specs.Compiled.{NameElements};
 ghost use Rattle.mk_query.specs.Drawn.{by_numbers};
 ghost use Rattle.mk_query.specs.KindMarks.{AreKnownAt, AreKnownIn, IsKindAt, IsKindBy, IsKindIn, kind_with};
 
-use crate::list_place::ListPlace;
+use crate::list_places::ListPlace;
 use mk_ctab::{RawList, RawTable, natural};
 use mk_elements::number_of;
 use mk_model::{Elements, Kind};

@@ -1,12 +1,10 @@
 // Queries with as many members, groups or links as there may be, and with more.
 ghost use Rattle.std.specs.Prelude.{◌≡◌, ◌≤◌, ◌<◌, All, IfOk, length};
-ghost use Rattle.mk_ctab.specs.TableFacts.{IsRawTable};
-ghost use Rattle.mk_query.specs.TableWalk.{HasFewProperties};
+ghost use Rattle.mk_query.specs.InRange.{HasFewProperties, IsTableInRange};
 
-use crate::compile_tests::{fault_of, fault_of_raw};
+use crate::compile_tests::{fault_of, fault_with};
 use mk_ctab::{Properties, RawAtoms, RawBonds, RawLists, RawTable};
-use mk_fixtures::rgfile_of_sketches;
-use mk_rgfile::{RawGroup, RawGroups, RawQuery, RawTables, read_rgfile};
+use mk_rgfile::{RawGroup, RawTables};
 use mk_text::put_number;
 use std::alloc::Global;
 use std::test::Fail;
@@ -43,23 +41,15 @@ fn fault_of_many(alloc: Global, root: &str, count: u32) -> Result<(u8, u32, u32)
     if count == 0 || count > 1_000_000 {
         return Err(Fail::from("no members"));
     }
-    let text = rgfile_of_sketches(alloc, root, &[])?;
-    match read_rgfile(alloc, &text) {
-        Ok(raw) if raw.root.props.as_slice().len() < 100 => {
-            let group = group_of_one(alloc, count)?;
-            let groups = RawGroups::of(vec![in alloc; group]?);
-            let root = raw.root;
-            fault_of_raw(alloc, &RawQuery { root, groups })
-        }
-        _ => Err(Fail::from("no query file")),
-    }
+    let group = group_of_one(alloc, count)?;
+    fault_with(alloc, root, group)
 }
 
 // Group 1 of so many members without atoms.
 fn group_of_one(alloc: Global, count: u32) -> Result<RawGroup, Fail>
     ensures number { IfOk result (λ group. group.number ≡ 1) }
     ensures size { IfOk result (λ group. length group.members ≡ count) }
-    ensures raw { IfOk result (λ group. All IsRawTable group.members) }
+    ensures in_range { IfOk result (λ group. All IsTableInRange group.members) }
     ensures few { IfOk result (λ group. All HasFewProperties group.members) }
 {
     let mut members = Vec::new(alloc);
@@ -73,7 +63,7 @@ fn group_of_one(alloc: Global, count: u32) -> Result<RawGroup, Fail>
 }
 
 fn no_atoms(alloc: Global) -> RawTable
-    ensures raw { IsRawTable result }
+    ensures in_range { IsTableInRange result }
     ensures few { HasFewProperties result }
 {
     RawTable {
@@ -84,8 +74,8 @@ fn no_atoms(alloc: Global) -> RawTable
     }
 }
 
-// A name, the atoms of the root's chain, the members of each group and the sites of each member, and the check that is named; 0
-// where none fails.
+// A name, the atoms of the root's chain, the members of each group and the sites of each member,
+// and the check that is named; 0 where none fails.
 static NESTED: [(&str, u32, u32, u32, u8); 3] = [
     ("a size of 512 through all groups", 448, 1, 1, 0),
     ("a size of 513 through all groups", 449, 1, 1, 13),
@@ -110,8 +100,8 @@ fn looks_at_999_links(rt: HostRuntime) -> Result<(), Fail> {
     Ok(())
 }
 
-// A root with a site of group 1 at the end of a chain, and 32 groups: each member of a group is an atom between sites of the next
-// group, and those of the last group are atoms alone.
+// A root with a site of group 1 at the end of a chain, and 32 groups: each member of a group is an
+// atom between sites of the next group, and those of the last group are atoms alone.
 fn nested(alloc: Global, chain: u32, members: u32, sites: u32) -> Result<Vec<u8>, Fail> {
     let mut out = first_lines(alloc)?;
     put_chain(alloc, &mut out, chain)?;

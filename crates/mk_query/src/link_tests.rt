@@ -5,7 +5,7 @@ use crate::bond_checks::first_unknown_bond;
 use crate::links::first_unknown_link;
 use crate::logic_lines::first_unknown_logic;
 use crate::points::first_misplaced_point;
-use crate::{ValueKind, last_values};
+use crate::values::{ValueKind, last_values};
 use mk_ctab::{RawTable, read_table};
 use mk_text::lines;
 use std::alloc::Global;
@@ -24,7 +24,8 @@ macro_rules! row {
     };
 }
 
-// Atom 2 with three neighbours, of which the fourth atom has this symbol, and the lines of a bond and of properties.
+// Atom 2 with three neighbours, of which the fourth atom has this symbol, and the lines of a bond
+// and of properties.
 macro_rules! branch {
     ($counts:literal, $symbol:literal, $lines:literal) => {
         concat!(

@@ -5,11 +5,18 @@ ghost use Rattle.mk_ctab.specs.Numbers.{natural};
 ghost use Rattle.mk_query.specs.Drawn.{links_for, links_of};
 ghost use Rattle.mk_query.specs.LinkMarks.{AreLinked, AreMoreLinks, HasMoreLinks};
 
-use crate::linked::Linked;
 use mk_ctab::natural;
 use mk_props::{LinkEntry, Property};
 use mk_text::Memory;
 use std::alloc::Global;
+
+/// The entries of `M  LIN` that name an atom, told apart up to one.
+#[derive(Clone, Copy, Debug, PartialEq, Eq)]
+pub enum Linked {
+    Nothing,
+    One(LinkEntry),
+    More,
+}
 
 /// The links that name each of so many atoms.
 pub fn linked_atoms(alloc: Global, atoms: u32, props: &[Property]) -> Result<Vec<Linked>, Memory>

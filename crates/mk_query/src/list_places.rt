@@ -4,11 +4,20 @@ ghost use Rattle.mk_ctab.specs.Numbers.{natural};
 ghost use Rattle.mk_query.specs.Drawn.{all_lists};
 ghost use Rattle.mk_query.specs.ListMarks.{AreInForce, IsListNoted, IsPlaceAt};
 
-use crate::list_place::ListPlace;
 use mk_ctab::{RawList, RawTable, natural};
 use mk_props::{AtomList, Property};
 use mk_text::Memory;
 use std::alloc::Global;
+
+/// The place of the list of elements that is in force for an atom.
+#[derive(Clone, Copy, Debug, PartialEq, Eq)]
+pub enum ListPlace {
+    Nothing,
+    /// An atom-list line, counted from 0.
+    Line(usize),
+    /// A property, counted from 0.
+    Property(usize),
+}
 
 /// For each atom the place of the list that is in force for it.
 pub fn list_places(alloc: Global, table: &RawTable) -> Result<Vec<ListPlace>, Memory>

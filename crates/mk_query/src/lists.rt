@@ -9,14 +9,20 @@ ghost use Rattle.mk_query.specs.SiteChecks.{HasKnownMembers, HasLists, IsListed}
 
 use crate::atom_checks::is_element_name;
 use crate::drawn::is_symbol;
-use crate::marks::ListMark;
 use mk_ctab::{RawAtom, RawList, RawTable, is_atom, is_within, natural};
 use mk_props::{AtomList, Property, Symbols};
 use mk_text::Memory;
 use std::alloc::Global;
 
-/// 0 where an atom-list line names no atom. Else the first atom that a list with an unknown member names, that is an `L` without
-/// a list, or that a list names though it is no `L`.
+/// Whether a list of elements names the atom, and whether all that do have known members.
+#[derive(Clone, Copy, Debug, PartialEq, Eq)]
+pub struct ListMark {
+    pub listed: bool,
+    pub known: bool,
+}
+
+/// 0 where an atom-list line names no atom. Else the first atom that a list with an unknown member
+/// names, that is an `L` without a list, or that a list names though it is no `L`.
 pub fn first_unlisted_atom(alloc: Global, table: &RawTable) -> Result<Option<u32>, Memory>
     requires { length table.now.atoms ≤ 999 }
     ensures { IfOk result (FindsLeast (HasLists table.now)) }

@@ -15,7 +15,8 @@ use std::alloc::Global;
 // The greatest number of a group.
 const GROUPS: usize = 32;
 
-/// The first `M  LOG` that isn't in the root, that a later one of its group supersedes, or whose numbers or range there aren't.
+/// The first `M  LOG` that isn't in the root, that a later one of its group supersedes, or whose
+/// numbers or range there aren't.
 pub fn first_unknown_logic(
     alloc: Global,
     is_root: bool,

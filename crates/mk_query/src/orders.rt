@@ -5,14 +5,14 @@ ghost use Rattle.mk_ctab.specs.Numbers.{IsAtom, natural};
 ghost use Rattle.mk_query.specs.OrderSearch.{Gives, IsOrderBy, IsOrderedBy, IsSeen, Names, OrdersNear};
 ghost use Rattle.mk_query.specs.SiteChecks.{HasSiteOrder, HasSitePlace};
 
-use crate::drawn::{neighbours_of, sites_of};
-use crate::marks::Near;
+use crate::drawn::{Near, neighbours_of, sites_of};
 use mk_ctab::{RawTable, is_atom, natural};
 use mk_props::{Pair, Property, SiteOrder};
 use mk_text::Memory;
 use std::alloc::Global;
 
-/// The first `M  AAL` that isn't of a site, that a later one of the site supersedes, or that doesn't order the site's neighbours.
+/// The first `M  AAL` that isn't of a site, that a later one of the site supersedes, or that
+/// doesn't order the site's neighbours.
 pub fn first_disordered_site(alloc: Global, table: &RawTable) -> Result<Option<u32>, Memory>
     requires few_atoms { length table.now.atoms ≤ 999 }
     requires few_properties { length table.now.props < 2 ^ 32 }

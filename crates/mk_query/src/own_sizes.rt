@@ -5,9 +5,8 @@ ghost use Rattle.mk_model.specs.Templates.{query_edges, slot_atom};
 ghost use Rattle.mk_query.specs.OwnSizes.{IsSized, Marks, is_taken, link_size_by, marked, takes};
 ghost use Rattle.mk_query.specs.RootSizes.{AreOwnSizes, capped, own_size};
 
-use crate::blocks::block_of;
+use crate::blocks::{LinkEnds, block_of};
 use crate::drawn_bonds::edges_of;
-use crate::link_ends::LinkEnds;
 use crate::root_sizes::capped;
 use mk_model::{Neighbours, QueryBond, Slot, Template};
 use mk_text::Memory;

@@ -1,5 +1,5 @@
-// Sites whose members don't have as many attachment points as the site has neighbours. Whether all members of a group have one
-// point, and whether all have two, is found out once for each group.
+// Sites whose members don't have as many attachment points as the site has neighbours. Whether all
+// members of a group have one point, and whether all have two, is found out once for each group.
 ghost use Rattle.std.specs.Prelude.{◌≡◌, ◌≤◌, ◌<◌, ◌+◌, ◌^◌, ◌↔◌, All, Contains, IfOk, IsTrue, length};
 ghost use Rattle.mk_model.specs.Queries.{members_of};
 ghost use Rattle.mk_model.specs.QueryFits.{FitsPoints, HasRisingSlots};
@@ -22,7 +22,8 @@ pub struct SitePlace {
     pub atom: u32,
 }
 
-/// The first site whose members don't have as many points as it has neighbours: the first table, and in it the lowest atom.
+/// The first site whose members don't have as many points as it has neighbours: the first table,
+/// and in it the lowest atom.
 pub fn first_misfit(
     alloc: Global,
     templates: &[Template],

@@ -1,17 +1,17 @@
 // What is demanded of attachment points.
 ghost use Rattle.std.specs.Prelude.{◌≡◌, ◌≢◌, ◌≤◌, ◌↔◌, false, true, IfOk, IsTrue, length};
 ghost use Rattle.mk_text.specs.Items.{FindsLeast};
+ghost use Rattle.mk_query.specs.AtomMarks.{HasEachPlace, HasPlace, bears, is_link, is_site};
 ghost use Rattle.mk_query.specs.LinkChecks.{HasPoint};
 ghost use Rattle.mk_query.specs.PointSearch.{IsFirstBearer, IsPointedBy};
-ghost use Rattle.mk_query.specs.Standings.{HasEachPlace, HasPlace, bears, is_link, is_site};
 
-use crate::standing::Standing;
-use crate::standing_atoms::{bears, is_link, is_site, standing_of};
+use crate::atom_marks::{Standing, bears, is_link, is_site, standing_of};
 use mk_ctab::RawTable;
 use mk_text::Memory;
 use std::alloc::Global;
 
-/// The first atom that bears a point where there may be none, a point that a lower atom bears, or point 2 alone.
+/// The first atom that bears a point where there may be none, a point that a lower atom bears, or
+/// point 2 alone.
 pub fn first_misplaced_point(
     alloc: Global,
     is_root: bool,
@@ -46,7 +46,8 @@ fn first_bearer(standing: &Standing, p: u32, atoms: u32) -> u32
     0
 }
 
-// Whether atom x may bear what it bears, where the lowest atoms that bear point 1 and point 2 are these.
+// Whether atom x may bear what it bears, where the lowest atoms that bear point 1 and point 2 are
+// these.
 fn is_pointed(is_root: bool, standing: &Standing, first: u32, second: u32, x: u32) -> bool
     requires { HasPlace standing.now x }
     ensures { IsTrue result ↔ IsPointedBy is_root standing.now first second x }

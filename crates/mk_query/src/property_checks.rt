@@ -7,7 +7,8 @@ ghost use Rattle.mk_query.specs.Checks.{AreLinksOf, HasQueryValues, IsQueryPrope
 use mk_ctab::{are_for_atoms, have_values, is_atom, is_within};
 use mk_props::{AtomList, LinkEntry, Pair, Property, SiteOrder};
 
-/// The first property that gives something to an atom that isn't there, or a value that there isn't.
+/// The first property that gives something to an atom that isn't there, or a value that there
+/// isn't.
 pub fn first_unknown_property(atoms: u32, props: &[Property]) -> Option<u32>
     requires { length props.now < 2 ^ 32 }
     ensures { FindsLeast (OfItem (IsQueryProperty atoms) props.now) result }

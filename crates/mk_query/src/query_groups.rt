@@ -19,7 +19,8 @@ use std::alloc::Global;
 // How many groups there are.
 const GROUPS: u32 = 32;
 
-/// The 32 groups, each with the members of all parts of its number and with what the root says of it.
+/// The 32 groups, each with the members of all parts of its number and with what the root says of
+/// it.
 pub fn groups_of(alloc: Global, raw: &RawQuery) -> Result<Vec<Group>, Memory>
     requires few { member_count raw.now < 2 ^ 32 }
     requires root { HasPassed raw.now.root }

@@ -1,5 +1,6 @@
-// Tables that use themselves. They are looked for over groups: which group leads to which is a table of 32 rows, and a member of a
-// group uses itself where one of its sites leads back to the group.
+// Tables that use themselves. They are looked for over groups: which group leads to which is a
+// table of 32 rows, and a member of a group uses itself where one of its sites leads back to the
+// group.
 ghost use Rattle.std.specs.Prelude.{◌≡◌, ◌≤◌, ◌<◌, ◌+◌, ◌^◌, ◌&&◌, ◌||◌, All, IfOk, length, ℕ};
 ghost use Rattle.std.specs.List.{list_any};
 ghost use Rattle.mk_text.specs.Items.{FindsLeast};
@@ -45,7 +46,8 @@ pub fn first_recursive(
     Ok(None)
 }
 
-// The first member of a group, below a bound, from which a site leads back to the group, or else the bound.
+// The first member of a group, below a bound, from which a site leads back to the group, or else
+// the bound.
 fn least_in_group(
     templates: &[Template],
     members: &[u32],

@@ -1,6 +1,6 @@
-// Whether the root is small enough. The sizes of templates can have hundreds of digits, so all above 512 count as 513. The greatest
-// size in each group is found by rounds: in the first no member is used, and 33 rounds see through any nesting, since no group
-// leads back to itself.
+// Whether the root is small enough. The sizes of templates can have hundreds of digits, so all
+// above 512 count as 513. The greatest size in each group is found by rounds: in the first no
+// member is used, and 33 rounds see through any nesting, since no group leads back to itself.
 ghost use Rattle.std.specs.Prelude.{◌≡◌, ◌≤◌, ◌<◌, ◌+◌, ◌^◌, ◌↔◌, All, IfOk, IsTrue, length, max, slice_index_or, ℕ};
 ghost use Rattle.mk_model.specs.Sizes.{greatest};
 ghost use Rattle.mk_model.specs.Queries.{members_of};

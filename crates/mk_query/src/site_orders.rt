@@ -5,13 +5,18 @@ ghost use Rattle.mk_ctab.specs.Numbers.{natural};
 ghost use Rattle.mk_query.specs.Compiled.{atom_placed};
 ghost use Rattle.mk_query.specs.SlotMarks.{AreOrdered, HaveEnds, IsPutAt, ends_near, ends_placed};
 
-use crate::drawn::neighbours_of;
-use crate::marks::Near;
-use crate::site_ends::SiteEnds;
+use crate::drawn::{Near, neighbours_of};
 use mk_ctab::{RawTable, natural};
 use mk_props::{Pair, Property, SiteOrder};
 use mk_text::Memory;
 use std::alloc::Global;
+
+/// The neighbours of a site in their order; `second` is 0 where it has one.
+#[derive(Clone, Copy, Debug, PartialEq, Eq)]
+pub struct SiteEnds {
+    pub first: u32,
+    pub second: u32,
+}
 
 /// For each atom its neighbours in the order that a site there gives them, where it has one or two.
 pub fn ordered_ends(alloc: Global, table: &RawTable) -> Result<Vec<SiteEnds>, Memory>
@@ -61,7 +66,8 @@ fn ends_near(near: Near) -> SiteEnds
     }
 }
 
-// Puts the orders of the properties in place of what was noted, an earlier one in place of a later one.
+// Puts the orders of the properties in place of what was noted, an earlier one in place of a later
+// one.
 fn put_orders(ends: &mut Vec<SiteEnds>, props: &[Property])
     ensures { AreOrdered props.now ends.old.items ends.new.items }
 {

@@ -1,4 +1,5 @@
-// Roots that fail a check of lists, labels, sites or orders, by the check and the item that are named.
+// Roots that fail a check of lists, labels, sites or orders, by the check and the item that are
+// named.
 use crate::tests::fault_of;
 use mk_ctab::read_table;
 use mk_rgfile::{RawGroup, RawTables};
@@ -17,7 +18,8 @@ macro_rules! drawn {
     };
 }
 
-// A name, the lines of a table, and the check and the item that are named; check 0 where it passes all.
+// A name, the lines of a table, and the check and the item that are named; check 0 where it passes
+// all.
 static ROWS: [(&str, &str, u8, u32); 24] = [
     (
         "a list for an L",

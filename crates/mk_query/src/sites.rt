@@ -6,8 +6,7 @@ ghost use Rattle.mk_query.specs.Drawn.{is_site};
 ghost use Rattle.mk_query.specs.Marks.{are_apart, AreServed, IsLabels, is_served, site_mark};
 ghost use Rattle.mk_query.specs.SiteChecks.{HasLabel, HasSitePlace, IsLabelled};
 
-use crate::drawn::{is_site, labels_of, neighbours_of, sites_of};
-use crate::marks::{Labels, Near};
+use crate::drawn::{Labels, Near, is_site, labels_of, neighbours_of, sites_of};
 use mk_ctab::{RawAtom, RawTable};
 use mk_rgfile::RawGroup;
 use mk_text::Memory;
@@ -30,7 +29,8 @@ pub fn served_numbers(alloc: Global, groups: &[RawGroup]) -> Result<Vec<bool>, M
     Ok(served)
 }
 
-/// The first atom that is a site without a label, has a label and is none, or whose label isn't the only one or names no members.
+/// The first atom that is a site without a label, has a label and is none, or whose label isn't the
+/// only one or names no members.
 pub fn first_unlabelled_atom(
     alloc: Global,
     served: &[bool],

@@ -1,18 +1,17 @@
 // The tables of a raw query: the first that fails a check of its own, and their templates.
 ghost use Rattle.std.specs.Prelude.{◌≡◌, ◌≤◌, ◌<◌, ◌+◌, ◌++◌, ◌^◌, false, true, All, IfOk, List, OnOk, length};
 ghost use Rattle.mk_ctab.specs.declared.raw.RawTable.{RawTable as Table};
-ghost use Rattle.mk_ctab.specs.TableFacts.{IsRawTable};
 ghost use Rattle.mk_rgfile.specs.declared.raw_query.RawGroup.{RawGroup as Group};
-ghost use Rattle.mk_rgfile.specs.QueryFacts.{IsRawQuery, member_count};
+ghost use Rattle.mk_rgfile.specs.QueryFacts.{member_count};
 ghost use Rattle.mk_query.specs.Compiled.{AreTemplatesOf, tables_of};
 ghost use Rattle.mk_query.specs.FirstFault.{PassesAll};
+ghost use Rattle.mk_query.specs.InRange.{HasFewProperties, HaveFewProperties, IsQueryInRange, IsTableInRange};
 ghost use Rattle.mk_query.specs.Marks.{AreServed};
-ghost use Rattle.mk_query.specs.TableWalk.{FindsInMembers, FindsInRoot, FindsInTables, HasFewProperties, HaveFewProperties, PassNested};
+ghost use Rattle.mk_query.specs.TableWalk.{FindsInMembers, FindsInRoot, FindsInTables, PassNested};
 
-use crate::checking::fault_by;
+use crate::checking::{Fault, fault_by};
 use crate::compile_fault::FaultAt;
 use crate::sites::served_numbers;
-use crate::table_faults::Fault;
 use crate::templates::template_of;
 use mk_ctab::RawTable;
 use mk_model::Template;
@@ -22,7 +21,7 @@ use std::alloc::Global;
 
 /// The first fault of the first table that fails a check of its own.
 pub fn first_in_tables(alloc: Global, raw: &RawQuery) -> Result<Option<FaultAt>, Memory>
-    requires raw { IsRawQuery raw.now }
+    requires in_range { IsQueryInRange raw.now }
     requires few_members { member_count raw.now + 1 < 2 ^ 32 }
     requires few_properties { HaveFewProperties raw.now }
     ensures { IfOk result (FindsInTables raw.now) }
@@ -36,7 +35,7 @@ pub fn first_in_tables(alloc: Global, raw: &RawQuery) -> Result<Option<FaultAt>,
 
 // The first fault of the root.
 fn fault_of_root(alloc: Global, served: &[bool], raw: &RawQuery) -> Result<Option<FaultAt>, Memory>
-    requires raw { IsRawQuery raw.now }
+    requires in_range { IsQueryInRange raw.now }
     requires few_properties { HaveFewProperties raw.now }
     requires served { AreServed raw.now.groups served.now }
     ensures { IfOk result (FindsInRoot raw.now) }
@@ -53,7 +52,7 @@ fn first_in_groups(
     served: &[bool],
     raw: &RawQuery,
 ) -> Result<Option<FaultAt>, Memory>
-    requires raw { IsRawQuery raw.now }
+    requires in_range { IsQueryInRange raw.now }
     requires few_members { member_count raw.now + 1 < 2 ^ 32 }
     requires few_properties { HaveFewProperties raw.now }
     requires served { AreServed raw.now.groups served.now }
@@ -79,7 +78,7 @@ fn first_in_members(
     members: &[RawTable],
     t: u32,
 ) -> Result<Option<FaultAt>, Memory>
-    requires raw { All IsRawTable members.now }
+    requires in_range { All IsTableInRange members.now }
     requires few { t + length members.now < 2 ^ 32 }
     requires few_properties { All HasFewProperties members.now }
     ensures { IfOk result (λ found. (groups : List Group) → AreServed groups served.now → FindsInMembers groups members.now t found) }
@@ -104,7 +103,7 @@ fn fault_at(table: u32, fault: Fault) -> FaultAt
 
 /// The templates of all tables, where each passes its own checks.
 pub fn templates_of(alloc: Global, raw: &RawQuery) -> Result<Vec<Template>, Memory>
-    requires raw { IsRawQuery raw.now }
+    requires in_range { IsQueryInRange raw.now }
     requires passed { PassNested raw.now }
     ensures { IfOk result (λ templates. AreTemplatesOf (tables_of raw.now) templates.items) }
 {
@@ -124,7 +123,7 @@ fn put_templates(
     groups: &[RawGroup],
     members: &[RawTable],
 ) -> Result<(), Memory>
-    requires raw { All IsRawTable members.now }
+    requires in_range { All IsTableInRange members.now }
     requires passed { All (PassesAll groups.now false) members.now }
     ensures { OnOk result ((tables : List Table) → AreTemplatesOf tables templates.old.items → AreTemplatesOf (tables ++ members.now) templates.new.items) }
 {

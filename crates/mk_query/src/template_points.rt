@@ -3,7 +3,7 @@ ghost use Rattle.std.specs.Prelude.{◌≡◌, ◌≤◌, ◌++◌, IfOk, OnOk, 
 ghost use Rattle.mk_query.specs.Compiled.{points_of};
 ghost use Rattle.mk_query.specs.TemplateMarks.{bearers, bears_by};
 
-use crate::standing_atoms::gives_point;
+use crate::atom_marks::gives_point;
 use crate::values::{ValueKind, last_values};
 use mk_ctab::RawTable;
 use mk_text::{Memory, Numbers};

@@ -5,10 +5,8 @@ ghost use Rattle.mk_query.specs.Passed.{HasPassed};
 ghost use Rattle.mk_query.specs.SlotMarks.{slot_by};
 
 use crate::drawn::sites_of;
-use crate::linked::Linked;
-use crate::linked_atoms::linked_atoms;
-use crate::site_ends::SiteEnds;
-use crate::site_orders::ordered_ends;
+use crate::linked_atoms::{Linked, linked_atoms};
+use crate::site_orders::{SiteEnds, ordered_ends};
 use crate::values::{ValueKind, last_values};
 use mk_ctab::{RawTable, byte, natural};
 use mk_model::Slot;

@@ -5,9 +5,9 @@ use mk_model::{Group, Kind, Query, QueryBond, Slot, Template};
 use std::alloc::Global;
 use std::test::Fail;
 
-// Atom 1 is in the last of three lists, chlorine and bromine, and bears point 1, atom 2 is a link, whose charge column the
-// `M  CHG` sets aside, and atom 4 is a site of group 7 with an order. So the table stands as the one member of the root's site,
-// and group 7 has a member of one atom.
+// Atom 1 is in the last of three lists, chlorine and bromine, and bears point 1, atom 2 is a link,
+// whose charge column the `M  CHG` sets aside, and atom 4 is a site of group 7 with an order. So
+// the table stands as the one member of the root's site, and group 7 has a member of one atom.
 const TEXT: &str = concat!(
     "$MDL\n$MOL\n$HDR\n\n\n\n$END HDR\n",
     "$CTAB\n  2  1\n                               C\n                               R#\n  1  2  1\nM  RGP  1   2   1\nM  END\n$END CTAB\n",

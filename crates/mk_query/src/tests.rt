@@ -1,5 +1,6 @@
 // Tables that fail a check, by the check and the item that are named.
-use crate::{Fault, first_fault};
+use crate::checking::{Fault, fault_by};
+use crate::sites::served_numbers;
 use mk_ctab::read_table;
 use mk_rgfile::RawGroup;
 use mk_text::lines;
@@ -17,7 +18,8 @@ macro_rules! bonded {
     };
 }
 
-// A name, the lines of a table, and the check and the item that are named; check 0 where it passes all.
+// A name, the lines of a table, and the check and the item that are named; check 0 where it passes
+// all.
 const ROWS: [(&str, &str, u8, u32); 28] = [
     (
         "an unknown symbol",
@@ -190,7 +192,8 @@ pub fn fault_of(alloc: Global, groups: &[RawGroup], text: &str) -> Result<Fault,
     let spans = lines(alloc, text.as_bytes())?;
     match read_table(alloc, text.as_bytes(), &spans, 0) {
         Ok((table, _)) if table.props.as_slice().len() < 100 => {
-            match first_fault(alloc, groups, true, &table)? {
+            let served = served_numbers(alloc, groups)?;
+            match fault_by(alloc, &served, true, &table)? {
                 Some(fault) => Ok(fault),
                 None => Ok(Fault { check: 0, item: 0 }),
             }

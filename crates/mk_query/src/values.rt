@@ -17,7 +17,8 @@ pub enum ValueKind {
     Points,
 }
 
-/// For each of so many atoms the value that the last entry of a kind gives it, and 0 where none names it.
+/// For each of so many atoms the value that the last entry of a kind gives it, and 0 where none
+/// names it.
 pub fn last_values(
     alloc: Global,
     atoms: u32,

@@ -2,8 +2,9 @@
 ghost use Rattle.std.specs.Prelude.{◌≡◌, ◌≤◌, ◌<◌, ◌+◌, ◌^◌, All, IfOk, length, if◌then◌else◌};
 ghost use Rattle.mk_text.specs.Items.{FindsLeast};
 ghost use Rattle.mk_model.specs.QueryFits.{HasRisingSlots};
-ghost use Rattle.mk_rgfile.specs.QueryFacts.{IsRawQuery, member_count, members_in};
+ghost use Rattle.mk_rgfile.specs.QueryFacts.{member_count, members_in};
 ghost use Rattle.mk_query.specs.CompileFaults.{IsWhole, groups_of_number};
+ghost use Rattle.mk_query.specs.InRange.{IsQueryInRange};
 ghost use Rattle.mk_query.specs.OwnSizes.{IsSized};
 ghost use Rattle.mk_query.specs.Recursion.{HasGroup};
 ghost use Rattle.mk_query.specs.TableWalk.{FindsAcross};
@@ -29,7 +30,7 @@ pub fn first_across(
     templates: &[Template],
     groups: &[Group],
 ) -> Result<Option<FaultAt>, Memory>
-    requires raw { IsRawQuery raw.now }
+    requires in_range { IsQueryInRange raw.now }
     requires some { 0 < length templates.now }
     requires few { length templates.now < 2 ^ 32 }
     requires all { length groups.now ≡ 32 }
@@ -71,9 +72,10 @@ pub fn first_across(
     Ok(None)
 }
 
-// The item of the last check: 0 for a root without an atom, the least group number that stands twice, or 4,097.
+// The item of the last check: 0 for a root without an atom, the least group number that stands
+// twice, or 4,097.
 fn first_of_whole(raw: &RawQuery) -> Option<u32>
-    requires { IsRawQuery raw.now }
+    requires { IsQueryInRange raw.now }
     ensures { FindsLeast (IsWhole raw.now) result }
 {
     if raw.root.atoms.as_slice().len() == 0 {

@@ -15,6 +15,7 @@ use Rattle.mk_outside.specs.Tables.{after_batch, after_change, cursor_number}
 use Rattle.mk_rgfile.specs.KeptQueries.{KeptLinesAreKept}
 use Rattle.mk_rgfile.proofs.ForCallers.{query_keeps}
 use Rattle.mk_query.specs.Laws.{KeptTextIsTheQuery, PassedQueriesFit}
+use Rattle.mk_query.proofs.ForCallers.{in_range}
 use Rattle.mk_text.specs.Rising.{place_behind}
 use Rattle.mk_model.specs.Queries.{QueryView}
 use Rattle.mk_model.specs.QueryFits.{QueryFits}
@@ -191,7 +192,7 @@ place_is_kept c row (x ∷ rows) all found =
 
 -- what a text means keeps what every query keeps
 meant_fits : KeepingLaws → (text : List ℕ) (query : QueryView) → IsMeant text query → QueryFits query
-meant_fits laws text query meant = laws.fit meant.is.raw query (query_keeps (lines_of text) meant.is.raw meant.is.file) meant.is.means meant.is.passes
+meant_fits laws text query meant = laws.fit meant.is.raw query (in_range meant.is.raw (query_keeps (lines_of text) meant.is.raw meant.is.file)) meant.is.means meant.is.passes
 
 -- the place behind what is listed is short, where the one before it is
 listed_is_short : KeepingLaws → (t : Tables) (name : List ℕ) (query : QueryView) (place : List ℕ) (limit c : ℕ) (keys : List (List ℕ)) (text : List ℕ) → IsQueryNamed t.queries name query

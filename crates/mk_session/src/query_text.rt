@@ -1,7 +1,7 @@
 // What a text is as a query file.
 ghost use Rattle.std.specs.Prelude.{◌<◌, ◌+◌, ◌^◌, IfOk, length};
-ghost use Rattle.mk_query.specs.TableWalk.{HaveFewProperties};
-ghost use Rattle.mk_rgfile.specs.QueryFacts.{IsRawQuery, member_count};
+ghost use Rattle.mk_query.specs.InRange.{HaveFewProperties, IsQueryInRange};
+ghost use Rattle.mk_rgfile.specs.QueryFacts.{member_count};
 ghost use Rattle.mk_session.specs.QueryText.{IsRawSaid, IsTextSaid};
 
 use mk_ctab::TableFault;
@@ -39,7 +39,7 @@ pub fn query_of(alloc: Global, text: &[u8]) -> Result<QueryText, Memory>
 
 // The query of the tables of a query file, or the first check that they fail.
 fn query_of_raw(alloc: Global, raw: &RawQuery) -> Result<QueryText, Memory>
-    requires raw { IsRawQuery raw.now }
+    requires in_range { IsQueryInRange raw.now }
     requires few_members { member_count raw.now + 1 < 2 ^ 32 }
     requires few_properties { HaveFewProperties raw.now }
     ensures { IfOk result (IsRawSaid raw.now) }

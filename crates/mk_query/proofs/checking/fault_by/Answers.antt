@@ -1,7 +1,7 @@
 use Rattle.std.proofs.Common.{[], List, Option, arith}
 use Rattle.std.proofs.lemmas.Result.{IfOk-weaker}
 use Rattle.mk_rgfile.specs.declared.raw_query.RawGroup.{RawGroup}
-use Rattle.mk_query.specs.declared.table_faults.Fault.{Fault}
+use Rattle.mk_query.specs.declared.checking.Fault.{Fault}
 use Rattle.mk_query.specs.FirstFault.{query_bonds, FindsFirst, PassesBelow}
 use Rattle.mk_query.specs.Marks.{AreServed}
 use Rattle.mk_query.proofs.FaultLemmas.{found_below, passed_below}

@@ -21,24 +21,24 @@ groups_of-requires-clause-root c = record { groups = c.args.raw.now.groups; is_r
 
 pub first_across-requires-clause-few : goal.first_across-requires-clause-few
 first_across-requires-clause-few c =
-    omega (arith, c.requires.few_members, count_of c.args.raw.now c.requires.raw (passed (goal.at.first_across-requires-clause-few c).In_default) c.in_ok-templates.templates.items c.in_ok-templates.ensures, ap length c.deref.ensures.value)
+    omega (arith, c.requires.few_members, count_of c.args.raw.now c.requires.in_range (passed (goal.at.first_across-requires-clause-few c).In_default) c.in_ok-templates.templates.items c.in_ok-templates.ensures, ap length c.deref.ensures.value)
 
 pub first_across-requires-clause-members : goal.first_across-requires-clause-members
 first_across-requires-clause-members c =
     rw (c.deref.ensures.value, c.deref-2.ensures.value)
-    (members_within c.args.raw.now c.requires.raw (passed (goal.at.first_across-requires-clause-members c).In_default) c.in_ok-templates.templates.items c.in_ok-templates.ensures c.in_ok-groups.groups.items c.in_ok-groups.ensures)
+    (members_within c.args.raw.now c.requires.in_range (passed (goal.at.first_across-requires-clause-members c).In_default) c.in_ok-templates.templates.items c.in_ok-templates.ensures c.in_ok-groups.groups.items c.in_ok-groups.ensures)
 
 pub first_across-requires-clause-labels : goal.first_across-requires-clause-labels
 first_across-requires-clause-labels c =
-    rw c.deref.ensures.value (labels_in c.args.raw.now c.requires.raw (passed (goal.at.first_across-requires-clause-labels c).In_default) c.in_ok-templates.templates.items c.in_ok-templates.ensures)
+    rw c.deref.ensures.value (labels_in c.args.raw.now c.requires.in_range (passed (goal.at.first_across-requires-clause-labels c).In_default) c.in_ok-templates.templates.items c.in_ok-templates.ensures)
 
 pub first_across-requires-clause-rising : goal.first_across-requires-clause-rising
 first_across-requires-clause-rising c =
-    rw c.deref.ensures.value (slots_rise_in c.args.raw.now c.requires.raw (passed (goal.at.first_across-requires-clause-rising c).In_default) c.in_ok-templates.templates.items c.in_ok-templates.ensures)
+    rw c.deref.ensures.value (slots_rise_in c.args.raw.now c.requires.in_range (passed (goal.at.first_across-requires-clause-rising c).In_default) c.in_ok-templates.templates.items c.in_ok-templates.ensures)
 
 pub first_across-requires-clause-sized : goal.first_across-requires-clause-sized
 first_across-requires-clause-sized c =
-    rw c.deref.ensures.value (sized_in c.args.raw.now c.requires.raw (passed (goal.at.first_across-requires-clause-sized c).In_default) c.in_ok-templates.templates.items c.in_ok-templates.ensures)
+    rw c.deref.ensures.value (sized_in c.args.raw.now c.requires.in_range (passed (goal.at.first_across-requires-clause-sized c).In_default) c.in_ok-templates.templates.items c.in_ok-templates.ensures)
 
 pub returns-in-Some-2-clause-fault : goal.returns-in-Some-2-clause-fault
 returns-in-Some-2-clause-fault c =
@@ -54,7 +54,7 @@ of-requires c =
     let past = (goal.at.of-requires c).In_default in
     let across : PassAcross c.args.raw.now (record { templates = c.in_ok-templates.templates.items; groups = c.in_ok-groups.groups.items }) =
     rw (c.deref.ensures.value, c.deref-2.ensures.value, c.in_default-2.is) at c.in_ok-fault-2.ensures in
-    fits_query c.args.raw.now c.requires.raw (passed past) c.in_ok-templates.templates.items c.in_ok-templates.ensures c.in_ok-groups.groups.items c.in_ok-groups.ensures across
+    fits_query c.args.raw.now c.requires.in_range (passed past) c.in_ok-templates.templates.items c.in_ok-templates.ensures c.in_ok-groups.groups.items c.in_ok-groups.ensures across
 
 pub returns-clause-passed : goal.returns-clause-passed
 returns-clause-passed c =

@@ -1,5 +1,5 @@
 use Rattle.std.proofs.Common.{◌≡◌, ◌≤◌, ℕ, false}
-use Rattle.mk_query.specs.Standings.{bears}
+use Rattle.mk_query.specs.AtomMarks.{bears}
 use Rattle.mk_query.proofs.points.first_bearer.Given as goal
 
 abbrev pub invariant-loop-i : goal.invariant-loop-i

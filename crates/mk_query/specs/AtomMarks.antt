@@ -1,12 +1,13 @@
--- What the code knows of the atoms of a table: sites, attachment points and links. For the code alone.
+-- What the code knows of the atoms of a table: sites, attachment points and links. For the code
+-- alone.
 --     AreStanding table standing     it is that of the table
 --     HasPlace standing x            x is one of the atoms; HasEachPlace, so many of them
 --     is_site, is_link, bears        what is asked of atom x
 use Rattle.std.specs.Prelude.{◌≡◌, ◌≤◌, ◌-◌, ℕ, pos, Bool, length, map, slice_index_or}
 use Rattle.mk_ctab.specs.declared.raw.RawTable.{RawTable}
-use Rattle.mk_query.specs.declared.linked.Linked.TheVariants.{Nothing}
-use Rattle.mk_query.specs.declared.standing.Standing.{Standing}
-use Rattle.mk_query.specs.Drawn.{gives_point, points_of}
+use Rattle.mk_query.specs.declared.atom_marks.Standing.{Standing}
+use Rattle.mk_query.specs.declared.linked_atoms.Linked.TheVariants.{Nothing}
+use Rattle.mk_query.specs.Drawn.{gives_point, point_pairs}
 use Rattle.mk_query.specs.Drawn.{is_site as site_by}
 use Rattle.mk_query.specs.LastValues.{AreLastValues}
 use Rattle.mk_query.specs.LinkMarks.{AreLinked, is_named}
@@ -17,7 +18,7 @@ pub record AreStanding (table : RawTable) (standing : Standing) : Type 0 where
   pub sites_are : standing.sites.items ≡ map site_by table.atoms
   pub sites_size : length standing.sites.items ≡ length table.atoms
   pub points_size : length standing.points.items ≡ length table.atoms
-  pub points_are : AreLastValues points_of table.props standing.points.items
+  pub points_are : AreLastValues point_pairs table.props standing.points.items
   pub links_size : length standing.links.items ≡ length table.atoms
   pub links_are : AreLinked table.props standing.links.items
 
@@ -28,7 +29,7 @@ pub record HasPlace (standing : Standing) (x : ℕ) : Type 0 where
   pub of_points : x ≤ length standing.points.items
   pub of_links : x ≤ length standing.links.items
 
--- so many atoms have a place
+-- each of so many atoms has a place
 abbrev pub HasEachPlace : Standing → ℕ → Type 0
 HasEachPlace standing atoms = (x : ℕ) → 1 ≤ x → x ≤ atoms → HasPlace standing x
 

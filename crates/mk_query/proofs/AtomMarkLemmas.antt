@@ -6,12 +6,12 @@ use Rattle.std.specs.Prelude.{pos}
 use Rattle.mk_props.specs.declared.property.LinkEntry.{LinkEntry}
 use Rattle.mk_ctab.specs.declared.raw.RawTable.{RawTable}
 use Rattle.mk_ctab.specs.Charges.{last_or, values_for}
-use Rattle.mk_query.specs.declared.linked.Linked.{Linked}
-use Rattle.mk_query.specs.declared.linked.Linked.TheVariants as linked
-use Rattle.mk_query.specs.declared.standing.Standing.{Standing}
-use Rattle.mk_query.specs.Drawn.{bears_point, gives_point, is_site_at, links_at, links_for, pairs_by, points_of}
+use Rattle.mk_query.specs.declared.atom_marks.Standing.{Standing}
+use Rattle.mk_query.specs.declared.linked_atoms.Linked.{Linked}
+use Rattle.mk_query.specs.declared.linked_atoms.Linked.TheVariants as linked
+use Rattle.mk_query.specs.AtomMarks.{AreStanding, HasPlace, bears, is_link, is_site}
+use Rattle.mk_query.specs.Drawn.{bears_point, gives_point, is_site_at, links_at, links_for, pairs_by, point_pairs}
 use Rattle.mk_query.specs.LinkMarks.{IsLinked, is_named}
-use Rattle.mk_query.specs.Standings.{AreStanding, HasPlace, bears, is_link, is_site}
 use Rattle.mk_query.proofs.MarkLemmas.{marks-at}
 use Rattle.mk_query.proofs.SiteLemmas.{site_noted}
 
@@ -29,7 +29,7 @@ site_is table standing x are = site_noted table standing.sites.items x are.sites
 pub bears_is : (table : RawTable) (standing : Standing) (p x : ℕ) → AreStanding table standing → 1 ≤ x → x ≤ length table.atoms → bears standing p x ≡ bears_point table p x
 bears_is table standing p x are least most =
     let place : x - 1 + 1 ≡ x = omega arith in
-    ap (gives_point p) (are.points_are (x - 1) (omega (arith, are.points_size)) ∙ ap (λ (y : ℕ). last_or (pos 0) (values_for y (pairs_by points_of table.props))) place)
+    ap (gives_point p) (are.points_are (x - 1) (omega (arith, are.points_size)) ∙ ap (λ (y : ℕ). last_or (pos 0) (values_for y (pairs_by point_pairs table.props))) place)
 
 -- what is noted of the links of atom x
 pub links_are : (table : RawTable) (standing : Standing) (x : ℕ) → AreStanding table standing → 1 ≤ x → x ≤ length table.atoms → IsLinked (links_at table x) (get_or standing.links.items (x - 1) linked.Nothing)

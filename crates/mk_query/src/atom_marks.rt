@@ -1,17 +1,24 @@
 // What stands at the atoms of a table: how it is gathered, and what is asked of one atom.
 ghost use Rattle.std.specs.Prelude.{◌≡◌, ◌≤◌, ◌-◌, pos, IfOk, length, slice_index_or};
-ghost use Rattle.mk_query.specs.declared.linked.Linked.TheVariants.{Nothing};
+ghost use Rattle.mk_query.specs.declared.linked_atoms.Linked.TheVariants.{Nothing};
+ghost use Rattle.mk_query.specs.AtomMarks.{AreStanding, HasPlace, bears, is_link, is_site};
 ghost use Rattle.mk_query.specs.Drawn.{gives_point};
-ghost use Rattle.mk_query.specs.Standings.{AreStanding, HasPlace, bears, is_link, is_site};
 
 use crate::drawn::sites_of;
-use crate::linked::Linked;
-use crate::linked_atoms::linked_atoms;
-use crate::standing::Standing;
+use crate::linked_atoms::{Linked, linked_atoms};
 use crate::values::{ValueKind, last_values};
 use mk_ctab::{RawTable, natural};
 use mk_text::Memory;
 use std::alloc::Global;
+
+/// For each atom, whether it is a site, the value of its attachment points, and the links that name
+/// it.
+#[derive(Debug, Drop)]
+pub struct Standing {
+    pub sites: Vec<bool>,
+    pub points: Vec<i32>,
+    pub links: Vec<Linked>,
+}
 
 pub fn standing_of(alloc: Global, table: &RawTable) -> Result<Standing, Memory>
     requires { length table.now.atoms ≤ 999 }
