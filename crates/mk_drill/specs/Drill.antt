@@ -8,7 +8,7 @@
 --     drill_line count hits            the line
 --     IsDrill start count line         the line of the drill
 --     AppendsDrill start count before after     the line is appended
---     OneDrill                         there is one
+--     OneDrill                         a start and a count have at most one line
 use Rattle.std.specs.Prelude.{◌≡◌, ◌≢◌, ℕ, ◌+◌, ◌*◌, ◌%◌, ◌<◌, ◌≤◌, List, [], ◌∷◌, ◌++◌, length, sum, codes, decimal}
 use Rattle.mk_text.specs.Rising.{AreFirst, IsRisingListOfAll, place_behind}
 use Rattle.mk_model.specs.Keys.{Remains}

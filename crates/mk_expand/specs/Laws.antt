@@ -1,6 +1,6 @@
 -- Laws of expansions.
 --     CodeAndHitAreShort        a code and a hit of its expansion together have at most 512 numbers
---     OneExpansion              a code has one expansion
+--     OneExpansion              a code has at most one expansion
 use Rattle.std.specs.Prelude.{◌≡◌, ◌≤◌, ◌+◌, ℕ, List, length}
 use Rattle.mk_model.specs.Expansions.{IsExpansion}
 use Rattle.mk_model.specs.Graphs.{GraphView}

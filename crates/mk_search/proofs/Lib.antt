@@ -5,4 +5,5 @@ pub mod OccurrencesLemmas
 pub mod RecordsLemmas
 pub mod PlainLemmas
 pub mod PagesLemmas
+pub mod AllKeysLemmas
 pub mod ForCallers

@@ -55,7 +55,7 @@ above_rest (p ∷ place) n back not below = by_test (eqb p n) refl below
 -- ---- rows
 
 -- a number under which a molecule is held
-held_number : (rows : List (Numbered Molecule)) (n : ℕ) (mol : Molecule) → IsHeldIn rows n mol → holds n rows ≡ true
+pub held_number : (rows : List (Numbered Molecule)) (n : ℕ) (mol : Molecule) → IsHeldIn rows n mol → holds n rows ≡ true
 held_number rows n mol held = by_test (holds n rows) refl
   where
     by_test : (b : Bool) → holds n rows ≡ b → holds n rows ≡ true
@@ -63,14 +63,14 @@ held_number rows n mol held = by_test (holds n rows) refl
     by_test false e = (let none : item_at n rows ≡ None = no_item n rows e in absurd cc)
 
 -- one molecule is held under a number
-one_molecule : (rows : List (Numbered Molecule)) (n m : ℕ) (mol other : Molecule) → n ≡ m → IsHeldIn rows n mol → IsHeldIn rows m other → mol ≡ other
+pub one_molecule : (rows : List (Numbered Molecule)) (n m : ℕ) (mol other : Molecule) → n ≡ m → IsHeldIn rows n mol → IsHeldIn rows m other → mol ≡ other
 one_molecule rows n m mol other same held its =
     let here : item_at n rows ≡ Some other = subst (λ (k : ℕ). item_at k rows ≡ Some other) (sym same) its in
     let one : Some mol ≡ Some other = sym held ∙ here in
     cc
 
 -- a number that is held is the first one, or behind it
-held_either : (n : ℕ) (x : Numbered Molecule) (rows : List (Numbered Molecule)) → holds n (x ∷ rows) ≡ true → (x.number ≡ n) ⊎ (holds n rows ≡ true)
+pub held_either : (n : ℕ) (x : Numbered Molecule) (rows : List (Numbered Molecule)) → holds n (x ∷ rows) ≡ true → (x.number ≡ n) ⊎ (holds n rows ≡ true)
 held_either n x rows held =
     cond_both (nat_eq x.number n) true (holds n rows) (λ b. b ≡ true → (x.number ≡ n) ⊎ (holds n rows ≡ true))
     (λ e. λ _. inl (eqb-true x.number n e)) (λ e. λ later. inr later) (grind (arith, common_steps, held))
