@@ -9,7 +9,8 @@ use Rattle.mk_outside.specs.Tables.{no_tables}
 use Rattle.mk_session.specs.declared.status.Status.{Status}
 use Rattle.mk_session.specs.declared.status.Status.TheVariants as status
 use Rattle.mk_session.specs.Files.{Look}
-use Rattle.mk_session.specs.Headline.{Headline, World}
+use Rattle.mk_session.specs.Headline.{Headline}
+use Rattle.mk_session.specs.Outcomes.{World}
 
 -- what is told of files, input and output, how many of their calls failed, and how many on a name
 -- that isn't there

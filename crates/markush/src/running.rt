@@ -2,7 +2,7 @@
 ghost use Rattle.std.specs.Prelude.{◌≡◌, map};
 ghost use Rattle.std.specs.String.{string_bytes};
 ghost use Rattle.mk_session.specs.Commands.{kind_of_words, store_path};
-ghost use Rattle.mk_session.specs.Headline.{IsUntouched};
+ghost use Rattle.mk_session.specs.Outcomes.{IsUntouched};
 ghost use Rattle.markush.specs.Runs.{Runs, RunsInMemory, RunsOverStore};
 
 use mk_outside::{Files, Sink, Source, SureKeeper, Tables};

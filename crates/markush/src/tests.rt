@@ -62,11 +62,23 @@ fn is_run(rt: &HostRuntime, row: &Row) -> Result<bool, Memory> {
 }
 
 // Each is a run of its own over what the ones before left.
-static RUNS: [Row; 10] = [
+static RUNS: [Row; 12] = [
+    Row {
+        words: &["drill", "7", "200"],
+        script: "",
+        wanted: "drill 200 hits 762 fold 374750\n",
+        status: Status::Done,
+    },
     Row {
         words: &["--store", "runs.db"],
         script: "load m\nquery q q\nload m\nload m\nremove 2\nlist\n",
         wanted: "loaded 1 first 1\nkept q\nloaded 1 first 2\nloaded 1 first 3\nremoved 2\nrecords 2\nrecord 1\nrecord 3\nqueries 1\nquery q\ncursors 0\nnext 4 1\n",
+        status: Status::Done,
+    },
+    Row {
+        words: &["--store", "runs.db", "drill", "7", "200"],
+        script: "",
+        wanted: "drill 200 hits 762 fold 374750\n",
         status: Status::Done,
     },
     Row {

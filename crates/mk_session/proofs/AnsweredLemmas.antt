@@ -8,7 +8,7 @@ use Rattle.mk_session.specs.Ends.{Unwritten, PutFailed, PutNoMemory, Stopped, Fi
 use Rattle.mk_session.specs.Ends.{Commands as EndsCommands}
 use Rattle.mk_session.specs.Faults.{Faults}
 use Rattle.mk_session.specs.Files.{Look}
-use Rattle.mk_session.specs.Headline.{World, WentSo, InputUnread, Ended, IsAnswered, IsWholeRun}
+use Rattle.mk_session.specs.Outcomes.{World, WentSo, InputUnread, Ended, IsAnswered, IsWholeRun}
 use Rattle.mk_session.specs.Run.{OneLine, Commands}
 use Rattle.mk_session.specs.StoredRows.{AllRead}
 

@@ -16,7 +16,7 @@ use Rattle.mk_session.specs.declared.command.LineKind.{LineKind}
 use Rattle.mk_session.specs.declared.command.LineKind.TheVariants as line_kind
 use Rattle.mk_session.specs.declared.command.WordsKind.{WordsKind}
 use Rattle.mk_session.specs.declared.command.WordsKind.TheVariants as words_kind
-use Rattle.mk_session.specs.Commands.{CanAsk, CanAskLine, CanAskWords, CommandsAreRead, IsName, IsRow, OneReading, behind_store, command_in, file_in, held_number, is_name, kind_behind_store, kind_of_line, kind_of_order, kind_of_words, kind_of_words_order, limit_in, name_in, number_in, row_of_one, row_of_three, row_of_two, with_one, with_two, within}
+use Rattle.mk_session.specs.Commands.{CanAsk, CanAskLine, CanAskWords, CommandsAreRead, IsName, IsCommandOf, OneReading, behind_store, command_in, file_in, held_number, is_name, kind_behind_store, kind_of_line, kind_of_order, kind_of_words, kind_of_words_order, limit_in, name_in, number_in, row_of_one, row_of_three, row_of_two, with_one, with_two, within}
 use Rattle.mk_session.specs.Commands.{MatchRow, LoadRow, ReplaceRow, RemoveRow, QueryRow, ForgetRow, SearchRow, ResumeRow, ShowRow, ListRow, DrillRow}
 
 -- ---- from a row to what computes it
@@ -30,7 +30,7 @@ one_is make o a command is same = ap (with_one make) is ∙ ap Some (sym same)
 two_is : {A B : Type 0} (make : A → B → Command) (o : Option A) (p : Option B) (a : A) (b : B) (command : Command) → o ≡ Some a → p ≡ Some b → command ≡ make a b → with_two make o p ≡ Some command
 two_is make o p a b command is is' same = ap (λ x. with_two make x p) is ∙ ap (λ y. with_two make (Some a) y) is' ∙ ap Some (sym same)
 
-row_is : (words : List (List ℕ)) (command : Command) → IsRow words command → command_in words ≡ Some command
+row_is : (words : List (List ℕ)) (command : Command) → IsCommandOf words command → command_in words ≡ Some command
 row_is words command (MatchRow a b query molecules same is is' made) = of_words words _ command same (two_is variant.Match (file_in a) (file_in b) query molecules command is is' made)
 row_is words command (LoadRow a file same is made) = of_words words _ command same (one_is variant.Load (file_in a) file command is made)
 row_is words command (ReplaceRow a b number file same is is' made) = of_words words _ command same (two_is variant.Replace (held_number a) (file_in b) number file command is is' made)
@@ -82,11 +82,11 @@ spelt word others = word ∷ others
 as_word : (word keyword : List ℕ) (others : List (List ℕ)) → word ≡ keyword → word ∷ others ≡ keyword ∷ others
 as_word word keyword others same = ap (λ (w : List ℕ). w ∷ others) same
 
-row_one : (word : List ℕ) (command : Command) → row_of_one word ≡ Some command → IsRow (word ∷ []) command
+row_one : (word : List ℕ) (command : Command) → row_of_one word ≡ Some command → IsCommandOf (word ∷ []) command
 row_one word command is =
     by_word word (codes "list") _ _ command is (λ same is. ListRow (as_word word _ [] same) cc) (λ is. absurd cc)
 
-row_two : (word a : List ℕ) (command : Command) → row_of_two word a ≡ Some command → IsRow (word ∷ a ∷ []) command
+row_two : (word a : List ℕ) (command : Command) → row_of_two word a ≡ Some command → IsCommandOf (word ∷ a ∷ []) command
 row_two word a command is =
     by_word word (codes "load") _ _ command is
     (λ same is. let h = has_one variant.Load (file_in a) command is in LoadRow a h.a (as_word word _ _ same) h.is h.made)
@@ -98,7 +98,7 @@ row_two word a command is =
     (λ same is. let h = has_one variant.Show (held_number a) command is in ShowRow a h.a (as_word word _ _ same) h.is h.made)
     (λ is. absurd cc))))
 
-row_three : (word a b : List ℕ) (command : Command) → row_of_three word a b ≡ Some command → IsRow (word ∷ a ∷ b ∷ []) command
+row_three : (word a b : List ℕ) (command : Command) → row_of_three word a b ≡ Some command → IsCommandOf (word ∷ a ∷ b ∷ []) command
 row_three word a b command is =
     by_word word (codes "match") _ _ command is
     (λ same is. let h = has_two variant.Match (file_in a) (file_in b) command is in MatchRow a b h.a h.b (as_word word _ _ same) h.is h.is' h.made)
@@ -114,7 +114,7 @@ row_three word a b command is =
     (λ same is. let h = has_two variant.Drill (number_in 0 999999999 a) (limit_in b) command is in DrillRow a b h.a h.b (as_word word _ _ same) h.is h.is' h.made)
     (λ is. absurd cc))))))
 
-is_row : (words : List (List ℕ)) (command : Command) → command_in words ≡ Some command → IsRow words command
+is_row : (words : List (List ℕ)) (command : Command) → command_in words ≡ Some command → IsCommandOf words command
 is_row [] command is = absurd cc
 is_row (a ∷ []) command is = row_one a command is
 is_row (a ∷ b ∷ []) command is = row_two a b command is
@@ -157,7 +157,7 @@ name_is word name is = by_test (is_name word) refl is
     by_test true e is = let same : word ≡ name = cc in ap is_name (sym same) ∙ e
     by_test false e is = absurd cc
 
-ranges : (words : List (List ℕ)) (command : Command) → IsRow words command → CanAsk command
+ranges : (words : List (List ℕ)) (command : Command) → IsCommandOf words command → CanAsk command
 ranges words command (MatchRow a b query molecules same is is' made) = subst CanAsk (sym made) tt
 ranges words command (LoadRow a file same is made) = subst CanAsk (sym made) tt
 ranges words command (ReplaceRow a b number file same is is' made) = subst CanAsk (sym made) (within_range 1 999999999 (digits_number a) number is)

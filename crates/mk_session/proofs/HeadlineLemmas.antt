@@ -16,8 +16,9 @@ use Rattle.mk_session.specs.Ends.{Unwritten, PutFailed, PutNoMemory, Stopped, Fi
 use Rattle.mk_session.specs.Ends.{Commands as EndsCommands}
 use Rattle.mk_session.specs.Faults.{Faults, FilesFailed, OutputFailed, KeeperFailed}
 use Rattle.mk_session.specs.Files.{Look}
-use Rattle.mk_session.specs.Headline.{World, WentSo, InputUnread, Ended, IsQuiet, IsReadOut, IsAllDone, IsInputSame, IsRestSame, Headline}
-use Rattle.mk_session.specs.Headline.{Done as ReadOutDone, Refused as ReadOutRefused, BadStore as ReadOutBadStore, AllCommandsDone, SomeRefused}
+use Rattle.mk_session.specs.Headline.{Headline}
+use Rattle.mk_session.specs.Outcomes.{World, WentSo, InputUnread, Ended, IsQuiet, IsReadOut, IsAllDone, IsInputSame, IsRestSame, IsTaken}
+use Rattle.mk_session.specs.Outcomes.{Done as ReadOutDone, Refused as ReadOutRefused, BadStore as ReadOutBadStore, AllCommandsDone, SomeRefused}
 use Rattle.mk_session.specs.Orders.{Asked, Nothing, Order, Orders, TooMuch, asked, asked_of, orders_asked}
 use Rattle.mk_session.specs.Run.{IsOneLine, IsRun, Misses, OneLine, Commands, NotUnderstood, ScriptLong, BadStore}
 use Rattle.mk_session.specs.Running.{IsDoneAll, IsHalted, IsGiven, IsHeld, IsLoaded, Leaves, Gives, asked_of_given}
@@ -151,7 +152,7 @@ module _ (sound : Type 0) (words : List (List ℕ)) (old new : World) (ends : St
   -- the run ended once the input was read, or wasn't needed
   module _ (g : Given) (is : IsGiven words old.input new.input old.input_faults new.input_faults g)
       (leaves : Leaves sound old.files (asked_of_given g) old.tables new.tables old.output new.output old.faults new.faults old.absences new.absences ends)
-      (rest : kind_of_words words ≡ words_kind.NotUnderstood → IsRestSame old new) where
+      (rest : kind_of_words words ≡ words_kind.NotUnderstood → IsRestSame old new) (taken : IsTaken old.input new.input) where
     went : WentSo words is.input leaves.t old new leaves.added leaves.left ends
     went = Ended is.count (subst (λ (a : Asked). Ends old.files leaves.t a old.faults new.faults leaves.added leaves.left ends) (sym is.asks) leaves.ends_so)
 
@@ -177,6 +178,7 @@ module _ (sound : Type 0) (words : List (List ℕ)) (old new : World) (ends : St
           (quiet_run is.input leaves.t leaves.added leaves.left went quiet more);
       input_end = λ script out. is.at_end script (not_too_much out);
       input_same = λ other. record { left = is.same other; count = is.count };
+      input_taken = taken;
       rest_same = rest;
       missed = subst (λ (a : Asked). Misses old.files leaves.t (orders_asked a) old.absences new.absences) (sym is.asks) leaves.misses;
     }
@@ -194,7 +196,7 @@ untouched_keeper sound told = held_as sound told told (λ _. stays_same told tol
 pub understood : (words : List (List ℕ)) (left left' : Option (List ℕ)) (f f' : ℕ) (g : Given) → IsGiven words left left' f f' g → asked_of_given g ≢ Nothing → kind_of_words words ≢ words_kind.NotUnderstood
 understood words left left' f f' g is other e = other (sym is.asks ∙ ap (λ (k : WordsKind). asked_of k is.input) e)
 
-module _ (sound : Type 0) (words : List (List ℕ)) (old new : World) (out : new.output ≡ old.output) (tables : new.tables ≡ old.tables) (faults : new.faults ≡ old.faults) (absences : new.absences ≡ old.absences) where
+module _ (sound : Type 0) (words : List (List ℕ)) (old new : World) (out : new.output ≡ old.output) (tables : new.tables ≡ old.tables) (faults : new.faults ≡ old.faults) (absences : new.absences ≡ old.absences) (taken : IsTaken old.input new.input) where
   stopped_with : (ends : Status) (input : Held_input old.input) (held : IsHeld sound old.tables new.tables) → WentSo words input.text held.t old new [] held.t ends → (IsReadOut ends → ⊥)
       → (kind_of_words words ≢ words_kind.Script → IsInputSame old new) → Headline sound words old new ends
   stopped_with ends input held went out_of same = record {
@@ -212,6 +214,7 @@ module _ (sound : Type 0) (words : List (List ℕ)) (old new : World) (out : new
     complete = λ quiet more orders a reads. all_done old.files held.t (asked words input.text) [] held.t ends orders a reads (quiet_run sound words old new ends input.text held.t [] held.t went quiet more);
     input_end = λ script read_out. absurd (out_of read_out);
     input_same = same;
+    input_taken = taken;
     rest_same = λ _. record { tables = tables; files_count = ap (λ (x : Faults). x.files) faults; keeper_count = ap (λ (x : Faults). x.keeper) faults; absences = absences };
     missed = subst (λ (n : ℕ). Misses old.files held.t (orders_asked (asked words input.text)) old.absences n) (sym absences) (same_misses old.files held.t (orders_asked (asked words input.text)) old.absences);
   }

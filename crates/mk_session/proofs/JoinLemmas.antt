@@ -8,9 +8,9 @@ use Rattle.mk_outside.specs.declared.tables.Tables.{Tables}
 use Rattle.mk_text.specs.Lines.{lines_of, pieces, onto_first_piece, without_cr}
 use Rattle.mk_session.specs.declared.status.Status.{Status}
 use Rattle.mk_session.specs.Orders.{Asked, Order, Orders, asked_of_script, orders_of, orders_of_line, script_bytes}
-use Rattle.mk_session.specs.Effects.{Effect, after_effects, ending, ending_if, is_refusal, texts}
+use Rattle.mk_session.specs.Effects.{Effect, after_effects, status_behind, ending_if, is_refusal, texts}
 use Rattle.mk_session.specs.Files.{Look}
-use Rattle.mk_session.specs.Headline.{IsAllDone, AllCommandsDone, SomeRefused}
+use Rattle.mk_session.specs.Outcomes.{IsAllDone, AllCommandsDone, SomeRefused}
 use Rattle.mk_session.specs.Laws.{TwoScripts, joined}
 use Rattle.mk_session.specs.StoredRows.{AllRead}
 use Rattle.mk_session.specs.Run.{Does, IsOneLine, IsRun, OneLine, Commands, NotUnderstood, ScriptLong, BadStore}
@@ -86,7 +86,7 @@ record IsCommandRun (files : Option Look) (t : Tables) (orders : List Order) (ad
   does : Does files t orders effects
   adds : added ≡ texts effects
   leaves : left ≡ after_effects effects t
-  status : ends ≡ ending effects
+  status : ends ≡ status_behind effects
 
 of_first : (files : Option Look) (t : Tables) (asked : Asked) (orders : List Order) (added : List ℕ) (left : Tables) (ends : Status) → asked ≡ Orders orders → IsAllDone ends → IsRun files t asked added left ends → IsCommandRun files t orders added left ends
 of_first files t asked orders added left ends is done (OneLine one a) = absurd (one_line_done t asked added ends done one)
@@ -109,7 +109,7 @@ both_runs files t t1 t2 xs ys a b ends1 ends2 asked is d e =
     (does_more files t xs ys d.effects e.effects d.does (subst (λ (u : Tables). Does files u ys e.effects) d.leaves e.does))
     (ap (λ (x : List ℕ). x ++ b) d.adds ∙ ap (λ (x : List ℕ). texts d.effects ++ x) e.adds ∙ sym (texts_more d.effects e.effects))
     (e.leaves ∙ ap (λ (u : Tables). after_effects e.effects u) d.leaves ∙ sym (after_more t d.effects e.effects))
-    (ap (λ (s : Status). joined s ends2) d.status ∙ ap (λ (s : Status). joined (ending d.effects) s) e.status
+    (ap (λ (s : Status). joined s ends2) d.status ∙ ap (λ (s : Status). joined (status_behind d.effects) s) e.status
     ∙ joined_if (list_any is_refusal d.effects) (list_any is_refusal e.effects) ∙ ap ending_if (sym (any_more d.effects e.effects)))
 
 pub two_scripts : TwoScripts

@@ -24,7 +24,7 @@ use Rattle.mk_session.specs.declared.judgment.HeldQuery.TheVariants.{Query, Refu
 use Rattle.mk_session.specs.declared.status.Status.{Status}
 use Rattle.mk_session.specs.declared.stored_rows.RowKind.{RowKind}
 use Rattle.mk_session.specs.Answers.{bad_line_text, check_text, long_molecules_text, records_text, v3000_text}
-use Rattle.mk_session.specs.Effects.{Answers, Effect, Refuses, after_effect, after_effects, ending, texts}
+use Rattle.mk_session.specs.Effects.{Answers, Effect, Refuses, after_effect, after_effects, status_behind, texts}
 use Rattle.mk_session.specs.Files.{IsLong, IsShort, Look}
 use Rattle.mk_session.specs.Hits.{IsHitsText}
 use Rattle.mk_session.specs.Laws.{OneEffect, OneRun}
@@ -289,4 +289,4 @@ one_run laws look t asked a b left other ends ends' (Commands orders e reads eff
     let h = sym e ∙ e' in
     let same : orders ≡ others = cc in
     let one : effects ≡ effects' = one_does laws look t others effects effects' (subst (λ (os : List Order). Does (Some look) t os effects) same does) does' in
-    (adds ∙ ap texts one ∙ sym adds', leaves ∙ ap (λ (es : List Effect). after_effects es t) one ∙ sym leaves', status ∙ ap ending one ∙ sym status')
+    (adds ∙ ap texts one ∙ sym adds', leaves ∙ ap (λ (es : List Effect). after_effects es t) one ∙ sym leaves', status ∙ ap status_behind one ∙ sym status')

@@ -1,6 +1,8 @@
 -- What the input holds, from what was read of it.
-use Rattle.std.proofs.Common.{◌≡◌, ℕ, ◌≤◌, List, [], length, Option, Some, None, refl, sym, arith, length-append, ◌∙◌, ap}
+use Rattle.std.proofs.Common.{◌≡◌, ℕ, ◌≤◌, List, [], ◌++◌, length, take, Option, Some, None, refl, sym, arith, length-append, ◌∙◌, ap}
+use Rattle.std.proofs.lemmas.List.{length-take-le}
 use Rattle.std.specs.Io.KnownBytes.{Consumes}
+use Rattle.std.proofs.KnownBytes.{Consumes-nil, Consumes-trans}
 use Rattle.mk_session.specs.declared.command.WordsKind.{WordsKind}
 use Rattle.mk_session.specs.declared.command.WordsKind.TheVariants as words_kind
 use Rattle.mk_session.specs.declared.command.Command.{Command}
@@ -8,7 +10,7 @@ use Rattle.mk_session.specs.declared.work.Given.TheVariants as given
 use Rattle.mk_session.specs.declared.work.Work.TheVariants as work
 use Rattle.mk_session.specs.Commands.{kind_of_words}
 use Rattle.mk_session.specs.Orders.{asked_of}
-use Rattle.mk_session.specs.Headline.{Agrees}
+use Rattle.mk_session.specs.Outcomes.{Agrees, IsTaken}
 use Rattle.mk_session.specs.Running.{IsGiven}
 
 -- the input begins with what was read
@@ -21,6 +23,18 @@ pub told_more : (old new : Option (List ℕ)) (front : List ℕ) → Consumes ol
 told_more None new front c = record { text = front; is_told = tt; longer = omega arith }
 told_more (Some xs) None front c = absurd c
 told_more (Some xs) (Some ys) front c = record { text = xs; is_told = refl; longer = omega (arith, ap length c, length-append front ys) }
+
+-- what was read before and what one read more gave is taken
+pub taken_more : (a b c : Option (List ℕ)) (front out : List ℕ) (n : ℕ) → Consumes a b front → Consumes b c (take n out) → length front ≤ 16777216 → n ≤ length out → length out ≡ 4096 → IsTaken a c
+taken_more a b c front out n before here few within size = record {
+  taken = front ++ take n out;
+  is_taken = Consumes-trans a b c front (take n out) before here;
+  few = (let l = length-append front (take n out) in let k = length-take-le n out within in omega (arith, l, k, few, within, size));
+}
+
+-- nothing was taken
+pub none_taken : (left : Option (List ℕ)) → IsTaken left left
+none_taken left = record { taken = []; is_taken = Consumes-nil left; few = omega arith }
 
 -- some text is the input, whether it is told or not
 pub record Held_input (old : Option (List ℕ)) : Type 0 where

@@ -19,10 +19,10 @@ use Rattle.mk_session.specs.declared.work.Given.TheVariants as given
 use Rattle.mk_session.specs.declared.work.Work.{Work}
 use Rattle.mk_session.specs.declared.work.Work.TheVariants as work
 use Rattle.mk_session.specs.Commands.{kind_of_words}
-use Rattle.mk_session.specs.Headline.{IsUntouched}
+use Rattle.mk_session.specs.Outcomes.{IsUntouched}
 use Rattle.mk_session.specs.declared.status.Status.{Status}
 use Rattle.mk_session.specs.declared.status.Status.TheVariants as status
-use Rattle.mk_session.specs.Effects.{Answers, Effect, Refuses, is_refusal, text_of}
+use Rattle.mk_session.specs.Effects.{Answers, Effect, Refuses, is_refusal, text_answered}
 use Rattle.mk_session.specs.Ends.{Ends, StoppedAt, FileUnread, Uncommitted, Unanswered, OrderNoMemory, NextNoMemory, PutFailed, PutNoMemory, LineWritten, LineUnwritten, FirstNoMemory, Unloaded}
 use Rattle.mk_session.specs.Fails.{IsStatusOf}
 use Rattle.mk_session.specs.Faults.{Faults}
@@ -174,7 +174,7 @@ module _ (files : Option Look) (t t' : Tables) (order : Order) (answer : List �
     effects = done.effect ∷ [];
     does = (done.comes, refl);
     tables = done.tables;
-    written = subst (λ (x : List ℕ). IfSome so_far (λ s. so_far' ≡ Some (s ++ x))) (done.answer ∙ sym (append-nil (text_of done.effect))) written;
+    written = subst (λ (x : List ℕ). IfSome so_far (λ s. so_far' ≡ Some (s ++ x))) (done.answer ∙ sym (append-nil (text_answered done.effect))) written;
     counts = same_faults f f' o o' k k' a b e;
     refuses = is ∙ ap is_refused_end done.ends ∙ is_refusal_end done.effect;
   }

@@ -6,7 +6,7 @@ use Rattle.std.specs.Prelude.{bytes_eq}
 use Rattle.std.proofs.lemmas.Slice.Eq.{bytes_eq-Decides}
 use Rattle.mk_session.specs.declared.command.Command.{Command}
 use Rattle.mk_session.specs.declared.command.WordsKind.TheVariants as words_kind
-use Rattle.mk_session.specs.Commands.{AskFor, AskForScript, IsCommandOf, IsRow, IsStoreWith, StoreIsRead, WordsAreRead, behind_store, command_in, kind_behind_store, kind_of_words, kind_of_words_order, store_flag, store_path}
+use Rattle.mk_session.specs.Commands.{AskFor, AskForScript, IsCommandOf, IsStoreWith, StoreIsRead, WordsAreRead, behind_store, command_in, kind_behind_store, kind_of_words, kind_of_words_order, store_flag, store_path}
 use Rattle.mk_session.specs.Commands.{CommandAlone, CommandBehindStore, NoWords, StoreAlone}
 use Rattle.mk_session.specs.Commands.{MatchRow, LoadRow, ReplaceRow, RemoveRow, QueryRow, ForgetRow, SearchRow, ResumeRow, ShowRow, ListRow, DrillRow}
 use Rattle.mk_session.proofs.CommandLemmas.{commands_are_read}
@@ -82,7 +82,7 @@ asks_for (flag ∷ path ∷ words) command is = by_flag flag
 abbrev HasNoStore : List (List ℕ) → Type 0
 HasNoStore words = behind_store words ≡ words
 
-row_has_no_store : (words : List (List ℕ)) (command : Command) → IsRow words command → HasNoStore words
+row_has_no_store : (words : List (List ℕ)) (command : Command) → IsCommandOf words command → HasNoStore words
 row_has_no_store words command (MatchRow a b query molecules same is is' made) = subst HasNoStore (sym same) refl
 row_has_no_store words command (LoadRow a file same is made) = subst HasNoStore (sym same) refl
 row_has_no_store words command (ReplaceRow a b number file same is is' made) = subst HasNoStore (sym same) refl

@@ -11,7 +11,7 @@ use Rattle.mk_text.specs.declared.cutting.Span.{Span}
 use Rattle.mk_text.specs.Spans.{parts}
 use Rattle.mk_outside.specs.declared.tables.Tables.{Tables}
 use Rattle.mk_session.specs.declared.status.Status.{Status}
-use Rattle.mk_session.specs.Effects.{Effect, after_effect, after_effects, is_refusal, text_of, texts}
+use Rattle.mk_session.specs.Effects.{Effect, after_effect, after_effects, is_refusal, text_answered, texts}
 use Rattle.mk_session.specs.Ends.{Halts, StoppedAt, NextNoMemory, Stopped}
 use Rattle.mk_session.specs.Faults.{Faults}
 use Rattle.mk_session.specs.Files.{Look}
@@ -35,7 +35,7 @@ after_more t [] fs = refl
 after_more t (e ∷ es) fs = after_more (after_effect e t) es fs
 
 pub texts_more : (es fs : List Effect) → texts (es ++ fs) ≡ texts es ++ texts fs
-texts_more es fs = flat_map-append text_of es fs
+texts_more es fs = flat_map-append text_answered es fs
 
 or_assoc : (a b c : Bool) → (a || (b || c)) ≡ ((a || b) || c)
 or_assoc true b c = refl

@@ -3,7 +3,8 @@
 --     v3000_text k                the same where that line says V3000
 --     records_text k              the refusal of a molecules' file of k records, where k isn't 1
 --     check_text record check item    the refusal of a record at the first check that fails
---     bad_query_text k, v3000_query_text k, query_check_text check table item     the same of a query's file
+--     bad_query_text k, v3000_query_text k, query_check_text check table item     the same of a
+--                                                                                 query's file
 --     long_query_text .. long_molecules_text      the answers that are one line
 use Rattle.std.specs.Prelude.{ℕ, List, ◌++◌, codes, decimal}
 

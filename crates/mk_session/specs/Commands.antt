@@ -1,13 +1,14 @@
 -- The commands, as lines of a script and the words of the command line spell them.
---     IsRow words command           the words are spelt as a row of the table of commands says
---     IsCommandOf words command     and so are the command
---     command_in words              the same, computed: the command that the words are
---     store_path, behind_store      the path of the store in the words of the command line, and the words behind it
+--     IsCommandOf words command     the words spell this command, as a row of the table of commands
+--                                   says
+--     command_in words              the command that the words are, computed
+--     store_path, behind_store      the path of the store in the words of the command line, and the
+--                                   words behind it
 --     kind_of_line, kind_of_words   what a line is, and what the words of the command line are
 --     CanAsk command                what a session can be asked
 --     CommandsAreRead, OneReading, WordsAreRead   laws
--- A line's words are its longest runs of bytes other than blanks. A byte of a longer character is no blank, so a line is UTF-8
--- exactly where each of its words is.
+-- A line's words are its longest runs of bytes other than blanks. A byte of a longer character is
+-- no blank, so a line is UTF-8 exactly where each of its words is.
 use Rattle.std.specs.Prelude.{◌≡◌, ◌↔◌, ℕ, ◌≤◌, ◌&&◌, ◌||◌, ◌==◌, nat_le, Bool, true, false, List, [], ◌∷◌, length, Option, Some, None, codes, bytes_eq, if◌then◌else◌, ⊤}
 use Rattle.std.specs.List.{list_all}
 use Rattle.std.specs.Char.{is_ascii_alphanumeric}
@@ -36,6 +37,7 @@ is_name_byte c = is_ascii_alphanumeric c || (c == 95 || (c == 45 || c == 46))
 abbrev pub is_name : List ℕ → Bool
 is_name word = nat_le 1 (length word) && (nat_le (length word) 64 && list_all is_name_byte word)
 
+-- the word as a name, where it is one
 abbrev pub name_in : List ℕ → Option (List ℕ)
 name_in word = if is_name word then Some word else None
 
@@ -44,7 +46,8 @@ abbrev pub within : ℕ → ℕ → Option ℕ → Option ℕ
 within least most None = None
 within least most (Some n) = if nat_le least n && nat_le n most then Some n else None
 
--- a number is one to nine digits, with leading zeros or without, and lies from the least to the most
+-- a number is one to nine digits, with leading zeros or without, and lies from the least to the
+-- most
 abbrev pub number_in : ℕ → ℕ → List ℕ → Option ℕ
 number_in least most word = within least most (digits_number word)
 
@@ -58,46 +61,45 @@ limit_in word = number_in 1 10000 word
 
 -- ---- the table of commands
 
--- One case for each row: the command word in small letters, and exactly so many words more.
-pub data IsRow (words : List (List ℕ)) (command : Command) : Type 0 where
+-- The words spell the command. One case for each: its word in small letters, and exactly so many
+-- words more.
+pub data IsCommandOf (words : List (List ℕ)) (command : Command) : Type 0 where
   MatchRow : (a b query molecules : List ℕ) → words ≡ codes "match" ∷ a ∷ b ∷ [] → file_in a ≡ Some query → file_in b ≡ Some molecules
-      → command ≡ variant.Match query molecules → IsRow words command
-  LoadRow : (a file : List ℕ) → words ≡ codes "load" ∷ a ∷ [] → file_in a ≡ Some file → command ≡ variant.Load file → IsRow words command
+      → command ≡ variant.Match query molecules → IsCommandOf words command
+  LoadRow : (a file : List ℕ) → words ≡ codes "load" ∷ a ∷ [] → file_in a ≡ Some file → command ≡ variant.Load file → IsCommandOf words command
   ReplaceRow : (a b : List ℕ) (number : ℕ) (file : List ℕ) → words ≡ codes "replace" ∷ a ∷ b ∷ [] → held_number a ≡ Some number → file_in b ≡ Some file
-      → command ≡ variant.Replace number file → IsRow words command
-  RemoveRow : (a : List ℕ) (number : ℕ) → words ≡ codes "remove" ∷ a ∷ [] → held_number a ≡ Some number → command ≡ variant.Remove number → IsRow words command
+      → command ≡ variant.Replace number file → IsCommandOf words command
+  RemoveRow : (a : List ℕ) (number : ℕ) → words ≡ codes "remove" ∷ a ∷ [] → held_number a ≡ Some number → command ≡ variant.Remove number → IsCommandOf words command
   QueryRow : (a b name file : List ℕ) → words ≡ codes "query" ∷ a ∷ b ∷ [] → name_in a ≡ Some name → file_in b ≡ Some file
-      → command ≡ variant.Query name file → IsRow words command
-  ForgetRow : (a name : List ℕ) → words ≡ codes "forget" ∷ a ∷ [] → name_in a ≡ Some name → command ≡ variant.Forget name → IsRow words command
+      → command ≡ variant.Query name file → IsCommandOf words command
+  ForgetRow : (a name : List ℕ) → words ≡ codes "forget" ∷ a ∷ [] → name_in a ≡ Some name → command ≡ variant.Forget name → IsCommandOf words command
   SearchRow : (a b name : List ℕ) (limit : ℕ) → words ≡ codes "search" ∷ a ∷ b ∷ [] → name_in a ≡ Some name → limit_in b ≡ Some limit
-      → command ≡ variant.Search name limit → IsRow words command
+      → command ≡ variant.Search name limit → IsCommandOf words command
   ResumeRow : (a b : List ℕ) (cursor limit : ℕ) → words ≡ codes "resume" ∷ a ∷ b ∷ [] → held_number a ≡ Some cursor → limit_in b ≡ Some limit
-      → command ≡ variant.Resume cursor limit → IsRow words command
-  ShowRow : (a : List ℕ) (number : ℕ) → words ≡ codes "show" ∷ a ∷ [] → held_number a ≡ Some number → command ≡ variant.Show number → IsRow words command
-  ListRow : words ≡ codes "list" ∷ [] → command ≡ variant.List → IsRow words command
+      → command ≡ variant.Resume cursor limit → IsCommandOf words command
+  ShowRow : (a : List ℕ) (number : ℕ) → words ≡ codes "show" ∷ a ∷ [] → held_number a ≡ Some number → command ≡ variant.Show number → IsCommandOf words command
+  ListRow : words ≡ codes "list" ∷ [] → command ≡ variant.List → IsCommandOf words command
   DrillRow : (a b : List ℕ) (start count : ℕ) → words ≡ codes "drill" ∷ a ∷ b ∷ [] → number_in 0 999999999 a ≡ Some start → limit_in b ≡ Some count
-      → command ≡ variant.Drill start count → IsRow words command
-
--- the words are this command
-abbrev pub IsCommandOf : List (List ℕ) → Command → Type 0
-IsCommandOf words command = IsRow words command
+      → command ≡ variant.Drill start count → IsCommandOf words command
 
 -- ---- the same, computed
 
--- with one word more, where it is one of its kind
+-- the command with one word more, where that is of its kind
 abbrev pub with_one : {A : Type 0} → (A → Command) → Option A → Option Command
 with_one make None = None
 with_one make (Some a) = Some (make a)
 
--- with two
+-- the command with two words more, where each is of its kind
 abbrev pub with_two : {A B : Type 0} → (A → B → Command) → Option A → Option B → Option Command
 with_two make None b = None
 with_two make (Some a) None = None
 with_two make (Some a) (Some b) = Some (make a b)
 
+-- the command that is one word
 abbrev pub row_of_one : List ℕ → Option Command
 row_of_one word = if bytes_eq word (codes "list") then Some variant.List else None
 
+-- the command that is two words
 abbrev pub row_of_two : List ℕ → List ℕ → Option Command
 row_of_two word a =
     if bytes_eq word (codes "load") then with_one variant.Load (file_in a)
@@ -105,6 +107,7 @@ row_of_two word a =
     else (if bytes_eq word (codes "forget") then with_one variant.Forget (name_in a)
     else (if bytes_eq word (codes "show") then with_one variant.Show (held_number a) else None)))
 
+-- the command that is three words
 abbrev pub row_of_three : List ℕ → List ℕ → List ℕ → Option Command
 row_of_three word a b =
     if bytes_eq word (codes "match") then with_two variant.Match (file_in a) (file_in b)
@@ -124,6 +127,7 @@ command_in (a ∷ b ∷ c ∷ d ∷ words) = None
 
 -- ---- lines and words
 
+-- what words of a line are, by the command that they are, if any
 abbrev pub kind_of_order : Option Command → LineKind
 kind_of_order None = line_kind.NoCommand
 kind_of_order (Some command) = line_kind.Is command
@@ -148,6 +152,7 @@ behind_store [] = []
 behind_store (flag ∷ []) = flag ∷ []
 behind_store (flag ∷ path ∷ words) = if bytes_eq flag store_flag then words else flag ∷ path ∷ words
 
+-- what words of the command line are, by the command that they are, if any
 abbrev pub kind_of_words_order : Option Command → WordsKind
 kind_of_words_order None = words_kind.NotUnderstood
 kind_of_words_order (Some command) = words_kind.Is command
@@ -157,7 +162,8 @@ abbrev pub kind_behind_store : List (List ℕ) → WordsKind
 kind_behind_store [] = words_kind.Script
 kind_behind_store (word ∷ words) = kind_of_words_order (command_in (word ∷ words))
 
--- A store may stand in front. What stands behind it is the script or a command, or it isn't understood.
+-- A store may stand in front. What stands behind it is the script or a command, or it isn't
+-- understood.
 abbrev pub kind_of_words : List (List ℕ) → WordsKind
 kind_of_words words = kind_behind_store (behind_store words)
 
@@ -177,16 +183,19 @@ pub data AskFor (words : List (List ℕ)) (command : Command) : Type 0 where
 
 -- ---- what a session can be asked
 
+-- the number is one that a record or a saved search can have
 abbrev pub IsHeldNumber : ℕ → Type 0
 IsHeldNumber n = (1 ≤ n) × (n ≤ 999999999)
 
+-- so many hits can be asked for, or molecules drilled
 abbrev pub IsLimit : ℕ → Type 0
 IsLimit n = (1 ≤ n) × (n ≤ 10000)
 
+-- the bytes are a name
 abbrev pub IsName : List ℕ → Type 0
 IsName name = is_name name ≡ true
 
--- names are names, and numbers lie in their ranges
+-- the names of the command are names, and its numbers lie in their ranges
 abbrev pub CanAsk : Command → Type 0
 CanAsk (variant.Match query molecules) = ⊤
 CanAsk (variant.Load file) = ⊤
@@ -200,11 +209,13 @@ CanAsk (variant.Show number) = IsHeldNumber number
 CanAsk variant.List = ⊤
 CanAsk (variant.Drill start count) = (start ≤ 999999999) × IsLimit count
 
+-- a line that is a command is one that a session can be asked
 abbrev pub CanAskLine : LineKind → Type 0
 CanAskLine line_kind.Blank = ⊤
 CanAskLine line_kind.NoCommand = ⊤
 CanAskLine (line_kind.Is command) = CanAsk command
 
+-- words that are a command are one that a session can be asked
 abbrev pub CanAskWords : WordsKind → Type 0
 CanAskWords words_kind.Script = ⊤
 CanAskWords words_kind.NotUnderstood = ⊤
@@ -224,7 +235,7 @@ OneReading = (words : List (List ℕ)) (a b : Command) → IsCommandOf words a �
 abbrev pub StoreIsRead : Type 0
 StoreIsRead = (words : List (List ℕ)) (path : List ℕ) → (store_path words ≡ Some path) ↔ ((others : List (List ℕ)) × IsStoreWith words path others)
 
--- and words ask for what they say
+-- the computation says that words ask for the script, or for a command, exactly where they do
 abbrev pub WordsAreRead : Type 0
 WordsAreRead = (words : List (List ℕ)) → ((kind_of_words words ≡ words_kind.Script) ↔ AskForScript words)
     × ((command : Command) → (kind_of_words words ≡ words_kind.Is command) ↔ AskFor words command)

@@ -1,4 +1,5 @@
--- The ways in which a run ends, each with its cause: what is added to the output, the tables that are left, and the status.
+-- The ways in which a run ends, each with its cause: what is added to the output, the tables that
+-- are left, and the status.
 --     Stopped ..      an order is begun and not brought to its end
 --     Halts ..        some orders aren't all done
 --     Goes ..         some orders, all done or not
@@ -8,7 +9,7 @@ use Rattle.mk_outside.specs.declared.tables.Tables.{Tables}
 use Rattle.mk_outside.specs.declared.tables.Change.{Change}
 use Rattle.mk_session.specs.declared.status.Status.{Status}
 use Rattle.mk_session.specs.declared.status.Status.TheVariants as status
-use Rattle.mk_session.specs.Effects.{Answers, Effect, after_effect, after_effects, ending, text_of, texts}
+use Rattle.mk_session.specs.Effects.{Answers, Effect, after_effect, after_effects, status_behind, text_answered, texts}
 use Rattle.mk_session.specs.Faults.{Faults, FilesFailed, OutputFailed, KeeperFailed}
 use Rattle.mk_session.specs.Files.{Look}
 use Rattle.mk_session.specs.Orders.{Asked, Order, Orders}
@@ -16,7 +17,8 @@ use Rattle.mk_session.specs.Run.{After, Does, IsOneLine}
 use Rattle.mk_session.specs.Step.{Comes, Reaches}
 use Rattle.mk_session.specs.StoredRows.{AllRead}
 
--- a text was to be written, and this part of it was: a prefix where the output failed, and nothing for want of memory
+-- a text was to be written, and this part of it was: a prefix where the output failed, and nothing
+-- for want of memory
 pub data Unwritten (old new : Faults) (text part : List ℕ) (ends : Status) : Type 0 where
   PutFailed : (rest : List ℕ) → text ≡ part ++ rest → OutputFailed old new → ends ≡ status.Write → Unwritten old new text part ends
   PutNoMemory : part ≡ [] → new ≡ old → ends ≡ status.Memory → Unwritten old new text part ends
@@ -32,7 +34,7 @@ pub data Stopped (files : Option Look) (t : Tables) (order : Order) (old new : F
   -- memory is wanting
   OrderNoMemory : new ≡ old → part ≡ [] → left ≡ t → ends ≡ status.Memory → Stopped files t order old new part left ends
   -- it is done, and its answer isn't written
-  Unanswered : (effect : Effect) → Comes files t order effect → Unwritten old new (text_of effect) part ends
+  Unanswered : (effect : Effect) → Comes files t order effect → Unwritten old new (text_answered effect) part ends
       → left ≡ after_effect effect t → Stopped files t order old new part left ends
 
 -- The orders go on from the tables t and aren't all done.
@@ -48,7 +50,7 @@ pub data Halts (files : Option Look) (t : Tables) (orders : List Order) (old new
 -- The orders go on from the tables t.
 pub data Goes (files : Option Look) (t : Tables) (orders : List Order) (old new : Faults) (added : List ℕ) (left : Tables) (ends : Status) : Type 0 where
   AllDone : (effects : List Effect) → Does files t orders effects → new ≡ old
-      → added ≡ texts effects → left ≡ after_effects effects t → ends ≡ ending effects → Goes files t orders old new added left ends
+      → added ≡ texts effects → left ≡ after_effects effects t → ends ≡ status_behind effects → Goes files t orders old new added left ends
   Halted : Halts files t orders old new added left ends → Goes files t orders old new added left ends
 
 -- A run that is asked for this ends from the tables t.

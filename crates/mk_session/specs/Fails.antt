@@ -1,4 +1,6 @@
 -- How a failure is handed on.
+--     IsStatusOf fail status                 a run ends as its last command did
+--     IsStepFailOf fail, IsStepFailOfKeep fail     a command ends as its call did
 use Rattle.std.specs.Prelude.{◌≡◌}
 use Rattle.mk_outside.specs.declared.answers.FileFail.{FileFail}
 use Rattle.mk_outside.specs.declared.answers.FileFail.TheVariants as file
@@ -20,6 +22,7 @@ abbrev pub IsStepFailOf : FileFail → StepFail → Type 0
 IsStepFailOf file.Failed f = f ≡ step.Read
 IsStepFailOf file.Memory f = f ≡ step.Memory
 
+-- a commit that failed is a command that couldn't be kept
 abbrev pub IsStepFailOfKeep : KeepFail → StepFail → Type 0
 IsStepFailOfKeep keep.Failed f = f ≡ step.Store
 IsStepFailOfKeep keep.Memory f = f ≡ step.Memory

@@ -4,8 +4,8 @@
 --     IsLong files most name        the file has more bytes
 --     IsThere files name            the file is told to be there
 --     IsFoundAs files most name f   a file that was read, or found too long
--- Where the files aren't told, a file may hold anything: then `IsShort` says of the bytes that they are not too many, and
--- `IsLong` says nothing.
+-- Where the files aren't told, a file may hold anything: then `IsShort` says of the bytes that they
+-- are not too many, and `IsLong` says nothing.
 use Rattle.std.specs.Prelude.{◌≡◌, ℕ, ◌<◌, ◌≤◌, List, length, Option, Some, None, IsSome, ⊤}
 
 -- for each name its bytes, or that it isn't there

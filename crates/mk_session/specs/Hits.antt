@@ -19,8 +19,8 @@ numbers_text numbers = flat_map (λ n. 32 ∷ decimal n) numbers
 abbrev pub hit_line : ℕ → List ℕ → List ℕ → List ℕ
 hit_line n code hit = codes "hit " ++ (decimal n ++ (codes " choice" ++ (numbers_text code ++ (codes " map" ++ (numbers_text hit ++ codes "\n")))))
 
--- A key in its parts: the number of a record, a structural code of the query, and a map behind it. No code begins another, so these
--- are its parts in one way.
+-- A key in its parts: the number of a record, a structural code of the query, and a map behind it.
+-- No code begins another, so these are its parts in one way.
 pub record HasParts (query : QueryView) (key : List ℕ) : Type 0 where
   pub number : ℕ
   pub code : List ℕ

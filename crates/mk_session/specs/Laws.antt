@@ -3,14 +3,14 @@
 --     RunsKeepReading   tables that a run leaves read, where those before it did
 --     OneEffect         over told files an order comes to at most one effect
 --     OneRun            so a run over told files has at most one outcome
---     OneSaid           one thing is said of a text as a query file
+--     OneSaid           at most one thing is said of a text as a query file
 use Rattle.std.specs.Prelude.{◌≡◌, ℕ, ◌≤◌, List, [], ◌∷◌, ◌++◌, length, Option, Some}
 use Rattle.mk_outside.specs.declared.tables.Tables.{Tables}
 use Rattle.mk_session.specs.declared.status.Status.{Status}
 use Rattle.mk_session.specs.declared.status.Status.TheVariants as status
 use Rattle.mk_session.specs.Effects.{Effect}
 use Rattle.mk_session.specs.Files.{Look}
-use Rattle.mk_session.specs.Headline.{IsAllDone}
+use Rattle.mk_session.specs.Outcomes.{IsAllDone}
 use Rattle.mk_session.specs.declared.query_text.QueryText.{QueryText}
 use Rattle.mk_session.specs.QueryText.{IsTextSaid}
 use Rattle.mk_session.specs.Orders.{Asked, Order, asked, asked_of_script, script_bytes}
@@ -23,8 +23,9 @@ abbrev pub joined : Status → Status → Status
 joined status.Refused second = status.Refused
 joined _ second = second
 
--- A script that ends with LF, and another. Where all commands of the first are done and the tables between them read, the two
--- scripts in one add what they add, leave the tables that the second leaves, and end as both.
+-- A script that ends with LF, and another. Where all commands of the first are done and the tables
+-- between them read, the two scripts in one add what they add, leave the tables that the second
+-- leaves, and end as both.
 abbrev pub TwoScripts : Type 0
 TwoScripts = (files : Option Look) (t t1 t2 : Tables) (first second a b : List ℕ) (ends1 ends2 : Status)
     → IsRun files t (asked_of_script (first ++ 10 ∷ [])) a t1 ends1 → IsAllDone ends1 → AllRead t1
@@ -32,13 +33,15 @@ TwoScripts = (files : Option Look) (t t1 t2 : Tables) (first second a b : List �
     → length ((first ++ 10 ∷ []) ++ second) ≤ script_bytes
     → IsRun files t (asked_of_script ((first ++ 10 ∷ []) ++ second)) (a ++ b) t2 (joined ends1 ends2)
 
--- each row of the tables reads, and both next numbers are at least 1, so that rows that are put under them read too
+-- each row of the tables reads, and both next numbers are at least 1, so that rows that are put
+-- under them read too
 pub record CanGoOn (t : Tables) : Type 0 where
   pub reads : AllRead t
   pub record_number : 1 ≤ t.next_record
   pub cursor_number : 1 ≤ t.next_cursor
 
--- A run leaves tables that read, where those before it did and both next numbers were at least 1; then these still are.
+-- A run leaves tables that read, where those before it did and both next numbers were at least 1;
+-- then these still are.
 abbrev pub RunsKeepReading : Type 0
 RunsKeepReading = (files : Option Look) (t left : Tables) (words : List (List ℕ)) (input added : List ℕ) (ends : Status)
     → IsRun files t (asked words input) added left ends → CanGoOn t → CanGoOn left
@@ -52,6 +55,7 @@ abbrev pub OneRun : Type 0
 OneRun = (look : Look) (t : Tables) (asked : Asked) (a b : List ℕ) (left other : Tables) (ends ends' : Status)
     → IsRun (Some look) t asked a left ends → IsRun (Some look) t asked b other ends' → (a ≡ b) × (left ≡ other) × (ends ≡ ends')
 
--- one thing is said of a text as a query file: its query, its first bad line, or the first check that it fails
+-- one thing is said of a text as a query file: its query, its first bad line, or the first check
+-- that it fails
 abbrev pub OneSaid : Type 0
 OneSaid = (text : List ℕ) (a b : QueryText) → IsTextSaid text a → IsTextSaid text b → a ≡ b

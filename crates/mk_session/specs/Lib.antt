@@ -20,6 +20,7 @@ pub mod Step
 pub mod Run
 pub mod Faults
 pub mod Ends
+pub mod Outcomes
 pub mod Headline
 pub mod Running
 pub mod Laws

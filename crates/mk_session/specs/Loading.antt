@@ -1,9 +1,9 @@
 -- The commands `load FILE` and `replace N FILE`.
---     IsFileLine said line                     the line with which the file of an edit is refused
---     IsEdited files t name edit answer effect what the file of an edit comes to, once its turn has come
---     IsLoad files t name effect               what `load` comes to
---     IsReplace files t n name effect          what `replace n` comes to
---     IsTurnOfReplace t n file name            the turn of the file comes
+--     IsFileLine said line                         the line with which the file of an edit is refused
+--     IsEdited files t name edit answer effect     what the file of an edit comes to, once its turn has come
+--     IsLoad files t name effect                   what `load` comes to
+--     IsReplace files t n name effect              what `replace n` comes to
+--     IsTurnOfReplace t n file name                the turn of the file comes
 use Rattle.std.specs.Prelude.{◌≡◌, ℕ, true, false, List, [], ◌∷◌, ◌++◌, length, Option, codes, decimal, if◌then◌else◌}
 use Rattle.mk_outside.specs.declared.tables.Change.{Change}
 use Rattle.mk_outside.specs.declared.tables.Tables.{Tables}
@@ -20,7 +20,8 @@ use Rattle.mk_session.specs.Records.{no_record_text, numbered_line}
 
 -- ---- the file of an edit
 
--- The line with which the file is refused. A number that isn't held and want of memory say nothing of a file.
+-- The line with which the file is refused. A number that isn't held and want of memory say nothing
+-- of a file.
 abbrev pub IsFileLine : LoadRefusal → List ℕ → Type 0
 IsFileLine refusal.NoRecord line = ⊥
 IsFileLine refusal.FileLarge line = line ≡ long_molecules_text
@@ -30,8 +31,8 @@ IsFileLine (refusal.Meaning number check item) line = line ≡ check_text number
 IsFileLine refusal.Full line = line ≡ full_text
 IsFileLine refusal.Memory line = ⊥
 
--- The file of an edit is over its limit, or it is refused at the first demand that the edit doesn't meet, or the edit is made.
--- The answer is one of the changes.
+-- The file of an edit is over its limit, or it is refused at the first demand that the edit doesn't
+-- meet, or the edit is made. The answer is one of the changes.
 pub data IsEdited (files : Option Look) (t : Tables) (name : List ℕ) (edit : List ℕ → Edit) (answer : List Change → List ℕ) (effect : Effect) : Type 0 where
   EditTooLong : IsLong files molecule_bytes name → effect ≡ Refuses long_molecules_text → IsEdited files t name edit answer effect
   EditRefused : (bytes : List ℕ) → IsShort files molecule_bytes name bytes → (said : LoadRefusal) → IsFirstRefusal t.records t.next_record (edit bytes) said
@@ -52,10 +53,12 @@ IsLoad files t name effect = IsEdited files t name Load (loaded_text t.next_reco
 
 -- ---- replace N FILE
 
+-- the answer of `replace`
 abbrev pub replaced_text : ℕ → List ℕ
 replaced_text n = numbered_line (codes "replaced ") n
 
--- The one record of the file takes the place of the record n. The file plays no part where there is none.
+-- The one record of the file takes the place of the record n. The file plays no part where there is
+-- none.
 pub data IsReplace (files : Option Look) (t : Tables) (n : ℕ) (name : List ℕ) (effect : Effect) : Type 0 where
   NoRecordReplaced : is_held n t.records ≡ false → effect ≡ Refuses (no_record_text n) → IsReplace files t n name effect
   ReplacesHeld : is_held n t.records ≡ true → IsEdited files t name (Replace n) (λ changes. replaced_text n) effect → IsReplace files t n name effect

@@ -26,8 +26,8 @@ use Rattle.mk_session.specs.QueryText.{IsQueryHeld, IsQueryRefused}
 abbrev pub molecule_bytes : ℕ
 molecule_bytes = 67108864
 
--- The file is refused with this line. A line that is bad is named where the file is no SDfile. One record is asked for, and
--- its table is checked.
+-- The file is refused with this line. A line that is bad is named where the file is no SDfile. One
+-- record is asked for, and its table is checked.
 pub data IsRefused (files : Option Look) (name line : List ℕ) : Type 0 where
   TooLong : IsLong files molecule_bytes name → line ≡ long_molecules_text → IsRefused files name line
   BadLine : (bytes : List ℕ) → IsShort files molecule_bytes name bytes → (k : ℕ) → IsBadSdfileLine (lines_of bytes) k → (IsV3000Line (lines_of bytes) k → ⊥)
@@ -55,7 +55,8 @@ pub record IsHeld (files : Option Look) (name : List ℕ) (mol : Molecule) : Typ
 abbrev pub IsRecord1 : Molecule → ℕ → Molecule → Type 0
 IsRecord1 mol n other = (n ≡ 1) × (other ≡ mol)
 
--- once the query is read: the molecules' file is refused, or the first keys of the query in its molecule are listed
+-- once the query is read: the molecules' file is refused, or the first keys of the query in its
+-- molecule are listed
 pub data IsSearchOfFile (wanted : QueryView) (files : Option Look) (name : List ℕ) (effect : Effect) : Type 0 where
   MoleculesRefused : (line : List ℕ) → IsRefused files name line → effect ≡ Refuses line → IsSearchOfFile wanted files name effect
   Lists : (mol : Molecule) → IsHeld files name mol → (keys : List (List ℕ)) → AreFirst 10000 (IsKey (IsRecord1 mol) wanted) keys

@@ -33,8 +33,8 @@ abbrev pub IsHeldTable : RawTable → Held → Type 0
 IsHeldTable table (Molecule mol) = PassesAll table × IsFilled table mol × IsMolecule mol
 IsHeldTable table (Refused line) = (check : ℕ) × (item : ℕ) × IsFirstFault table check item × (line ≡ check_text 1 check item)
 
--- where the records are one, the molecule of its table or the line of the check that it fails; else the line that says how many
--- there are
+-- where the records are one, the molecule of its table or the line of the check that it fails; else
+-- the line that says how many there are
 abbrev pub IsHeldOf : List RawRecord → Held → Type 0
 IsHeldOf (only ∷ []) held = IsHeldTable only.table held
 IsHeldOf records held = held ≡ Refused (records_text (length records))

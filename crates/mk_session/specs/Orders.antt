@@ -16,11 +16,13 @@ use Rattle.mk_session.specs.Commands.{kind_of_line, kind_of_words}
 abbrev pub Order : Type 0
 Order = Option Command
 
+-- what a line of this kind asks for
 abbrev pub orders_of_kind : LineKind → List Order
 orders_of_kind line_kind.Blank = []
 orders_of_kind line_kind.NoCommand = None ∷ []
 orders_of_kind (line_kind.Is command) = Some command ∷ []
 
+-- what a line asks for
 abbrev pub orders_of_line : List ℕ → List Order
 orders_of_line line = orders_of_kind (kind_of_line line)
 
@@ -40,9 +42,15 @@ pub data Asked : Type 0 where
 abbrev pub script_bytes : ℕ
 script_bytes = 16777216
 
+-- the input is read by so many bytes at once
+abbrev pub read_bytes : ℕ
+read_bytes = 4096
+
+-- what the input asks for, where it is the script
 abbrev pub asked_of_script : List ℕ → Asked
 asked_of_script input = if nat_lt script_bytes (length input) then TooMuch else Orders (orders_of (lines_of input))
 
+-- what words of this kind and the input ask for
 abbrev pub asked_of : WordsKind → List ℕ → Asked
 asked_of words_kind.Script input = asked_of_script input
 asked_of words_kind.NotUnderstood input = Nothing

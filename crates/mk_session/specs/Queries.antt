@@ -28,7 +28,8 @@ name_held_text name = named_line (codes "refused 7 name ") name
 abbrev pub full_queries_text : List ℕ
 full_queries_text = codes "refused 10 queries\n"
 
--- what is kept of the text of a file: its lines without the CR bytes at their ends, each with LF behind it
+-- what is kept of the text of a file: its lines without the CR bytes at their ends, each with LF
+-- behind it
 abbrev pub kept_text : List ℕ → List ℕ
 kept_text text = kept_lines (lines_of text)
 
@@ -37,8 +38,8 @@ pub record IsFree (t : Tables) (name : List ℕ) : Type 0 where
   pub new : is_named name t.queries ≡ false
   pub few : length t.queries < most_queries
 
--- The query of the file is kept under the name and the number above all. The file plays no part where the name is held or there
--- are 1,000 queries.
+-- The query of the file is kept under the name and the number above all. The file plays no part
+-- where the name is held or there are 1,000 queries.
 pub data IsKeep (files : Option Look) (t : Tables) (name file : List ℕ) (effect : Effect) : Type 0 where
   NameIsHeld : is_named name t.queries ≡ true → effect ≡ Refuses (name_held_text name) → IsKeep files t name file effect
   QueriesAreFull : is_named name t.queries ≡ false → most_queries ≤ length t.queries → effect ≡ Refuses full_queries_text → IsKeep files t name file effect
@@ -55,9 +56,11 @@ pub record IsTurnOfKeep (t : Tables) (name file n : List ℕ) : Type 0 where
 
 -- ---- forget NAME
 
+-- the line for a query that isn't held
 abbrev pub no_query_text : List ℕ → List ℕ
 no_query_text name = named_line (codes "refused 8 query ") name
 
+-- the change that drops a saved search
 abbrev pub drop_of : CursorRow → Change
 drop_of row = DropCursor row.number
 
@@ -65,6 +68,7 @@ drop_of row = DropCursor row.number
 abbrev pub forget_changes : List ℕ → List CursorRow → List Change
 forget_changes name cursors = map drop_of (filter (λ row. bytes_eq row.name name) cursors) ++ DropQuery name ∷ []
 
+-- what `forget` of this name comes to
 pub data IsForget (t : Tables) (name : List ℕ) (effect : Effect) : Type 0 where
   NoQueryForgotten : is_named name t.queries ≡ false → effect ≡ Refuses (no_query_text name) → IsForget t name effect
   Forgets : is_named name t.queries ≡ true → effect ≡ Answers (forget_changes name t.cursors) (named_line (codes "forgot ") name) → IsForget t name effect

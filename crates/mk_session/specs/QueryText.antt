@@ -1,12 +1,15 @@
 -- What a text is as a query file, and what is made of a query's file.
---     IsQueryOfText text query         the text is a query file that passes every check, and this is its query
+--     IsQueryOfText text query         the text is a query file that passes every check, and this
+--                                      is its query
 --     IsBadLineOfText text k           it is no query file, and this is its first bad line
 --     IsV3000LineOfText text k         the same, where that line says V3000
---     IsFaultOfText text fault         it is a query file, and this is the first check that it fails
+--     IsFaultOfText text fault         it is a query file, and this is the first check that it
+--                                      fails
 --     IsTextRefused text line          the line with which a text is refused that has no query
 --     IsQueryRefused files name line   the query's file is refused with this line
 --     IsQueryHeld files name query     it holds this query
---     IsTextSaid, IsRawSaid, IsHeldQuery, IsQueryHeldBy      what parts of the code answer; they serve the code alone
+--     IsTextSaid, IsRawSaid, IsHeldQuery, IsQueryHeldBy      what parts of the code answer; they
+--                                                            serve the code alone
 use Rattle.std.specs.Prelude.{◌≡◌, ℕ, List, Option, Some, None}
 use Rattle.mk_text.specs.Lines.{lines_of}
 use Rattle.mk_model.specs.Queries.{QueryView}
@@ -47,7 +50,8 @@ pub record IsFaultOfText (text : List ℕ) (fault : FaultAt) : Type 0 where
   pub file : IsQueryFile (lines_of text) raw
   pub first : IsFirstCompileFault raw fault
 
--- A text that has no query is refused with a line: its first bad line is named, or the first check that fails.
+-- A text that has no query is refused with a line: its first bad line is named, or the first check
+-- that fails.
 pub data IsTextRefused (text line : List ℕ) : Type 0 where
   BadQueryLine : (k : ℕ) → IsBadLineOfText text k → line ≡ bad_query_text k → IsTextRefused text line
   V3000QueryLine : (k : ℕ) → IsV3000LineOfText text k → line ≡ v3000_query_text k → IsTextRefused text line

@@ -21,6 +21,7 @@ numbered_line word n = word ++ (decimal n ++ codes "\n")
 
 -- ---- show N
 
+-- the line for a record that isn't held
 abbrev pub no_record_text : ℕ → List ℕ
 no_record_text n = numbered_line (codes "refused 6 record ") n
 
@@ -28,38 +29,46 @@ no_record_text n = numbered_line (codes "refused 6 record ") n
 abbrev pub record_text : ℕ → List ℕ → List ℕ
 record_text n text = codes "record " ++ (decimal n ++ (codes " " ++ (decimal (length (lines_of text)) ++ (codes "\n" ++ text))))
 
+-- what `show` of this number comes to
 pub data IsShow (t : Tables) (n : ℕ) (effect : Effect) : Type 0 where
   NoRecordShown : is_held n t.records ≡ false → effect ≡ Refuses (no_record_text n) → IsShow t n effect
   Shows : (text : List ℕ) → text_of n t.records ≡ Some text → effect ≡ Answers [] (record_text n text) → IsShow t n effect
 
 -- ---- remove N
 
+-- what `remove` of this number comes to
 pub data IsRemove (t : Tables) (n : ℕ) (effect : Effect) : Type 0 where
   NoRecordRemoved : is_held n t.records ≡ false → effect ≡ Refuses (no_record_text n) → IsRemove t n effect
   Removes : is_held n t.records ≡ true → effect ≡ Answers (DropRecord n ∷ []) (numbered_line (codes "removed ") n) → IsRemove t n effect
 
 -- ---- list
 
+-- the line of `list` for a record
 abbrev pub record_line : RecordRow → List ℕ
 record_line row = numbered_line (codes "record ") row.number
 
--- the same of a row of the shelf. It serves the code alone.
+-- the line of `list` for a row of the shelf, which serves the code alone
 abbrev pub row_line : Numbered Molecule → List ℕ
 row_line row = numbered_line (codes "record ") row.number
 
+-- the line of `list` for a query of this name
 abbrev pub name_line : List ℕ → List ℕ
 name_line name = codes "query " ++ (name ++ codes "\n")
 
+-- the line of `list` for a query
 abbrev pub query_line : QueryRow → List ℕ
 query_line row = name_line row.name
 
+-- the line of `list` for a saved search
 abbrev pub cursor_line : CursorRow → List ℕ
 cursor_line row = codes "cursor " ++ (decimal row.number ++ (codes " " ++ (row.name ++ codes "\n")))
 
+-- the last line of `list`: both next numbers
 abbrev pub next_line : ℕ → ℕ → List ℕ
 next_line record_number cursor_number = codes "next " ++ (decimal record_number ++ (codes " " ++ (decimal cursor_number ++ codes "\n")))
 
--- how many records, queries and saved searches there are, with a line for each, and the numbers that come next
+-- how many records, queries and saved searches there are, with a line for each, and the numbers
+-- that come next
 abbrev pub list_text : Tables → List ℕ
 list_text t =
     (numbered_line (codes "records ") (length t.records) ++ flat_map record_line t.records)

@@ -1,7 +1,8 @@
 -- Orders done in turn, and a whole run.
 --     Does files t orders effects         the orders, done in turn from t, come to these effects
 --     After files t orders left effects   the same of the first of them, where these are left
---     IsRun files t asked added left ends     a run adds these bytes, leaves these tables and ends so
+--     IsRun files t asked added left ends     a run adds these bytes, leaves these tables and ends
+--                                             so
 --     HasItsFiles files t orders          each file is there whose turn comes
 use Rattle.std.specs.Prelude.{◌≡◌, ℕ, ◌≤◌, List, [], ◌∷◌, ◌++◌, Option, codes, decimal}
 use Rattle.mk_outside.specs.declared.tables.Tables.{Tables}
@@ -9,7 +10,7 @@ use Rattle.mk_session.specs.declared.status.Status.{Status}
 use Rattle.mk_session.specs.declared.status.Status.TheVariants as status
 use Rattle.mk_session.specs.declared.stored_rows.RowKind.{RowKind}
 use Rattle.mk_session.specs.declared.stored_rows.RowKind.TheVariants.{Records, Queries, Cursors}
-use Rattle.mk_session.specs.Effects.{Effect, after_effect, after_effects, texts, ending}
+use Rattle.mk_session.specs.Effects.{Effect, after_effect, after_effects, texts, status_behind}
 use Rattle.mk_session.specs.Files.{IsThere, Look}
 use Rattle.mk_session.specs.Orders.{Order, Asked, Nothing, TooMuch, Orders}
 use Rattle.mk_session.specs.Step.{Comes, Reaches}
@@ -55,7 +56,7 @@ pub data IsOneLine (t : Tables) (asked : Asked) (line : List ℕ) (ends : Status
 pub data IsRun (files : Option Look) (t : Tables) (asked : Asked) (added : List ℕ) (left : Tables) (ends : Status) : Type 0 where
   OneLine : IsOneLine t asked added ends → left ≡ t → IsRun files t asked added left ends
   Commands : (orders : List Order) → asked ≡ Orders orders → AllRead t → (effects : List Effect) → Does files t orders effects
-      → added ≡ texts effects → left ≡ after_effects effects t → ends ≡ ending effects → IsRun files t asked added left ends
+      → added ≡ texts effects → left ≡ after_effects effects t → ends ≡ status_behind effects → IsRun files t asked added left ends
 
 -- ---- the files that are read
 

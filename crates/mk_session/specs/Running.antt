@@ -38,11 +38,11 @@ use Rattle.mk_session.specs.declared.work.Given.TheVariants as given
 use Rattle.mk_session.specs.declared.work.Work.{Work}
 use Rattle.mk_session.specs.declared.work.Work.TheVariants as work
 use Rattle.mk_session.specs.Commands.{CanAsk, kind_of_words}
-use Rattle.mk_session.specs.Effects.{Answers, Effect, Refuses, after_effect, after_effects, is_refusal, text_of, texts}
+use Rattle.mk_session.specs.Effects.{Answers, Effect, Refuses, after_effect, after_effects, is_refusal, text_answered, texts}
 use Rattle.mk_session.specs.Ends.{Ends, Halts}
 use Rattle.mk_session.specs.Faults.{Faults}
 use Rattle.mk_session.specs.Files.{IsThere, Look}
-use Rattle.mk_session.specs.Headline.{Agrees}
+use Rattle.mk_session.specs.Outcomes.{Agrees}
 use Rattle.mk_session.specs.Orders.{Asked, Nothing, Order, Orders, TooMuch, asked, orders_asked, orders_of, script_bytes}
 use Rattle.mk_session.specs.Run.{Does, Misses}
 use Rattle.mk_session.specs.Step.{Comes, Reaches}
@@ -115,7 +115,7 @@ pub record IsDone (files : Option Look) (t t' : Tables) (order : Order) (old new
   pub effect : Effect
   pub comes : Comes files t order effect
   pub tables : t' ≡ after_effect effect t
-  pub answer : new ≡ old ++ text_of effect
+  pub answer : new ≡ old ++ text_answered effect
   pub ends : e ≡ ended_of effect
 
 -- the batch of the command isn't empty
@@ -185,7 +185,8 @@ abbrev pub IsMeantBy : List ℕ → Option QueryView → Type 0
 IsMeantBy text (Some query) = IsMeant text query
 IsMeantBy text None = ¬ (HasMeaning text)
 
--- the queries and saved searches of the tables, or, where the record rows read, the first row of theirs that doesn't
+-- the queries and saved searches of the tables, or, where the record rows read, the first row of
+-- theirs that doesn't
 abbrev pub IsRestored : Tables → Result SavedView BeginFail → Type 0
 IsRestored t (Ok saved) = (saved.queries ≡ t.queries) × (saved.cursors ≡ t.cursors) × (saved.next_cursor ≡ t.next_cursor) × (RecordsRead t → AllRead t)
 IsRestored t (Err begin.Store) = ⊥
@@ -298,7 +299,8 @@ CanAskGiven given.Nothing = ⊤
 CanAskGiven given.TooMuch = ⊤
 CanAskGiven (given.Orders work) = CanAskWork work
 
--- the whole line was written, or a part of it: a prefix where the output failed, and nothing for want of memory
+-- the whole line was written, or a part of it: a prefix where the output failed, and nothing for
+-- want of memory
 pub data IsSaid (old new : ℕ) (line part : List ℕ) (would ends : Status) : Type 0 where
   SaidWhole : part ≡ line → new ≡ old → ends ≡ would → IsSaid old new line part would ends
   SaidFailed : (rest : List ℕ) → line ≡ part ++ rest → Rose old new → ends ≡ status.Write → IsSaid old new line part would ends

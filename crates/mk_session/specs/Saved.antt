@@ -25,6 +25,7 @@ use Rattle.mk_session.specs.QueryText.{IsQueryOfText}
 
 -- ---- how much may be held
 
+-- how many queries may be held
 abbrev pub most_queries : ℕ
 most_queries = 1000
 
@@ -32,16 +33,20 @@ most_queries = 1000
 abbrev pub most_text_bytes : ℕ
 most_text_bytes = 33554432
 
--- a query's text may have one byte more than a file, whose last line may gain an LF
+-- how many bytes the text of one query may have: one more than a file, whose last line may gain an
+-- LF
 abbrev pub most_query_bytes : ℕ
 most_query_bytes = 4194305
 
+-- the greatest number of a query
 abbrev pub most_query_number : ℕ
 most_query_number = 4294967295
 
+-- how many saved searches may be held
 abbrev pub most_searches : ℕ
 most_searches = 1000
 
+-- the greatest number of a saved search
 abbrev pub most_search_number : ℕ
 most_search_number = 999999999
 
@@ -75,7 +80,8 @@ abbrev pub AreDistinct : List QueryRow → Type 0
 AreDistinct [] = ⊤
 AreDistinct (row ∷ rows) = (is_named row.name rows ≡ false) × AreDistinct rows
 
--- Each line of the text ends with LF and without CR. It is a query file that passes every check, and this is its query.
+-- Each line of the text ends with LF and without CR. It is a query file that passes every check,
+-- and this is its query.
 pub record IsMeant (text : List ℕ) (query : QueryView) : Type 0 where
   pub kept : IsKeptText text
   pub is : IsQueryOfText text query
@@ -97,8 +103,8 @@ is_waiting name rows = list_any (λ row. bytes_eq row.name name) rows
 
 -- ---- a `Saved`
 
--- what is seen of a `Saved`: its queries, what each of them means, its saved searches, the number of the next of these, and how
--- many more it has room for
+-- what is seen of a `Saved`: its queries, what each of them means, its saved searches, the number
+-- of the next of these, and how many more it has room for
 pub record SavedView : Type 0 where
   pub queries : List QueryRow
   pub meanings : List QueryView
@@ -118,6 +124,7 @@ pub record IsSameSaved (a b : SavedView) : Type 0 where
 abbrev pub kept_tables : List QueryRow → List CursorRow → ℕ → Tables
 kept_tables queries cursors next = record no_tables { queries = queries; cursors = cursors; next_cursor = next }
 
+-- queries and saved searches that are held, as tables without records
 abbrev pub saved_tables : SavedView → Tables
 saved_tables saved = kept_tables saved.queries saved.cursors saved.next_cursor
 
@@ -127,6 +134,7 @@ saved_tables saved = kept_tables saved.queries saved.cursors saved.next_cursor
 abbrev pub query_row : Vec ℕ × Kept → QueryRow
 query_row entry = record { number = entry.1.number; name = entry.0.items; text = entry.1.text }
 
+-- kept queries under their names, as rows
 abbrev pub rows_of : List (Vec ℕ × Kept) → List QueryRow
 rows_of entries = map query_row entries
 
@@ -134,6 +142,7 @@ rows_of entries = map query_row entries
 abbrev pub meaning_of : Vec ℕ × Kept → QueryView
 meaning_of entry = entry.1.query
 
+-- what kept queries mean
 abbrev pub meanings_of : List (Vec ℕ × Kept) → List QueryView
 meanings_of entries = map meaning_of entries
 
@@ -141,6 +150,7 @@ meanings_of entries = map meaning_of entries
 abbrev pub cursor_row : Numbered SavedSearch → CursorRow
 cursor_row row = record { number = row.number; name = row.item.name; place = row.item.place }
 
+-- saved searches under their numbers, as rows
 abbrev pub cursors_of : List (Numbered SavedSearch) → List CursorRow
 cursors_of rows = map cursor_row rows
 
@@ -150,7 +160,8 @@ pub record IsKeptEntry (entry : Vec ℕ × Kept) : Type 0 where
   pub number : 1 ≤ entry.1.number
   pub meant : IsMeant entry.1.text entry.1.query
 
--- the number can be kept and is below the next, a query has the name, and the place is no longer than a place can be
+-- the number can be kept and is below the next, a query has the name, and the place is no longer
+-- than a place can be
 pub record IsKeptSearch (queries : List QueryRow) (next : ℕ) (row : CursorRow) : Type 0 where
   pub known : row.number ≤ most_search_number
   pub below : row.number < next

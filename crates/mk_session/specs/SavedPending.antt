@@ -1,6 +1,7 @@
 -- Changes of kept queries and saved searches: made ready, and not made yet.
 --     SavedPendingView             what is seen of a `SavedPending`
---     AreReady changes queries     the queries are those of the texts that are put, and names, numbers and places can be kept
+--     AreReady changes queries     the queries are those of the texts that are put, and names,
+--                                  numbers and places can be kept
 --     SavedFits saved pending      a `Saved` can make the change without memory
 --     IsOfSaved change             it puts or drops a query or a saved search
 use Rattle.std.specs.Prelude.{◌≡◌, ◌+◌, ◌<◌, ◌≤◌, true, false, List, [], ◌∷◌, length, ⊤}
@@ -20,8 +21,8 @@ pub record SavedPendingView : Type 0 where
   pub changes : List Change
   pub queries : List QueryView
 
--- the changes are of queries and saved searches, names are names, numbers and places can be kept, and the queries are those of the
--- texts that are put, in order
+-- the changes are of queries and saved searches, names are names, numbers and places can be kept,
+-- and the queries are those of the texts that are put, in order
 abbrev pub AreReady : List Change → List QueryView → Type 0
 AreReady [] [] = ⊤
 AreReady [] (query ∷ queries) = ⊥
@@ -33,8 +34,8 @@ AreReady (DropCursor number ∷ changes) queries = AreReady changes queries
 AreReady (PutRecord number text ∷ changes) queries = ⊥
 AreReady (DropRecord number ∷ changes) queries = ⊥
 
--- A query that is put has a number above all, a new name, and stays within the limits. One that is dropped has no saved search
--- left. A saved search that is put has the name of a query.
+-- A query that is put has a number above all, a new name, and stays within the limits. One that is
+-- dropped has no saved search left. A saved search that is put has the name of a query.
 abbrev pub IsInPlace : Change → Tables → Type 0
 IsInPlace (PutQuery number name text) t =
     AllByRecursion (λ (row : QueryRow). row.number < number) t.queries × (is_named name t.queries ≡ false) × (length t.queries < most_queries)

@@ -1,9 +1,11 @@
 -- The commands `search NAME LIMIT` and `resume C LIMIT`.
---     IsMoleculeAt records n mol           the molecule is the filled one of the record under the number
+--     IsMoleculeAt records n mol           the molecule is the filled one of the record under the
+--                                          number
 --     IsQueryNamed rows name query         the query is that of the name
 --     search_of c rows                     the saved search of the number
 --     HasSearchRoom cursors next           one more search may be saved
---     IsListing records query place limit c keys text      the first keys that remain from a place on, and their lines
+--     IsListing records query place limit c keys text      the first keys that remain from a place
+--                                                          on, and their lines
 --     IsSearch t name limit effect         what `search` comes to
 --     IsResume t c limit effect            what `resume` comes to
 use Rattle.std.specs.Prelude.{◌≡◌, ℕ, ◌<◌, ◌≤◌, nat_eq, false, List, [], ◌∷◌, length, bytes_eq, if◌then◌else◌, Option, Some, None, codes}
@@ -52,8 +54,8 @@ pub record HasSearchRoom (cursors : List CursorRow) (next : ℕ) : Type 0 where
   pub few : length cursors < most_searches
   pub number : next ≤ most_search_number
 
--- The keys are the first so many of those that remain from the place on, over the molecules of the records. Their lines are the
--- text, which names the number c where there may be more.
+-- The keys are the first so many of those that remain from the place on, over the molecules of the
+-- records. Their lines are the text, which names the number c where there may be more.
 pub record IsListing (records : List RecordRow) (query : QueryView) (place : List ℕ) (limit c : ℕ) (keys : List (List ℕ)) (text : List ℕ) : Type 0 where
   pub first : AreFirst limit (Remains (IsMoleculeAt records) query place) keys
   pub lines : IsHitsText query keys limit c text
@@ -63,8 +65,8 @@ pub record IsListing (records : List RecordRow) (query : QueryView) (place : Lis
 abbrev pub full_searches_text : List ℕ
 full_searches_text = codes "refused 10 cursors\n"
 
--- The first keys of the query are listed. Where they are as many as asked for, the place behind them is saved under the next number.
--- There has to be room for that even where nothing is saved.
+-- The first keys of the query are listed. Where they are as many as asked for, the place behind
+-- them is saved under the next number. There has to be room for that even where nothing is saved.
 pub data IsSearch (t : Tables) (name : List ℕ) (limit : ℕ) (effect : Effect) : Type 0 where
   NoQuerySearched : is_named name t.queries ≡ false → effect ≡ Refuses (no_query_text name) → IsSearch t name limit effect
   SearchesAreFull : (query : QueryView) → IsQueryNamed t.queries name query → ¬ (HasSearchRoom t.cursors t.next_cursor) → effect ≡ Refuses full_searches_text
@@ -81,8 +83,9 @@ pub data IsSearch (t : Tables) (name : List ℕ) (limit : ℕ) (effect : Effect)
 abbrev pub no_search_text : ℕ → List ℕ
 no_search_text c = numbered_line (codes "refused 9 cursor ") c
 
--- The first keys from the saved place on are listed, over the molecules that are held now. Where they are as many as asked for, the
--- place behind them is saved in place of the former one, else the saved search is dropped.
+-- The first keys from the saved place on are listed, over the molecules that are held now. Where
+-- they are as many as asked for, the place behind them is saved in place of the former one, else
+-- the saved search is dropped.
 pub data IsResume (t : Tables) (c limit : ℕ) (effect : Effect) : Type 0 where
   NoSearchResumed : search_of c t.cursors ≡ None → effect ≡ Refuses (no_search_text c) → IsResume t c limit effect
   ListsRest : (row : CursorRow) → search_of c t.cursors ≡ Some row → (query : QueryView) → IsQueryNamed t.queries row.name query

@@ -1,4 +1,5 @@
 -- The statuses of a run.
+--     code_of status     the exit status of the program
 use Rattle.std.specs.Prelude.{ℕ}
 use Rattle.mk_session.specs.declared.status.Status.{Status}
 use Rattle.mk_session.specs.declared.status.Status.TheVariants.{Done, Refused, Words, Read, Write, Store, Memory, BadStore, ScriptLong}

@@ -2,7 +2,8 @@
 --     EachReads Reads rows          each row reads behind those before it
 --     IsFirstBadRow Reads rows row  this row is the first that doesn't
 --     AllRead t                     each row of the tables reads
---     IsFirstBad t kind number      the first row that doesn't: among the records, then the queries, then the saved searches
+--     IsFirstBad t kind number      the first row that doesn't: among the records, then the
+--                                   queries, then the saved searches
 --     RecordsRead t                 the record rows are those of a library, by mk_library
 use Rattle.std.specs.Prelude.{◌≡◌, ℕ, ◌+◌, ◌<◌, ◌≤◌, true, false, List, ◌∷◌, ◌++◌, length}
 use Rattle.std.specs.List.{AllByRecursion}
@@ -32,8 +33,8 @@ module _ {R : Type 0} (Reads : List R → R → Type 0) where
 
 -- ---- queries and saved searches
 
--- A query has a number above those before it, and a name that none of them has. It is among the first 1,000, and few bytes of text
--- stand before it and in it.
+-- A query has a number above those before it, and a name that none of them has. It is among the
+-- first 1,000, and few bytes of text stand before it and in it.
 pub record HasQueryPlace (front : List QueryRow) (row : QueryRow) : Type 0 where
   pub number : 1 ≤ row.number
   pub above : AllByRecursion (λ (before : QueryRow). before.number < row.number) front
@@ -43,13 +44,13 @@ pub record HasQueryPlace (front : List QueryRow) (row : QueryRow) : Type 0 where
   pub bytes : bytes_of_texts front + length row.text ≤ most_text_bytes
   pub short : length row.text ≤ most_query_bytes
 
--- it may stand there, and its text means a query
+-- the row of a query may stand behind those before it, and its text means a query
 pub record ReadsQuery (front : List QueryRow) (row : QueryRow) : Type 0 where
   pub place : HasQueryPlace front row
   pub text : HasMeaning row.text
 
--- A saved search has a number above those before it and below the next, and the name of a query that is held. It is among the
--- first 1,000, and its place is no longer than a place can be.
+-- A saved search has a number above those before it and below the next, and the name of a query
+-- that is held. It is among the first 1,000, and its place is no longer than a place can be.
 pub record ReadsCursor (queries : List QueryRow) (next : ℕ) (front : List CursorRow) (row : CursorRow) : Type 0 where
   pub number : IsHeldNumber row.number
   pub above : AllByRecursion (λ (before : CursorRow). before.number < row.number) front

@@ -1,7 +1,8 @@
 // Commands, and what a line of a script and the words of the command line are.
 use mk_outside::Text;
 
-/// A command. Names and file names stand as they are written, and numbers without their leading zeros.
+/// A command. Names and file names stand as they are written, and numbers without their leading
+/// zeros.
 #[derive(Debug, Drop)]
 pub enum Command {
     /// Lists where a query lies in a molecule.

@@ -6,6 +6,7 @@ ghost use Rattle.mk_session.specs.Fails.{IsStepFailOf, IsStepFailOfKeep};
 use crate::saved_pending::SavedPending;
 use mk_library::Pending;
 use mk_outside::{Bytes, FileFail, KeepFail, Memory};
+use thiserror::Error;
 
 /// What a command changes.
 #[derive(Drop)]
@@ -36,13 +37,13 @@ pub enum Ended {
 }
 
 /// Why a command came to no end.
-#[derive(Clone, Copy, Debug, PartialEq, Eq)]
+#[derive(Clone, Copy, Debug, PartialEq, Eq, Error)]
 pub enum StepFail {
-    /// A file couldn't be read.
+    #[error("a file can't be read")]
     Read,
-    /// The batch couldn't be committed.
+    #[error("the batch can't be committed")]
     Store,
-    /// Memory was wanting.
+    #[error("no memory for the command")]
     Memory,
 }
 

@@ -8,7 +8,8 @@ use mk_model::{Key, Query};
 use mk_text::{Memory, put_number};
 use std::alloc::Global;
 
-/// The answer that lists these keys, of which at most so many are listed; the number is that behind `more`.
+/// The answer that lists these keys, of which at most so many are listed; the number is that behind
+/// `more`.
 pub fn hits_answer(
     alloc: Global,
     query: &Query,
@@ -51,7 +52,8 @@ fn put_hit(alloc: Global, lines: &mut Vec<u8>, query: &Query, key: &[u32]) -> Re
     }
 }
 
-// The same of a record's number, and of the numbers behind it. Those of the choice are the structural code with which they begin.
+// The same of a record's number, and of the numbers behind it. Those of the choice are the
+// structural code with which they begin.
 fn put_occurrence(
     alloc: Global,
     lines: &mut Vec<u8>,

@@ -18,7 +18,8 @@ pub fn commands_are_read()
     ensures one { OneReading }
 {}
 
-/// The path of a store is read exactly where the words have one in front, and words ask for exactly what they say.
+/// The path of a store is read exactly where the words have one in front, and words ask for exactly
+/// what they say.
 pub fn words_are_read()
     ensures store { StoreIsRead }
     ensures words { WordsAreRead }
@@ -51,8 +52,8 @@ pub(crate) fn one_said()
     fault_or_query();
 }
 
-/// Over told files a command comes to at most one effect, and a run has at most one outcome: the bytes that it adds, the
-/// tables that it leaves, and its status.
+/// Over told files a command comes to at most one effect, and a run has at most one outcome: the
+/// bytes that it adds, the tables that it leaves, and its status.
 pub fn one_run()
     ensures effect { OneEffect }
     ensures run { OneRun }

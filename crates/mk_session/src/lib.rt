@@ -1,68 +1,45 @@
 //! Commands, their answers, and the top call: a session on the tables of a keeper, and scripts.
 //!
-//! The program uses one promise, that of `top`, which is one record: `Headline` in `specs/Headline.antt`. Where no object that
-//! it is handed fails and memory suffices, the bytes written, the tables kept and the status are those of the run (`IsRun` in
-//! `specs/Run.antt`); every other status comes with its cause and leaves what `specs/Ends.antt` says. Which words are a command
-//! stands in `specs/Commands.antt`, what a command comes to in `specs/Step.antt` and the files that it cites, and which stored
-//! rows read in `specs/StoredRows.antt`. What a hit is stands in mk_model, the records of an SDfile in mk_sdfile, and the
-//! molecule of a table in mk_mol.
+//! The program uses one promise, that of `top`, which is one record: `Headline` in
+//! `specs/Headline.antt`. Where no object that it is handed fails and memory suffices, the bytes
+//! written, the tables kept and the status are those of the run (`IsRun` in `specs/Run.antt`);
+//! every other status comes with its cause and leaves what `specs/Ends.antt` says. Which words are
+//! a command stands in `specs/Commands.antt`, what a command comes to in `specs/Step.antt` and the
+//! files that it cites, and which stored rows read in `specs/StoredRows.antt`. What a hit is stands
+//! in mk_model, the records of an SDfile in mk_sdfile, and the molecule of a table in mk_mol.
 //!
 //! Only this crate knows what a command is. It reads no columns: see `mk_ctab`.
 #![tactic(auto)]
 
 mod answers;
-#[cfg(test)]
-mod benzene_tests;
 mod command;
 mod command_parts;
 mod command_reading;
 mod command_rows;
 mod effect;
-#[cfg(test)]
-mod failure_tests;
-#[cfg(test)]
-mod fault_tests;
 mod file_reading;
 mod files;
 mod finding;
-#[cfg(test)]
-mod generic_tests;
 mod hit_lines;
 mod judgment;
 mod laws;
 mod listings;
 mod loading;
-#[cfg(test)]
-mod match_tests;
 mod matching;
 mod ordering;
 mod queries;
-#[cfg(test)]
-mod query_tests;
 mod query_text;
 mod reading;
-#[cfg(test)]
-mod record_tests;
 mod records;
 mod running;
 mod saved;
 mod saved_pending;
-#[cfg(test)]
-mod script_tests;
-#[cfg(test)]
-mod search_store_tests;
-#[cfg(test)]
-mod search_tests;
 mod searching;
 mod session;
 mod status;
 mod stepping;
 mod store_words;
 mod stored_rows;
-#[cfg(test)]
-mod test_files;
-#[cfg(test)]
-mod words_tests;
 mod work;
 
 pub use command::{Command, LineKind, WordsKind};

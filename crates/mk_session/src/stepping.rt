@@ -21,7 +21,8 @@ use std::alloc::Global;
 use std::sync::ledger::Ledger;
 
 impl Session {
-    /// Does one command and appends its answer. After a failure the session and the answer are as before.
+    /// Does one command and appends its answer. After a failure the session and the answer are as
+    /// before.
     pub fn step<F: Files, K: Keeper, L: Ledger>(
         &mut self,
         alloc: Global,
@@ -115,7 +116,8 @@ fn change<K: Keeper>(
     }
 }
 
-// Commits the changes, where there are any, and makes them here. Nothing behind the commit takes memory.
+// Commits the changes, where there are any, and makes them here. Nothing behind the commit takes
+// memory.
 fn keep_records<K: Keeper>(
     alloc: Global,
     library: &mut Library,

@@ -16,6 +16,7 @@ use mk_outside::{Bytes, CursorRow, Memory, Place, QueryRow, Tables};
 use mk_rgfile::kept_text_stays;
 use mk_text::{kept_lines, lines};
 use std::alloc::Global;
+use thiserror::Error;
 
 /// A kind of row.
 #[derive(Clone, Copy, Debug, PartialEq, Eq)]
@@ -26,13 +27,14 @@ pub enum RowKind {
 }
 
 /// Why no session was begun.
-#[derive(Clone, Copy, Debug, PartialEq, Eq)]
+#[derive(Clone, Copy, Debug, PartialEq, Eq, Error)]
 pub enum BeginFail {
-    /// The keeper couldn't be loaded.
+    #[error("the keeper can't be loaded")]
     Store,
     /// This is the first row that doesn't read.
+    #[error("the row {number} of {kind:?} doesn't read")]
     BadStore { kind: RowKind, number: u32 },
-    /// Memory was wanting.
+    #[error("no memory for the session")]
     Memory,
 }
 
@@ -44,7 +46,8 @@ impl From<Memory> for BeginFail {
     }
 }
 
-/// The queries and saved searches of tables, or the first row of theirs that doesn't read, where the records read.
+/// The queries and saved searches of tables, or the first row of theirs that doesn't read, where
+/// the records read.
 pub fn saved_of(alloc: Global, tables: &Tables) -> Result<Saved, BeginFail>
     ensures { IsRestored tables.now result }
 {
@@ -143,7 +146,8 @@ fn query_meant(alloc: Global, text: &[u8]) -> Result<Option<Query>, Memory>
     }
 }
 
-// Whether each line of the text ends with LF and without CR, so that keeping its lines leaves it as it is.
+// Whether each line of the text ends with LF and without CR, so that keeping its lines leaves it as
+// it is.
 fn is_kept(alloc: Global, text: &[u8]) -> Result<bool, Memory>
     ensures kept { IfOk result (λ kept. kept ≡ true → IsKeptText text.now) }
     ensures other { IfOk result (λ kept. kept ≡ false → ¬ (IsKeptText text.now)) }

@@ -1,46 +1,29 @@
 // `match` with queries of every kind: their hits, and what they are refused with.
-use crate::Status;
-use crate::test_files::{CO, Drawn, Grouped, Groups, Held, Written, files, is_answered};
+use crate::test_files::{
+    CO, Content, Drawn, Grouped, Groups, NESTED, ONE_OF_TWO, Written, files, is_answered,
+};
+use mk_session::Status;
 use std::test::Fail;
-
-const CHLORINE: &str = "Cl | {M  APO  1   1   1}";
 
 const FLUORINE: &str = "F | {M  APO  1   1   1}";
 
-const ONE_CHLORINE: Groups = &[(1, &[CHLORINE])];
-
-// Two sites of a group of which one is filled.
-const ONE_OF_TWO: Held = Grouped(
-    "C(h1) R# R# | 1-2 1-3 {M  RGP  2   2   1   3   1}{M  LOG  1   1   0   0 1}",
-    ONE_CHLORINE,
-);
-
-// A member that has a site of its own, whose group may stay empty and is filled by hydrogens then.
-const NESTED: Held = Grouped(
-    "C R# | 1-2 {M  RGP  1   2   1}{M  LOG  1   2   0   1 0-1}",
-    &[
-        (1, &["O R# | 1-2 {M  RGP  1   2   2}{M  APO  1   1   1}"]),
-        (2, &[FLUORINE]),
-    ],
-);
-
 // A ring that is closed by a member with two attachment points.
-const CLOSED: Held = Grouped(
+const CLOSED: Content = Grouped(
     "C C C R# | 1=2 2-3 1-4 3=4 {M  RGP  1   4   1}",
     &[(1, &["C C C | 1=2 2-3 {M  APO  2   1   1   3   2}"])],
 );
 
-const NAPHTHALENE: Held = Drawn(
+const NAPHTHALENE: Content = Drawn(
     "C C C C C C C C C C | 1=2 2-3 3=4 4-5 5-10 5=6 6-7 7=8 8-9 9=10 1-10",
 );
 
 // Nitromethane, by two double bonds.
-const NITRO: Held = Drawn("C N O O | 1-2 2=3 2=4");
+const NITRO: Content = Drawn("C N O O | 1-2 2=3 2=4");
 
 // The same by charges.
-const CHARGED: Held = Drawn("C N(c3) O O(c5) | 1-2 2=3 2-4");
+const CHARGED: Content = Drawn("C N(c3) O O(c5) | 1-2 2=3 2-4");
 
-static HITS: [(&str, Held, Held, &str); 15] = [
+static HITS: [(&str, Content, Content, &str); 15] = [
     (
         "hydrogens that are added",
         Drawn("H |"),
@@ -146,7 +129,7 @@ fn generic_queries_have_their_hits(rt: HostRuntime) -> Result<(), Fail> {
 const ONE_FLUORINE: Groups = &[(1, &[FLUORINE])];
 
 // Each check fails once.
-static REFUSALS: [(&str, Held, &str); 17] = [
+static REFUSALS: [(&str, Content, &str); 17] = [
     (
         "an unknown symbol",
         Grouped("C Xx | 1-2", ONE_FLUORINE),

@@ -1,16 +1,17 @@
-// A script of six commands over which each call of each object fails in turn: how it ends, what is written, and what is kept.
-use crate::test_files::{C, Held, Written, failing, files};
-use crate::{Status, top};
+// A script of six commands over which each call of each object fails in turn: how it ends, what is
+// written, and what is kept.
+use crate::test_files::{C, Content, Written, failing, files};
 use mk_outside::{
     Bytes, CallNumbers, MemFiles, MemKeeper, MemSink, MemSource, Memory, SureFiles, SureSink,
     SureSource, Tables,
 };
+use mk_session::{Status, top};
 use std::alloc::Global;
 use std::test::Fail;
 
 const SCRIPT: &str = "load m\nquery q q\nreplace 1 m\nshow 1\nforget q\nremove 1\n";
 
-const CARBON: Held = Written("\n\n\n  1  0\n                               C\nM  END\n");
+const CARBON: Content = Written("\n\n\n  1  0\n                               C\nM  END\n");
 
 static ANSWERS: [&str; 6] = [
     "loaded 1 first 1\n",

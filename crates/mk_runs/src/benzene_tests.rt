@@ -1,7 +1,8 @@
-// A search over files as drawing tools write them: header lines, coordinates, Sgroups, data items, and CR LF.
-use crate::Status;
-use crate::test_files::is_run;
-use mk_outside::{Bytes, FileRow, FileRows, Memory, Text};
+// A search over files as drawing tools write them: header lines, coordinates, Sgroups, data items,
+// and CR LF.
+use crate::test_files::{is_run, named};
+use mk_outside::{Bytes, FileRows, Memory};
+use mk_session::Status;
 use std::alloc::Global;
 use std::test::Fail;
 
@@ -164,20 +165,13 @@ fn with_cr(alloc: Global, text: &str) -> Result<Bytes, Memory> {
     Ok(Bytes::of(bytes))
 }
 
-fn row(alloc: Global, name: &str, bytes: Bytes) -> Result<FileRow, Memory> {
-    Ok(FileRow {
-        name: Text::of(String::from_str(alloc, name)?),
-        bytes,
-    })
-}
-
 #[test]
 fn substituted_benzenes_are_found(rt: HostRuntime) -> Result<(), Fail> {
     let alloc = rt.alloc();
     let query = Bytes::of(QUERY.as_bytes().to_vec(alloc)?);
     let mut rows = FileRows::new(alloc);
-    rows.push(row(alloc, "r.rgf", query)?)?;
-    rows.push(row(alloc, "c.sdf", with_cr(alloc, MOLECULES)?)?)?;
+    rows.push(named(alloc, "r.rgf", query)?)?;
+    rows.push(named(alloc, "c.sdf", with_cr(alloc, MOLECULES)?)?)?;
     let script = "load c.sdf\nquery r r.rgf\nsearch r 100\n";
     assert!(rt; is_run(alloc, &[], rows, script, WANTED, Status::Done)?);
     Ok(())

@@ -1,19 +1,20 @@
 // Words of the command line, and scripts.
-use crate::test_files::{C, Held, Written, files, is_run, words};
-use crate::{Status, top};
-use mk_outside::{Bytes, FileRows, Memory, SureFiles, SureKeeper, SureSink, SureSource, Tables};
+use crate::test_files::{C, Content, Written, files, is_run, words};
+use mk_outside::{
+    Bytes, FileRows, Memory, Source, SureFiles, SureKeeper, SureSink, SureSource, Tables,
+};
+use mk_session::{Status, top};
 use std::alloc::Global;
 use std::test::Fail;
 
-// No words are a script, which is empty here.
-static OTHER_WORDS: [&[&str]; 10] = [
+// Words that are no command, and so the script isn't read.
+static OTHER_WORDS: [&[&str]; 9] = [
     &["load"],
     &["--store"],
     &["match"],
     &["match", "q"],
     &["Match", "q", "m"],
     &["match", "q", "m", "m"],
-    &["--store"],
     &["search", "q"],
     &["show", "0"],
     &["show", "1234567890"],
@@ -105,12 +106,12 @@ fn lines_are_answered_in_order(rt: HostRuntime) -> Result<(), Fail> {
 }
 
 // A carbon, and behind it an oxygen.
-const TWO: Held = Written(
+const TWO: Content = Written(
     "\n\n\n  1  0\n                               C\nM  END\n$$$$\n\n\n\n  1  0\n                               O\nM  END\n",
 );
 
 // A script over the files q, which holds a carbon, and m, and its answers.
-static EDITS: [(&str, &str, Held, &str, Status); 6] = [
+static EDITS: [(&str, &str, Content, &str, Status); 6] = [
     (
         "no record",
         "load m",
@@ -214,5 +215,20 @@ fn a_script_over_its_limit_is_too_long(rt: HostRuntime) -> Result<(), Fail> {
             Status::ScriptLong
         )?
     );
+    Ok(())
+}
+
+// Behind its limit one read of 4,096 bytes is taken of a script, and the rest is left.
+#[test]
+fn a_long_script_is_read_no_further(rt: HostRuntime) -> Result<(), Fail> {
+    let alloc = rt.alloc();
+    let mut files = SureFiles::new(FileRows::new(alloc));
+    let mut input = SureSource::new(Bytes::of(vec![in alloc; b' '; 16_777_216 + 4_096 + 5]?));
+    let mut output = SureSink::new(Bytes::new(alloc));
+    let mut keeper = SureKeeper::new(Tables::new(alloc));
+    let ended = top(alloc, &[], &mut files, &mut input, &mut output, &mut keeper);
+    assert!(rt; ended == Status::ScriptLong);
+    let mut rest = [0u8; 6];
+    assert!(rt; input.read(&mut rest) == Ok(5));
     Ok(())
 }

@@ -1,10 +1,10 @@
 // Searches over stores: their limits, places that are no keys, and commits that fail.
-use crate::Status;
-use crate::test_files::{CO, COC, Grouped, Held, bytes_of, failing, files, is_run_over};
+use crate::test_files::{CO, COC, Content, NESTED, bytes_of, failing, files, is_run_over};
 use mk_outside::{
     Bytes, CallNumbers, CursorRow, Keeper, MemKeeper, Place, QueryRow, SureFiles, SureKeeper,
     Tables,
 };
+use mk_session::Status;
 use std::alloc::Global;
 use std::test::Fail;
 
@@ -12,8 +12,8 @@ use std::test::Fail;
 fn is_run_on<K: Keeper>(
     alloc: Global,
     keeper: &mut K,
-    query: Held,
-    molecule: Held,
+    query: Content,
+    molecule: Content,
     script: &str,
     wanted: &str,
     status: Status,
@@ -23,7 +23,8 @@ fn is_run_on<K: Keeper>(
     Ok(is_so)
 }
 
-// The saved searches of a store by their number and place, the number of the next, and a script over it with its answers.
+// The saved searches of a store by their number and place, the number of the next, and a script
+// over it with its answers.
 struct Store {
     name: &'static str,
     searches: u32,
@@ -163,17 +164,10 @@ fn stored_searches_go_on(rt: HostRuntime) -> Result<(), Fail> {
 #[test]
 fn a_place_is_saved(rt: HostRuntime) -> Result<(), Fail> {
     let alloc = rt.alloc();
-    let nested = Grouped(
-        "C R# | 1-2 {M  RGP  1   2   1}{M  LOG  1   2   0   1 0-1}",
-        &[
-            (1, &["O R# | 1-2 {M  RGP  1   2   2}{M  APO  1   1   1}"]),
-            (2, &["F | {M  APO  1   1   1}"]),
-        ],
-    );
     let mut keeper = SureKeeper::new(Tables::new(alloc));
     let script = "load m\nquery q q\nsearch q 1";
     let wanted = "loaded 1 first 1\nkept q\nhit 1 choice 1 2 map 1 2 6\nmore 1\n";
-    assert!(rt; is_run_on(alloc, &mut keeper, nested, CO, script, wanted, Status::Done)?);
+    assert!(rt; is_run_on(alloc, &mut keeper, NESTED, CO, script, wanted, Status::Done)?);
     let rows = keeper.tables().cursors.as_slice();
     assert!(rt;
         rows.len() == 1 && rows[0].number == 1 && rows[0].name.as_slice() == b"q".as_slice()
@@ -182,7 +176,8 @@ fn a_place_is_saved(rt: HostRuntime) -> Result<(), Fail> {
     Ok(())
 }
 
-// A script whose commit of this number fails, how it ends and what it answers, and then a script over what is kept.
+// A script whose commit of this number fails, how it ends and what it answers, and then a script
+// over what is kept.
 struct Failure {
     script: &'static str,
     fails: u64,

@@ -1,15 +1,15 @@
-// Records that are loaded and replaced: blank lines, bad lines, the order of refusals, and the limits.
-use crate::test_files::{C, Drawn, Held, Written, bytes_of, file, files, is_run};
-use crate::{Status, top};
-use mk_outside::{
-    Bytes, FileRow, FileRows, Memory, QueryRow, RecordRow, SureFiles, SureKeeper, SureSink,
-    SureSource, Tables, Text,
+// Records that are loaded and replaced: blank lines, bad lines, the order of refusals, and the
+// limits.
+use crate::test_files::{
+    C, Content, Drawn, Written, bytes_of, file, files, is_run, is_run_over, named,
 };
+use mk_outside::{Bytes, FileRows, Memory, QueryRow, RecordRow, SureFiles, SureKeeper, Tables};
+use mk_session::Status;
 use std::alloc::Global;
 use std::test::Fail;
 
 // What the file m holds, a script over it and over q, which holds a carbon, and its answers.
-static FILES: [(&str, Held, &str, &str, Status); 13] = [
+static FILES: [(&str, Content, &str, &str, Status); 13] = [
     (
         "blank lines alone",
         Written("\n\n\n\n"),
@@ -124,26 +124,29 @@ fn files_of_records_are_loaded_or_refused(rt: HostRuntime) -> Result<(), Fail> {
     Ok(())
 }
 
-// Whether the script ends so over these files and tables, and writes this.
-fn is_run_over(
+// Whether the script over these files and tables has a refusal, and writes this.
+fn is_refused(
     alloc: Global,
     rows: FileRows,
     tables: Tables,
     script: &str,
     wanted: &str,
-) -> Result<bool, Fail> {
+) -> Result<bool, Memory> {
     let mut files = SureFiles::new(rows);
-    let mut input = SureSource::new(Bytes::of(script.as_bytes().to_vec(alloc)?));
-    let mut output = SureSink::new(Bytes::new(alloc));
     let mut keeper = SureKeeper::new(tables);
-    let ended = top(alloc, &[], &mut files, &mut input, &mut output, &mut keeper);
-    if ended == Status::Memory {
-        return Err(Fail::from(Memory));
-    }
-    Ok(ended == Status::Refused && output.bytes() == wanted.as_bytes())
+    is_run_over(
+        alloc,
+        &[],
+        &mut files,
+        &mut keeper,
+        script,
+        wanted,
+        Status::Refused,
+    )
 }
 
-// The number 999,999,999 is the last one. What a file is comes before that, and a load of no record isn't refused.
+// The number 999,999,999 is the last one. What a file is comes before that, and a load of no record
+// isn't refused.
 #[test]
 fn numbers_end(rt: HostRuntime) -> Result<(), Fail> {
     let alloc = rt.alloc();
@@ -155,11 +158,11 @@ fn numbers_end(rt: HostRuntime) -> Result<(), Fail> {
     let script = "load q\nload q\nload x\nload none\nreplace 999999999 q\nlist";
     let wanted =
         "loaded 1 first 999999999\nrefused 5 library full\nrefused 3 molecules record 1 check V1 item 1\nloaded 0\nreplaced 999999999\nrecords 1\nrecord 999999999\nqueries 0\ncursors 0\nnext 1000000000 1\n";
-    assert!(rt; is_run_over(alloc, rows, tables, script, wanted)?);
+    assert!(rt; is_refused(alloc, rows, tables, script, wanted)?);
     Ok(())
 }
 
-const NOTHING_ELSE: Held = Written("");
+const NOTHING_ELSE: Content = Written("");
 
 // The piece so many times.
 fn repeated(alloc: Global, piece: &[u8], times: u32) -> Result<Bytes, Memory> {
@@ -168,13 +171,6 @@ fn repeated(alloc: Global, piece: &[u8], times: u32) -> Result<Bytes, Memory> {
         all.extend_from_slice(piece)?;
     }
     Ok(Bytes::of(all))
-}
-
-fn named(alloc: Global, name: &str, bytes: Bytes) -> Result<FileRow, Memory> {
-    Ok(FileRow {
-        name: Text::of(String::from_str(alloc, name)?),
-        bytes,
-    })
 }
 
 // A library is full with 100,000 records.
@@ -189,7 +185,7 @@ fn small_records_fill_a_library(rt: HostRuntime) -> Result<(), Fail> {
     let script = "load more\nload all\nload one\nreplace 7 one\nremove 8\nload one\nload one";
     let wanted =
         "refused 5 library full\nloaded 100000 first 1\nrefused 5 library full\nreplaced 7\nremoved 8\nloaded 1 first 100001\nrefused 5 library full\n";
-    assert!(rt; is_run_over(alloc, rows, Tables::new(alloc), script, wanted)?);
+    assert!(rt; is_refused(alloc, rows, Tables::new(alloc), script, wanted)?);
     Ok(())
 }
 
@@ -202,7 +198,7 @@ fn long_files_of_records_are_refused(rt: HostRuntime) -> Result<(), Fail> {
     rows.push(file(alloc, "one", C)?)?;
     let script = "load long\nreplace 1 long\nload one\nreplace 1 long";
     let wanted = "refused 4 molecules\nrefused 6 record 1\nloaded 1 first 1\nrefused 4 molecules\n";
-    assert!(rt; is_run_over(alloc, rows, Tables::new(alloc), script, wanted)?);
+    assert!(rt; is_refused(alloc, rows, Tables::new(alloc), script, wanted)?);
     Ok(())
 }
 
@@ -228,7 +224,7 @@ fn a_thousand_queries_are_all(rt: HostRuntime) -> Result<(), Fail> {
     let script = "query q7 none\nquery new none\nforget q7\nquery new m\nquery q7 q\nquery new q";
     let wanted =
         "refused 7 name q7\nrefused 10 queries\nforgot q7\nrefused 2 query line 2\nkept q7\nrefused 10 queries\n";
-    assert!(rt; is_run_over(alloc, rows, thousand_queries(alloc)?, script, wanted)?);
+    assert!(rt; is_refused(alloc, rows, thousand_queries(alloc)?, script, wanted)?);
     Ok(())
 }
 
@@ -286,7 +282,8 @@ fn record_row(alloc: Global, number: u32, text: &str) -> Result<RecordRow, Memor
     })
 }
 
-// Whether the run over a record 2 that reads and this row ends so. A bad query behind them isn't named.
+// Whether the run over a record 2 that reads and this row ends so. A bad query behind them isn't
+// named.
 fn is_named(alloc: Global, number: u32, text: &str, wanted: &str) -> Result<bool, Fail> {
     let mut tables = Tables::new(alloc);
     tables.next_record = 9;
@@ -300,14 +297,10 @@ fn is_named(alloc: Global, number: u32, text: &str, wanted: &str) -> Result<bool
         text: Bytes::new(alloc),
     })?;
     let mut files = SureFiles::new(FileRows::new(alloc));
-    let mut input = SureSource::new(Bytes::of(b"list".to_vec(alloc)?));
-    let mut output = SureSink::new(Bytes::new(alloc));
     let mut keeper = SureKeeper::new(tables);
-    let ended = top(alloc, &[], &mut files, &mut input, &mut output, &mut keeper);
-    if ended == Status::Memory {
-        return Err(Fail::from(Memory));
-    }
-    Ok(ended == Status::BadStore && output.bytes() == wanted.as_bytes())
+    let status = Status::BadStore;
+    let is_so = is_run_over(alloc, &[], &mut files, &mut keeper, "list", wanted, status)?;
+    Ok(is_so)
 }
 
 #[test]

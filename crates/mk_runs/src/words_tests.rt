@@ -1,6 +1,6 @@
 // What the words of the command line are, with a store in front or without one.
 use crate::test_files::words;
-use crate::{Memory, WordsKind, command_of_words, store_word};
+use mk_session::{Memory, WordsKind, command_of_words, store_word};
 use std::alloc::Global;
 use std::test::Fail;
 

@@ -1,14 +1,15 @@
 // Calls that fail, files that aren't read, and a store with a bad row.
 use crate::test_files::{C, CO, COC, NOTHING, failing, files, is_run_over, words};
-use crate::{Status, top};
 use mk_outside::{
     Bytes, CallNumbers, FileRows, MemFiles, MemKeeper, MemSink, MemSource, Memory, RecordRow,
     SureFiles, SureKeeper, SureSink, SureSource, Tables,
 };
+use mk_session::{Status, top};
 use std::alloc::Global;
 use std::test::Fail;
 
-// At which call the input, the files, the output and the loads fail, how the script ends, and what is written.
+// At which call the input, the files, the output and the loads fail, how the script ends, and what
+// is written.
 struct Row {
     script: &'static str,
     fails: [u64; 4],
@@ -124,7 +125,8 @@ fn is_kept_run(
     Ok(is_so)
 }
 
-// The third commit fails, and in the next run a file isn't there. The records before are kept, and read again.
+// The third commit fails, and in the next run a file isn't there. The records before are kept, and
+// read again.
 #[test]
 fn a_failed_commit_keeps_what_was_kept(rt: HostRuntime) -> Result<(), Fail> {
     let alloc = rt.alloc();

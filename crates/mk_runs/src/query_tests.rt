@@ -1,14 +1,14 @@
 // Kept queries: the commands `query` and `forget`, and stores with queries and saved searches.
-use crate::test_files::{C, CO, Drawn, Held, Written, bytes_of, files, is_run, is_run_over};
-use crate::{Status, top};
+use crate::test_files::{C, CO, Content, Drawn, Written, bytes_of, files, is_run, is_run_over};
 use mk_outside::{
     Bytes, CursorRow, Memory, Place, QueryRow, SureFiles, SureKeeper, SureSink, SureSource, Tables,
 };
+use mk_session::{Status, top};
 use std::alloc::Global;
 use std::test::Fail;
 
 // A script over the file q, and its answers.
-static SCRIPTS: [(&str, Held, &str, &str, Status); 15] = [
+static SCRIPTS: [(&str, Content, &str, &str, Status); 15] = [
     (
         "queries are listed as they were kept",
         CO,
@@ -129,7 +129,7 @@ fn queries_are_kept_and_forgotten(rt: HostRuntime) -> Result<(), Fail> {
     Ok(())
 }
 
-fn query_row(alloc: Global, number: u32, name: &str, text: Held) -> Result<QueryRow, Fail> {
+fn query_row(alloc: Global, number: u32, name: &str, text: Content) -> Result<QueryRow, Fail> {
     Ok(QueryRow {
         number,
         name: Bytes::of(name.as_bytes().to_vec(alloc)?),
@@ -162,7 +162,7 @@ fn is_run_on(
 // The rows of a store: numbers, names and texts of queries; numbers, names and sizes of places.
 struct Store {
     name: &'static str,
-    queries: &'static [(u32, &'static str, Held)],
+    queries: &'static [(u32, &'static str, Content)],
     cursors: &'static [(u32, &'static str, usize)],
     wanted: &'static str,
 }
@@ -339,8 +339,8 @@ fn stored_queries_and_searches_read_or_are_named(rt: HostRuntime) -> Result<(), 
     Ok(())
 }
 
-// Searches go with their query, and the next run reads what this one left. A number may be the last one: then no query is kept,
-// but what its file is comes before that.
+// Searches go with their query, and the next run reads what this one left. A number may be the last
+// one: then no query is kept, but what its file is comes before that.
 #[test]
 fn a_query_is_forgotten_with_its_searches(rt: HostRuntime) -> Result<(), Fail> {
     let alloc = rt.alloc();

@@ -1,63 +1,82 @@
 // Files in memory, and runs over them. The shorthand is that of docs/TESTING.md, "Tables of tests".
-use crate::{Status, top};
 use mk_fixtures::{molfile_of_sketch, rgfile_of_sketches};
 use mk_outside::{
     Bytes, CallNumbers, FileRow, FileRows, Files, Keeper, Memory, SureFiles, SureKeeper, SureSink,
     SureSource, Tables, Text,
 };
+use mk_session::{Status, top};
 use std::alloc::Global;
 use std::test::Fail;
 
 // The groups of a query by number, each with its members.
 pub type Groups = &'static [(u64, &'static [&'static str])];
 
-// What a file holds: the molfile of a sketch, the RGfile of a sketch and of groups, or a text as it stands.
+// What a file holds: the molfile of a sketch, the RGfile of a sketch and of groups, or a text as it
+// stands.
 #[derive(Clone, Copy)]
-pub enum Held {
+pub enum Content {
     Drawn(&'static str),
     Grouped(&'static str, Groups),
     Written(&'static str),
 }
 
-pub use Held::{Drawn, Grouped, Written};
+pub use Content::{Drawn, Grouped, Written};
 
 // A carbon.
-pub const C: Held = Drawn("C |");
+pub const C: Content = Drawn("C |");
 
 // A carbon and an oxygen with a bond.
-pub const CO: Held = Drawn("C O | 1-2");
+pub const CO: Content = Drawn("C O | 1-2");
 
 // Methoxymethane.
-pub const COC: Held = Drawn("C O C | 1-2 2-3");
+pub const COC: Content = Drawn("C O C | 1-2 2-3");
 
 // The same bond from the oxygen on.
-pub const OC: Held = Drawn("O C | 1-2");
+pub const OC: Content = Drawn("O C | 1-2");
 
 // Two carbons with a bond.
-pub const CC: Held = Drawn("C C | 1-2");
+pub const CC: Content = Drawn("C C | 1-2");
 
 // A carbon and a nitrogen with a triple bond.
-pub const TRIPLE: Held = Drawn("C N | 1#2");
+pub const TRIPLE: Content = Drawn("C N | 1#2");
 
 // A carbon and a nitrogen with a double bond.
-pub const DOUBLE: Held = Drawn("C N | 1=2");
+pub const DOUBLE: Content = Drawn("C N | 1=2");
 
 // A ring of three carbons.
-pub const RING: Held = Drawn("C C C | 1-2 2-3 1-3");
+pub const RING: Content = Drawn("C C C | 1-2 2-3 1-3");
 
 // Benzene.
-pub const BENZENE: Held = Drawn("C C C C C C | 1-2 2=3 3-4 4=5 5-6 6=1");
+pub const BENZENE: Content = Drawn("C C C C C C | 1-2 2=3 3-4 4=5 5-6 6=1");
 
 // Acetic acid.
-pub const ACID: Held = Drawn("C C O O | 1-2 2=3 2-4");
+pub const ACID: Content = Drawn("C C O O | 1-2 2=3 2-4");
+
+// One chlorine for group 1.
+pub const CHLORINE: Groups = &[(1, &["Cl | {M  APO  1   1   1}"])];
+
+// Two sites of a group of which one is filled.
+pub const ONE_OF_TWO: Content = Grouped(
+    "C(h1) R# R# | 1-2 1-3 {M  RGP  2   2   1   3   1}{M  LOG  1   1   0   0 1}",
+    CHLORINE,
+);
+
+// A member that has a site of its own, whose group may stay empty and is filled by hydrogens then.
+pub const NESTED: Content = Grouped(
+    "C R# | 1-2 {M  RGP  1   2   1}{M  LOG  1   2   0   1 0-1}",
+    &[
+        (1, &["O R# | 1-2 {M  RGP  1   2   2}{M  APO  1   1   1}"]),
+        (2, &["F | {M  APO  1   1   1}"]),
+    ],
+);
 
 // A file of no byte.
-pub const NOTHING: Held = Written("");
+pub const NOTHING: Content = Written("");
 
 // Two carbons that aren't bonded.
-pub const APART: Held = Drawn("C C |");
+pub const APART: Content = Drawn("C C |");
 
-pub fn bytes_of(alloc: Global, held: Held) -> Result<Bytes, Fail> {
+pub fn bytes_of(alloc: Global, held: Content) -> Result<Bytes, Fail> {
     Ok(Bytes::of(match held {
         Drawn(sketch) => molfile_of_sketch(alloc, sketch)?,
         Grouped(root, groups) => rgfile_of_sketches(alloc, root, groups)?,
@@ -65,14 +84,19 @@ pub fn bytes_of(alloc: Global, held: Held) -> Result<Bytes, Fail> {
     }))
 }
 
-pub fn file(alloc: Global, name: &str, held: Held) -> Result<FileRow, Fail> {
+// A file of these bytes.
+pub fn named(alloc: Global, name: &str, bytes: Bytes) -> Result<FileRow, Memory> {
     Ok(FileRow {
         name: Text::of(String::from_str(alloc, name)?),
-        bytes: bytes_of(alloc, held)?,
+        bytes,
     })
 }
 
-pub fn files(alloc: Global, query: Held, molecule: Held) -> Result<FileRows, Fail> {
+pub fn file(alloc: Global, name: &str, held: Content) -> Result<FileRow, Fail> {
+    Ok(named(alloc, name, bytes_of(alloc, held)?)?)
+}
+
+pub fn files(alloc: Global, query: Content, molecule: Content) -> Result<FileRows, Fail> {
     let mut rows = FileRows::new(alloc);
     rows.push(file(alloc, "q", query)?)?;
     rows.push(file(alloc, "m", molecule)?)?;

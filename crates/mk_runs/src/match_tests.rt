@@ -1,14 +1,14 @@
 // `match`: its hits and its refusals.
-use crate::Status;
 use crate::test_files::{
-    ACID, APART, BENZENE, C, CC, CO, COC, DOUBLE, Drawn, Held, OC, RING, TRIPLE, Written, file,
+    ACID, APART, BENZENE, C, CC, CO, COC, Content, DOUBLE, Drawn, OC, RING, TRIPLE, Written, file,
     files, is_answered,
 };
 use mk_outside::{Bytes, FileRow, FileRows, Memory, Text};
+use mk_session::Status;
 use std::alloc::Global;
 use std::test::Fail;
 
-static HITS: [(&str, Held, Held, &str); 22] = [
+static HITS: [(&str, Content, Content, &str); 22] = [
     (
         "two maps of C-O",
         CO,
@@ -150,7 +150,7 @@ fn queries_have_their_hits(rt: HostRuntime) -> Result<(), Fail> {
     Ok(())
 }
 
-static REFUSALS: [(&str, Held, Held, &str); 19] = [
+static REFUSALS: [(&str, Content, Content, &str); 19] = [
     (
         "an unknown symbol",
         C,

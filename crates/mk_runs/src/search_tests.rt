@@ -1,44 +1,29 @@
 // Searches of kept molecules: the commands `search` and `resume`.
-use crate::Status;
-use crate::test_files::{C, CO, COC, Drawn, Grouped, Groups, Held, OC, file, is_run};
+use crate::test_files::{
+    C, CHLORINE, CO, COC, Content, Drawn, Grouped, NESTED, OC, ONE_OF_TWO, file, is_run,
+};
 use mk_outside::FileRows;
+use mk_session::Status;
 use std::alloc::Global;
 use std::test::Fail;
 
-const CHLORINE: Groups = &[(1, &["Cl | {M  APO  1   1   1}"])];
-
-// Two sites of a group of which one is filled.
-const ONE_OF_TWO: Held = Grouped(
-    "C(h1) R# R# | 1-2 1-3 {M  RGP  2   2   1   3   1}{M  LOG  1   1   0   0 1}",
-    CHLORINE,
-);
-
 // A site whose group asks for two that are filled.
-const NEVER: Held = Grouped(
+const NEVER: Content = Grouped(
     "C R# | 1-2 {M  RGP  1   2   1}{M  LOG  1   1   0   0 2}",
     CHLORINE,
 );
 
-// A member that has a site of its own, whose group may stay empty and is filled by hydrogens then.
-const NESTED: Held = Grouped(
-    "C R# | 1-2 {M  RGP  1   2   1}{M  LOG  1   2   0   1 0-1}",
-    &[
-        (1, &["O R# | 1-2 {M  RGP  1   2   2}{M  APO  1   1   1}"]),
-        (2, &["F | {M  APO  1   1   1}"]),
-    ],
-);
-
 // A carbon that bears three chlorines.
-const THREE: Held = Drawn("C Cl Cl Cl | 1-2 1-3 1-4");
+const THREE: Content = Drawn("C Cl Cl Cl | 1-2 1-3 1-4");
 
 // Methoxymethanol.
-const COCO: Held = Drawn("C O C O | 1-2 2-3 3-4");
+const COCO: Content = Drawn("C O C O | 1-2 2-3 3-4");
 
 // A script over the files q and m, and over those that are named here, and its answers.
 struct Row {
     name: &'static str,
-    query: Held,
-    molecule: Held,
+    query: Content,
+    molecule: Content,
     script: &'static str,
     wanted: &'static str,
     status: Status,
@@ -200,7 +185,7 @@ static ROWS: [Row; 19] = [
 ];
 
 // The files of a script.
-fn files_of(alloc: Global, query: Held, molecule: Held) -> Result<FileRows, Fail> {
+fn files_of(alloc: Global, query: Content, molecule: Content) -> Result<FileRows, Fail> {
     let mut rows = FileRows::new(alloc);
     rows.push(file(alloc, "q", query)?)?;
     rows.push(file(alloc, "m", molecule)?)?;
