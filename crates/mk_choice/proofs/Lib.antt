@@ -12,3 +12,5 @@ pub mod LostLemmas
 pub mod AheadLemmas
 pub mod OnLiterals
 pub mod ForCallers
+pub mod ReachLemmas
+pub mod TurnLemmas

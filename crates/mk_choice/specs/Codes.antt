@@ -1,26 +1,45 @@
 -- The codes that are left from a place on, as `Codes` gives them.
---     CodesLeft            what is seen of a `Codes`: its query and its place
+--     CodesLeft            what is seen of a `Codes`: its query, its place and what it owes
+--     IsMadeFrom query place left      as it is made from a place
+--     IsTurn old new turn  a code is taken out, or the place moves, or there is none
 --     IsTaken old new b    the least code that is left is taken, and the place is behind it; or
 --                          there is none
 --     AreLeft left codes   these are the codes that are left, in rising order
-use Rattle.std.specs.Prelude.{◌≡◌, ◌≤◌, ℕ, Bool, true, false, List, [], ◌∷◌, ◌++◌, Option, Some, None, length}
+use Rattle.std.specs.Prelude.{◌≡◌, ◌≤◌, ◌+◌, ◌==◌, if◌then◌else◌, ℕ, Bool, true, false, List, [], ◌∷◌, ◌++◌, Option, Some, None, length, take}
 use Rattle.std.specs.Borrow.{Bor}
 use Rattle.mk_text.specs.Rising.{IsBelow, IsLeast, IsLeastFrom, IsRisingListOfAll}
-use Rattle.mk_model.specs.Queries.{QueryView}
+use Rattle.mk_model.specs.declared.turn.Turn.{Turn}
+use Rattle.mk_model.specs.declared.turn.Turn.TheVariants.{Item, Moved, End}
+use Rattle.mk_model.specs.Nodes.{BeginsCode, Pays, SameFrom}
+use Rattle.mk_model.specs.Queries.{QueryView, slots_of}
 use Rattle.mk_model.specs.Logic.{IsValid}
 use Rattle.mk_choice.specs.Bounds.{AreBounds}
 
--- what is seen of a `Codes`: its query, and the place from which codes are left
+-- what is seen of a `Codes`: its query, the place from which codes are left, and what is owed there
 pub record CodesLeft : Type 0 where
   pub query : QueryView
   pub place : List ℕ
+  pub debt : ℕ
 
--- what a `Codes` keeps beside: bounds of its query, and room for a further place and for a code
-pub record IsReady (query : QueryView) (place code most : List ℕ) (len : ℕ) : Type 0 where
+-- what a `Codes` keeps beside: bounds of its query; a front, from which the same codes are left as
+-- from the place, and which is above it but where something is owed; room for a further place and
+-- for a code
+pub record IsReady (query : QueryView) (place code most : List ℕ) (len front debt : ℕ) : Type 0 where
   pub bounds : AreBounds query most
   pub within : len ≤ length place
-  pub room : 513 ≤ length place
+  pub front_within : front ≤ length place
+  pub same : SameFrom (IsValid query) (take len place) (take front place)
+  pub up : IsBelow (take front place) (take len place) → ⊥
+  pub owed : debt ≡ 0 → IsBelow (take len place) (take front place)
+  pub room : 514 ≤ length place
   pub size : length code ≡ 512
+
+-- the codes are those from the place on, and no more is owed than the place has numbers; where the
+-- root has no slots, it may be one more
+pub record IsMadeFrom (query : QueryView) (place : List ℕ) (left : CodesLeft) : Type 0 where
+  pub query_is : left.query ≡ query
+  pub place_is : left.place ≡ place
+  pub few : left.debt ≤ length place + (if length (slots_of query 0) == 0 then 1 else 0)
 
 -- a code is the least that is left, and the place is behind it
 pub record IsNext (old new : CodesLeft) (code : List ℕ) : Type 0 where
@@ -37,6 +56,24 @@ IsTaken old new false = IsLeastFrom old.place (IsValid old.query) None × (new �
 abbrev pub IsNextOf : CodesLeft → Option (Bor (List ℕ)) → CodesLeft → Type 0
 IsNextOf old None new = IsLeastFrom old.place (IsValid old.query) None × (new ≡ old)
 IsNextOf old (Some code) new = IsNext old new code.now
+
+-- ---- turns
+
+-- none is taken out: the same codes are left from the new place, which has at most 512 numbers
+pub record IsMoved (old new : CodesLeft) : Type 0 where
+  pub query : new.query ≡ old.query
+  pub same : SameFrom (IsValid old.query) old.place new.place
+  pub few : length new.place ≤ 512
+
+-- what a turn passes, and owes before and behind it
+abbrev pub IsPaid : CodesLeft → CodesLeft → Type 0
+IsPaid old new = Pays (BeginsCode old.query) old.place old.debt new.place new.debt
+
+-- the first code is taken out; or none, and the place is further on; or none is left
+abbrev pub IsTurn : CodesLeft → CodesLeft → Turn → Type 0
+IsTurn old new Item = ((code : List ℕ) × IsNext old new code) × IsPaid old new
+IsTurn old new Moved = IsMoved old new × IsPaid old new
+IsTurn old new End = IsLeastFrom old.place (IsValid old.query) None × (new ≡ old)
 
 -- ---- laws
 

@@ -6,3 +6,4 @@ pub mod Ahead
 pub mod Codes
 pub mod Lending
 pub mod Within
+pub mod Reaching

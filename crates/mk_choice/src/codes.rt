@@ -1,13 +1,16 @@
 // The valid codes of a query: the least from a front on, and all from a place on, one after
 // another.
-ghost use Rattle.std.specs.Prelude.{◌≡◌, ◌+◌, ◌<◌, ◌≤◌, ◌∷◌, ◌++◌, [], IfOk, length, take};
+ghost use Rattle.std.specs.Prelude.{◌≡◌, ◌+◌, ◌<◌, ◌≤◌, ◌⊎◌, ◌∷◌, ◌++◌, [], IfOk, IsTrue, false, length, take};
+ghost use Rattle.mk_model.specs.Queries.{slots_of};
 ghost use Rattle.std.specs.Borrow.{sem};
 ghost use Rattle.mk_text.specs.Rising.{IsLeastFrom};
 ghost use Rattle.mk_model.specs.Logic.{IsValid};
 
 use crate::bounds::bounds_of;
+use crate::numbers::slots_of;
+use crate::reaching::{Reached, put_node};
 use crate::search::put_least;
-use mk_model::{Code, Memory, Place, Query};
+use mk_model::{Code, Memory, Place, Query, Turn};
 use std::alloc::Global;
 use std::marker::Model;
 
@@ -24,7 +27,8 @@ pub fn least_code(alloc: Global, query: &Query, front: &[u32]) -> Result<Option<
     Ok(Some(Code::of(code)))
 }
 
-/// The valid codes of a query from a place on. It holds the place, and room for a code.
+/// The valid codes of a query from a place on. It holds the place, the front from which it goes on,
+/// and room for a code.
 #[derive(Debug, Drop)]
 pub struct Codes<'a> {
     place: Vec<u32>,
@@ -32,6 +36,8 @@ pub struct Codes<'a> {
     most: Vec<u32>,
     query: &'a Query,
     len: usize,
+    front: usize,
+    debt: u32,
 }
 
 impl<'a> Model for Codes<'a> {
@@ -40,33 +46,49 @@ impl<'a> Model for Codes<'a> {
 
     ghost Value = { CodesLeft };
 
-    ghost view = { λ c. record { query = c.query.now; place = take c.len c.place.items } };
+    ghost view = { λ c. record { query = c.query.now; place = take c.len c.place.items; debt = c.debt } };
 
-    ghost invariant = { λ c. IsReady c.query.now c.place.items c.code.items c.most.items c.len };
+    ghost invariant = { λ c. IsReady c.query.now c.place.items c.code.items c.most.items c.len c.front c.debt };
 }
 
 impl<'a> Codes<'a> {
-    ghost use Rattle.mk_choice.specs.Codes.{CodesLeft, IsNextOf, IsTaken};
+    ghost use Rattle.mk_choice.specs.Codes.{CodesLeft, IsMadeFrom, IsNextOf, IsTaken, IsTurn};
     ghost use Rattle.mk_choice.specs.Lending.{Ends};
+    ghost use Rattle.std.specs.Prelude.{List, ℕ};
 
     /// The valid codes that aren't below the place.
     pub fn from_place(alloc: Global, query: &'a Query, place: &[u32]) -> Result<Codes<'a>, Memory>
-        ensures left { IfOk result (λ codes. codes ≡ record { query = query.now; place = place.now }) }
+        ensures left { IfOk result (IsMadeFrom query.now place.now) }
     {
-        let mut kept = vec![in alloc; 0u32; place.len().max(513)]?;
+        let mut kept = vec![in alloc; 0u32; place.len().max(514)]?;
         put(&mut kept, place);
         let code = vec![in alloc; 0u32; 512]?;
         let most = bounds_of(alloc, query)?;
+        if begins_all(query, place) {
+            put_last(&mut kept, 0, 0);
+            return Ok(Codes {
+                place: kept,
+                code,
+                most,
+                query,
+                len: 0,
+                front: 1,
+                debt: 0,
+            });
+        }
         Ok(Codes {
             place: kept,
             code,
             most,
             query,
             len: place.len(),
+            front: place.len(),
+            debt: 1,
         })
     }
 
-    /// Gives the place: the last code followed by 0, or the one that the codes were made from.
+    /// Gives the place: the last code followed by 0, or the one that the codes were made from; after
+    /// a turn that took none out, the numbers that it came to.
     pub fn place(&self, alloc: Global) -> Result<Place, Memory>
         ensures { IfOk result (λ place. place ≡ self.now.place) }
     {
@@ -79,27 +101,75 @@ impl<'a> Codes<'a> {
     pub fn next(&mut self) -> Option<&[u32]>
         ensures* lends { sem 𝓛 (Ends self.entry (IsNextOf self.old result)) }
     {
-        if !self.advance() {
+        if !self.take() {
             return None;
         }
         Some(&self.place[..self.len - 1])
     }
 
+    /// Goes on by one turn: the next code is taken out, or the place is further on, or there is none.
+    pub fn advance(&mut self) -> Turn
+        ensures { IsTurn self.old self.new result }
+    {
+        let Some(node) = put_node(
+            self.query,
+            &self.most,
+            &mut self.code,
+            &self.place[..self.front],
+        ) else {
+            return Turn::End;
+        };
+        put(&mut self.place, &self.code[..node.len]);
+        match node.comes {
+            Reached::Code => {
+                put_zeros(&mut self.place, node.len);
+                self.len = node.len + 1;
+                self.front = node.len + 2;
+                self.debt = 0;
+                Turn::Item
+            }
+            Reached::Open => {
+                put_last(&mut self.place, node.len, 0);
+                self.len = node.len;
+                self.front = node.len + 1;
+                self.debt = 0;
+                Turn::Moved
+            }
+            Reached::Dead => {
+                put_last(&mut self.place, node.len, u32::MAX);
+                self.len = node.len;
+                self.front = node.len + 1;
+                self.debt = 0;
+                Turn::Moved
+            }
+        }
+    }
+
+    /// The code that the last turn took out.
+    pub fn item(&self) -> &[u32]
+        requires behind { (code : List ℕ) × (self.now.place ≡ code ++ 0 ∷ []) }
+        ensures { self.now.place ≡ result.now ++ 0 ∷ [] }
+    {
+        &self.place[..self.len - 1]
+    }
+
     // Goes to the place behind the next code, where there is one.
-    fn advance(&mut self) -> bool
+    fn take(&mut self) -> bool
         ensures { IsTaken self.old self.new result }
     {
         let Some(n) = put_least(
             self.query,
             &self.most,
             &mut self.code,
-            &self.place[..self.len],
+            &self.place[..self.front],
         ) else {
             return false;
         };
         put(&mut self.place, &self.code[..n]);
-        put_last(&mut self.place, n);
+        put_zeros(&mut self.place, n);
         self.len = n + 1;
+        self.front = n + 2;
+        self.debt = 0;
         true
     }
 }
@@ -115,11 +185,35 @@ fn put(place: &mut Vec<u32>, numbers: &[u32])
     }
 }
 
-// Puts a 0 behind the first n.
-fn put_last(place: &mut Vec<u32>, n: usize)
+// Puts a number behind the first n.
+fn put_last(place: &mut Vec<u32>, n: usize, number: u32)
     requires { n < length place.old.items }
     ensures size { length place.new.items ≡ length place.old.items }
-    ensures put { take (n + 1) place.new.items ≡ take n place.old.items ++ 0 ∷ [] }
+    ensures put { take (n + 1) place.new.items ≡ take n place.old.items ++ number ∷ [] }
+    ensures same { take n place.new.items ≡ take n place.old.items }
+{
+    place[n] = number;
+}
+
+// Puts two zeros behind the first n.
+fn put_zeros(place: &mut Vec<u32>, n: usize)
+    requires { n + 1 < length place.old.items }
+    ensures size { length place.new.items ≡ length place.old.items }
+    ensures one { take (n + 1) place.new.items ≡ take n place.old.items ++ 0 ∷ [] }
+    ensures two { take (n + 2) place.new.items ≡ take n place.old.items ++ 0 ∷ 0 ∷ [] }
 {
     place[n] = 0;
+    place[n + 1] = 0;
+}
+
+// Tells that the place is the empty one, and that it is no code: then nothing is owed, since what
+// comes first is above it.
+fn begins_all(query: &Query, place: &[u32]) -> bool
+    ensures yes { IsTrue result → place.now ≡ [] × (0 < length (slots_of query.now 0)) }
+    ensures no { result ≡ false → (0 < length place.now) ⊎ (length (slots_of query.now 0) ≡ 0) }
+{
+    if !place.is_empty() {
+        return false;
+    }
+    !slots_of(query, 0).is_empty()
 }

@@ -20,6 +20,7 @@ mod numbers;
 mod outlook;
 mod pending;
 mod pruning;
+mod reaching;
 mod search;
 #[cfg(test)]
 mod tests;

@@ -13,3 +13,5 @@ pub mod EarlierBondsLemmas
 pub mod PlainLemmas
 pub mod MapsLemmas
 pub mod ForCallers
+pub mod TurnLemmas
+pub mod SearchTurnLemmas

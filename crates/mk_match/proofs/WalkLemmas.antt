@@ -2,17 +2,17 @@
 --     walk_skips, walk_puts, walk_goes_in, walk_goes_back, walk_ends      a step
 --     walk_found, walk_behind                                             a hit that is reached
 --     seek_last, seek_passed, seek_whole                                  where a front is sought
-use Rattle.std.proofs.Common.{◌≡◌, ◌≢◌, ℕ, ◌+◌, ◌<◌, ◌≤◌, ◌-◌, inl, inr, true, false, cond, eqb, eq-eqb, min, List, [], ◌∷◌, ◌++◌, length, get_or, take, drop, set, Option, Some, None, sym, ap, subst, ◌∙◌, arith, All, Contains, append_assoc, length-append}
+use Rattle.std.proofs.Common.{◌≡◌, ◌≢◌, ℕ, ◌+◌, ◌<◌, ◌≤◌, ◌-◌, inl, inr, List, [], ◌∷◌, ◌++◌, length, get_or, take, drop, set, Option, Some, None, sym, ap, subst, ◌∙◌, arith, All, Contains, append_assoc, length-append}
 use Rattle.std.specs.Prelude.{IfSome}
 use Rattle.std.specs.Option.{ForSome}
-use Rattle.std.proofs.lemmas.Bool.{cases_lt, cases_eq, ne_eqb}
-use Rattle.std.proofs.lemmas.List.{get_or-set_other, get_or-set_same, get_or-take, get_or_default, drop_more, length-set, length-take-le, take-append-drop, take-set, take_all, take_more, take_more_set}
+use Rattle.std.proofs.lemmas.Bool.{cases_lt, cases_eq}
+use Rattle.std.proofs.lemmas.List.{get_or-set_other, get_or-set_same, get_or-take, get_or_default, drop_all, drop_more, length-drop, length-set, length-take-le, take-append-drop, take-set, take_all, take_more, take_more_set}
 use Rattle.mk_text.specs.Rising.{IsBelow, IsLeastFrom}
 use Rattle.mk_model.specs.declared.graph.GraphBond.{GraphBond}
 use Rattle.mk_model.specs.Molecules.{IsMolecule, Molecule}
 use Rattle.mk_model.specs.Graphs.{GraphView, IsGraph}
 use Rattle.mk_model.specs.Hits.{image, IsHit}
-use Rattle.mk_model.proofs.ForCallers.{drawn_first, drawn_second}
+use Rattle.mk_model.proofs.ForCallers.{below_next, drawn_first, drawn_second, not_below_at, not_below_front}
 use Rattle.mk_match.specs.Begun.{IsBegun, MayStand}
 use Rattle.mk_match.specs.Candidates.{AreBonded, IsCandidate}
 use Rattle.mk_match.specs.EarlierBonds.{IsAnchor}
@@ -20,7 +20,8 @@ use Rattle.mk_match.specs.Walk.{IsWalk, SameFrom, place_of}
 use Rattle.mk_match.specs.Outlook.{IsNoHitBehind}
 use Rattle.mk_match.proofs.BegunLemmas.{begun_less, begun_more, begun_whole, hit_begins}
 use Rattle.mk_match.proofs.ListsFromLemmas.{take_last}
-use Rattle.mk_match.proofs.PassedLemmas.{none_left, same_back, same_in, same_past, same_skip, same_through, same_turned}
+use Rattle.mk_text.proofs.ForCallers.{below_through, not_below_itself}
+use Rattle.mk_match.proofs.PassedLemmas.{none_left, same_back, same_in, same_past, same_skip, same_through}
 
 -- ---- the anchor
 
@@ -126,7 +127,7 @@ module _ (graph : GraphView) (mol : Molecule) (drawing : IsGraph graph) (molecul
 
   -- ---- where the walk stands
 
-  module _ (images levels : List ℕ) (depth above : ℕ) (walk : IsWalk graph mol images levels depth above) where
+  module _ (images levels : List ℕ) (depth above : ℕ) (walk : IsWalk graph mol images levels depth) where
     room : depth < length images
     room = omega (arith, walk.room, walk.short)
 
@@ -146,14 +147,13 @@ module _ (graph : GraphView) (mol : Molecule) (drawing : IsGraph graph) (molecul
           ap (λ (n : ℕ). get_or (set levels (a - 1) depth) (n - 1) 0) same ∙ get_or-set_other levels (a - 1) (get_or images j 0 - 1) depth 0 apart ∙ walk.stand j below
 
       -- one more is put, and passed
-      pub walk_tried : IsWalk graph mol (set images depth a) (set levels (a - 1) depth) depth a
+      pub walk_tried : IsWalk graph mol (set images depth a) (set levels (a - 1) depth) depth
       walk_tried = record {
         drawing = drawing;
         molecule = molecule;
         room = length-set images depth a ∙ walk.room;
         sized = length-set levels (a - 1) depth ∙ walk.sized;
         short = walk.short;
-        high = most;
         begun = rw (take-set images depth a) walk.begun;
         stand = stays;
       }
@@ -165,14 +165,13 @@ module _ (graph : GraphView) (mol : Molecule) (drawing : IsGraph graph) (molecul
       begun_with = rw one_more (begun_more graph mol (take depth images) a drawing.sketch.lower_first (drawn_first graph drawing) walk.begun stands (omega (arith, long, walk.short)) least most)
 
       -- one more is put
-      pub walk_put : (depth + 1 ≡ length graph.atoms → ⊥) → IsWalk graph mol (set images depth a) (set levels (a - 1) depth) (depth + 1) 0
+      pub walk_put : (depth + 1 ≡ length graph.atoms → ⊥) → IsWalk graph mol (set images depth a) (set levels (a - 1) depth) (depth + 1)
       walk_put more = record {
         drawing = drawing;
         molecule = molecule;
         room = length-set images depth a ∙ walk.room;
         sized = length-set levels (a - 1) depth ∙ walk.sized;
         short = omega (arith, walk.short);
-        high = omega arith;
         begun = begun_with;
         stand = λ j below.
             elim (cases_eq j depth) [
@@ -232,14 +231,13 @@ module _ (graph : GraphView) (mol : Molecule) (drawing : IsGraph graph) (molecul
           omega (arith, range.1, here)
 
       -- the last one is taken back
-      pub walk_back : IsWalk graph mol images levels (depth - 1) last
+      pub walk_back : IsWalk graph mol images levels (depth - 1)
       walk_back = record {
         drawing = drawing;
         molecule = molecule;
         room = walk.room;
         sized = walk.sized;
         short = omega (arith, walk.short);
-        high = last_most;
         begun = begun_less graph mol (take (depth - 1) images) (last ∷ []) drawing.sketch.lower_first (drawn_first graph drawing) (subst (IsBegun graph mol) back_front walk.begun);
         stand = λ j below. walk.stand j (omega arith);
       }
@@ -263,46 +261,28 @@ module _ (graph : GraphView) (mol : Molecule) (drawing : IsGraph graph) (molecul
 
 -- the first numbers of the front stand as the first images
 pub record IsSeeking (graph : GraphView) (mol : Molecule) (front : List ℕ) (i : ℕ) (images levels : List ℕ) (depth above : ℕ) : Type 0 where
-  pub walk : IsWalk graph mol images levels depth above
+  pub walk : IsWalk graph mol images levels depth
   pub at : depth ≡ i
   pub first : above ≡ 0
   pub begins : take depth images ≡ take i front
 
 module _ (graph : GraphView) (mol : Molecule) (drawing : IsGraph graph) (molecule : IsMolecule mol) where
-  -- a number at the end of a place, and the one that is passed before it: numbers that no atom has don't matter
-  clamped : (p : List ℕ) (number above : ℕ) → above ≡ min (number - 1) (length mol.atoms) → SameFrom (IsHit graph mol) (p ++ number ∷ []) (p ++ (above + 1) ∷ [])
-  clamped p number above is =
-      elim (cases_lt number (above + 1)) [
-        | inl less ↦
-            same_skip (IsHit graph mol) p number (above + 1) (omega arith)
-            (λ b more up under hit. (let range = begins graph mol drawing molecule p more b hit in omega (arith, range.1)))
-        | inr up_to ↦
-            same_turned (IsHit graph mol) (p ++ (above + 1) ∷ []) (p ++ number ∷ [])
-            (same_skip (IsHit graph mol) p (above + 1) number up_to
-            (λ b more up under hit. (let range = begins graph mol drawing molecule p more b hit in omega (arith, range.2))))
-      ]
+  -- a number at the end of a place, and the one that is passed before it: no atom has the number 0
+  last_tried : (p : List ℕ) (number above : ℕ) → above ≡ number - 1 → SameFrom (IsHit graph mol) (p ++ number ∷ []) (p ++ (above + 1) ∷ [])
+  last_tried p number above is =
+      same_skip (IsHit graph mol) p number (above + 1) (omega (arith, is))
+      (λ b more up under hit. (let range = begins graph mol drawing molecule p more b hit in omega (arith, is, range.1)))
 
   -- what begins with a number of a front is passed, where nothing of it is left
-  tail_passed : (p : List ℕ) (number : ℕ) (tail : List ℕ) (above : ℕ) → above ≡ min number (length mol.atoms) → ((rest : List ℕ) → IsHit graph mol (p ++ number ∷ rest) → (IsBelow rest tail → ⊥) → ⊥)
-      → SameFrom (IsHit graph mol) (p ++ number ∷ tail) (p ++ (above + 1) ∷ [])
-  tail_passed p number tail above is none =
-      let next : number + 1 - 1 ≡ number = omega arith in
-      same_through (IsHit graph mol) (p ++ number ∷ tail) (p ++ (number + 1) ∷ []) (p ++ (above + 1) ∷ [])
-      (same_past (IsHit graph mol) p number tail none) (clamped p (number + 1) above (rw next is))
+  tail_passed : (p : List ℕ) (number : ℕ) (tail : List ℕ) → ((rest : List ℕ) → IsHit graph mol (p ++ number ∷ rest) → (IsBelow rest tail → ⊥) → ⊥)
+      → SameFrom (IsHit graph mol) (p ++ number ∷ tail) (p ++ (number + 1) ∷ [])
+  tail_passed p number tail none = same_past (IsHit graph mol) p number tail none
 
-  -- the last place that a front goes through
-  pub last_passed : (p : List ℕ) (number : ℕ) (tail : List ℕ) (above : ℕ) → length p + 1 ≡ length graph.atoms
-      → above ≡ min (cond (eqb (length p + 1) (length (p ++ number ∷ tail))) (number - 1) number) (length mol.atoms) → SameFrom (IsHit graph mol) (p ++ number ∷ tail) (p ++ (above + 1) ∷ [])
-  last_passed p number [] above whole is =
-      let ends : eqb (length p + 1) (length (p ++ number ∷ [])) ≡ true = eq-eqb (length p + 1) (length (p ++ number ∷ [])) (omega (arith, length-append p (number ∷ []))) in
-      clamped p number above (rw ends at is)
-  last_passed p number (t ∷ tail) above whole is =
-      let goes : eqb (length p + 1) (length (p ++ number ∷ t ∷ tail)) ≡ false = ne_eqb (length p + 1) (length (p ++ number ∷ t ∷ tail)) (λ same. omega (arith, length-append p (number ∷ t ∷ tail))) in
-      tail_passed p number (t ∷ tail) above (rw goes at is) none
-    where
-      none : (rest : List ℕ) → IsHit graph mol (p ++ number ∷ rest) → (IsBelow rest (t ∷ tail) → ⊥) → ⊥
-      none [] hit not = not tt
-      none (b ∷ more) hit not = omega (arith, hit.one_each, length-append p (number ∷ b ∷ more))
+  -- no hit goes on behind the last atom
+  none_behind : (p : List ℕ) (number : ℕ) (tail : List ℕ) → length p + 1 ≡ length graph.atoms → 0 < length tail → (rest : List ℕ) → IsHit graph mol (p ++ number ∷ rest) → (IsBelow rest tail → ⊥) → ⊥
+  none_behind p number [] whole some rest hit not = omega (arith, some)
+  none_behind p number (t ∷ tail) whole some [] hit not = not tt
+  none_behind p number (t ∷ tail) whole some (b ∷ more) hit not = omega (arith, hit.one_each, length-append p (number ∷ b ∷ more))
 
   module _ (front : List ℕ) (i : ℕ) (images levels : List ℕ) (depth above : ℕ) (seeking : IsSeeking graph mol front i images levels depth above) where
     -- the front goes on with its next number
@@ -312,31 +292,49 @@ module _ (graph : GraphView) (mol : Molecule) (drawing : IsGraph graph) (molecul
     first_long : length (take depth images) ≡ i
     first_long = length-take-le depth images (omega (arith, seeking.walk.room, seeking.walk.short)) ∙ seeking.at
 
+    -- the front ends with its next number
+    pub seek_ends : i < length front → i + 1 ≡ length front → (above' : ℕ) → above' ≡ get_or front i 0 - 1 → SameFrom (IsHit graph mol) front (place_of images depth above')
+    seek_ends below last above' is =
+        let nothing : drop (i + 1) front ≡ [] = drop_all (i + 1) front (omega (arith, last)) in
+        let whole : front ≡ take depth images ++ get_or front i 0 ∷ [] = front_is below ∙ ap (λ (xs : List ℕ). take depth images ++ get_or front i 0 ∷ xs) nothing in
+        subst (λ (xs : List ℕ). SameFrom (IsHit graph mol) xs (place_of images depth above')) (sym whole) (last_tried (take depth images) (get_or front i 0) above' is)
+
+    pub seek_ends_up : i < length front → i + 1 ≡ length front → (above' : ℕ) → above' ≡ get_or front i 0 - 1 → IsBelow (place_of images depth above') front → ⊥
+    seek_ends_up below last above' is =
+        let nothing : drop (i + 1) front ≡ [] = drop_all (i + 1) front (omega (arith, last)) in
+        let whole : front ≡ take depth images ++ get_or front i 0 ∷ [] = front_is below ∙ ap (λ (xs : List ℕ). take depth images ++ get_or front i 0 ∷ xs) nothing in
+        subst (λ (xs : List ℕ). IsBelow (place_of images depth above') xs → ⊥) (sym whole) (not_below_at (take depth images) (above' + 1) (get_or front i 0) (omega (arith, is)))
+
     -- the front goes through the last place
-    pub seek_last : i < length front → i + 1 ≡ length graph.atoms → (above' : ℕ) → above' ≡ min (cond (eqb (i + 1) (length front)) (get_or front i 0 - 1) (get_or front i 0)) (length mol.atoms) → SameFrom (IsHit graph mol) front (place_of images depth above')
-    seek_last below whole above' is =
-        let f = front_is below in
-        let long = first_long in
-        let whole' : length (take depth images) + 1 ≡ length graph.atoms = omega (arith, long) in
-        let P : List ℕ → Type 0 = λ xs. SameFrom (IsHit graph mol) xs (place_of images depth above') in
-        let Q : ℕ → List ℕ → Type 0 = λ k xs. above' ≡ min (cond (eqb (k + 1) (length xs)) (get_or front i 0 - 1) (get_or front i 0)) (length mol.atoms) in
-        let is' : Q (length (take depth images)) (take depth images ++ get_or front i 0 ∷ drop (i + 1) front) = subst (λ (xs : List ℕ). Q (length (take depth images)) xs) f (subst (λ (k : ℕ). Q k front) (sym long) is) in
-        subst P (sym f) (last_passed (take depth images) (get_or front i 0) (drop (i + 1) front) above' whole' is')
+    pub seek_last : i < length front → (i + 1 ≡ length front → ⊥) → i + 1 ≡ length graph.atoms → (number : ℕ) → number ≡ get_or front i 0 → SameFrom (IsHit graph mol) front (place_of images depth number)
+    seek_last below more last number is =
+        let whole' : length (take depth images) + 1 ≡ length graph.atoms = omega (arith, first_long, last) in
+        let some : 0 < length (drop (i + 1) front) = omega (arith, length-drop (i + 1) front, below, more) in
+        subst (λ (xs : List ℕ). SameFrom (IsHit graph mol) xs (place_of images depth number)) (sym (front_is below))
+        (subst (λ (n : ℕ). SameFrom (IsHit graph mol) (take depth images ++ get_or front i 0 ∷ drop (i + 1) front) (take depth images ++ (n + 1) ∷ [])) (sym is)
+        (tail_passed (take depth images) (get_or front i 0) (drop (i + 1) front) (none_behind (take depth images) (get_or front i 0) (drop (i + 1) front) whole' some)))
 
     -- the front goes on with a number that can't stand
-    pub seek_past : i < length front → (above' : ℕ) → above' ≡ min (get_or front i 0) (length mol.atoms) → ((1 ≤ get_or front i 0) × (get_or front i 0 ≤ length mol.atoms) × MayStand graph mol (take depth images) (get_or front i 0) → ⊥)
-        → SameFrom (IsHit graph mol) front (place_of images depth above')
-    seek_past below above' is not =
-        subst (λ (xs : List ℕ). SameFrom (IsHit graph mol) xs (place_of images depth above')) (sym (front_is below))
-        (tail_passed (take depth images) (get_or front i 0) (drop (i + 1) front) above' is
-        (λ rest hit from. (let range = begins graph mol drawing molecule (take depth images) rest (get_or front i 0) hit in not (range.1, range.2, range.0))))
+    pub seek_past : i < length front → (number : ℕ) → number ≡ get_or front i 0 → ((1 ≤ number) × (number ≤ length mol.atoms) × MayStand graph mol (take depth images) number → ⊥)
+        → SameFrom (IsHit graph mol) front (place_of images depth number)
+    seek_past below number is not =
+        let whole : front ≡ take depth images ++ number ∷ drop (i + 1) front = front_is below ∙ ap (λ (n : ℕ). take depth images ++ n ∷ drop (i + 1) front) (sym is) in
+        subst (λ (xs : List ℕ). SameFrom (IsHit graph mol) xs (place_of images depth number)) (sym whole)
+        (tail_passed (take depth images) number (drop (i + 1) front)
+        (λ rest hit from. (let range = begins graph mol drawing molecule (take depth images) rest number hit in not (range.1, range.2, range.0))))
+
+    -- where a number of the front is passed, the place is above the front
+    pub seek_past_up : i < length front → (number : ℕ) → number ≡ get_or front i 0 → IsBelow (place_of images depth number) front → ⊥
+    seek_past_up below number is =
+        let whole : front ≡ take depth images ++ number ∷ drop (i + 1) front = front_is below ∙ ap (λ (n : ℕ). take depth images ++ n ∷ drop (i + 1) front) (sym is) in
+        subst (λ (xs : List ℕ). IsBelow (place_of images depth number) xs → ⊥) (sym whole)
+        (λ under. not_below_itself (place_of images depth number) (below_through (place_of images depth number) (take depth images ++ number ∷ drop (i + 1) front) (place_of images depth number) under (below_next (take depth images) number (number + 1) (drop (i + 1) front) [] (omega arith))))
 
     -- the front goes on with a number that stands
     pub seek_more : i < length front → (number : ℕ) → number ≡ get_or front i 0 → 1 ≤ number → number ≤ length mol.atoms → MayStand graph mol (take depth images) number → (i + 1 ≡ length graph.atoms → ⊥)
         → IsSeeking graph mol front (i + 1) (set images depth number) (set levels (number - 1) depth) (depth + 1) above
     seek_more below number is least most stands more = record {
-      walk = subst (λ (n : ℕ). IsWalk graph mol (set images depth number) (set levels (number - 1) depth) (depth + 1) n) (sym seeking.first)
-          (walk_put graph mol drawing molecule images levels depth above seeking.walk number least most stands (λ whole. more (omega (arith, seeking.at))));
+      walk = walk_put graph mol drawing molecule images levels depth above seeking.walk number least most stands (λ whole. more (omega (arith, seeking.at)));
       at = omega (arith, seeking.at);
       first = seeking.first;
       begins = take_more_set images depth number (omega (arith, seeking.walk.room, seeking.walk.short)) ∙ ap (λ (xs : List ℕ). xs ++ number ∷ []) seeking.begins
@@ -350,8 +348,13 @@ module _ (graph : GraphView) (mol : Molecule) (drawing : IsGraph graph) (molecul
         let short : length front < length graph.atoms = omega (arith, ap length same, first_long, seeking.at, seeking.walk.short) in
         rw (seeking.first, same) (walk_goes_in graph mol drawing molecule front short)
 
+    pub seek_whole_up : length front ≤ i → IsBelow (place_of images depth above) front → ⊥
+    seek_whole_up all =
+        let same : take depth images ≡ front = seeking.begins ∙ take_all i front all in
+        rw same (not_below_front front ((above + 1) ∷ []))
+
 -- nothing of a front stands yet
-pub seek_starts : (graph : GraphView) (mol : Molecule) (front images levels : List ℕ) (depth above : ℕ) → IsWalk graph mol images levels depth above → depth ≡ 0 → above ≡ 0 → IsSeeking graph mol front 0 images levels depth above
+pub seek_starts : (graph : GraphView) (mol : Molecule) (front images levels : List ℕ) (depth above : ℕ) → IsWalk graph mol images levels depth → depth ≡ 0 → above ≡ 0 → IsSeeking graph mol front 0 images levels depth above
 seek_starts graph mol front images levels depth above walk none first = record { walk = walk; at = none; first = first; begins = ap (λ (n : ℕ). take n images) none }
 
 -- ---- a graph without atoms

@@ -10,3 +10,5 @@ pub mod Search
 pub mod Maps
 pub mod Lending
 pub mod Plain
+pub mod Turns
+pub mod SearchTurns

@@ -4,8 +4,10 @@
 --                                        molecule
 --     IsLeft graph mol place search      the hits that it still has to give are those from the
 --                                        place on
-use Rattle.std.specs.Prelude.{◌≡◌, ℕ, Bool, List, [], None, length}
-use Rattle.mk_text.specs.Rising.{IsLeastFrom}
+--     IsOwed place debt search           the place is below the nodes that it still has to come to,
+--                                        or the first may be the place itself, and is owed for
+use Rattle.std.specs.Prelude.{◌≡◌, ◌<◌, ◌⊎◌, ℕ, Bool, List, [], None, length}
+use Rattle.mk_text.specs.Rising.{IsBelow, IsLeastFrom}
 use Rattle.mk_model.specs.Molecules.{Molecule}
 use Rattle.mk_model.specs.Graphs.{GraphView, IsGraph}
 use Rattle.mk_model.specs.Hits.{IsHit}
@@ -18,7 +20,7 @@ use Rattle.mk_match.specs.Walk.{IsWalk, SameFrom, place_of}
 -- the table and the walk are those of the graph and the molecule; a hit is given once only for a
 -- graph without atoms
 abbrev pub IsStage : GraphView → Molecule → Stage → List Bool → List ℕ → List ℕ → ℕ → ℕ → Type 0
-IsStage graph mol Walking fits images levels depth above = IsTable graph mol fits × IsWalk graph mol images levels depth above
+IsStage graph mol Walking fits images levels depth above = IsTable graph mol fits × IsWalk graph mol images levels depth
 IsStage graph mol Once fits images levels depth above = IsGraph graph × (length graph.atoms ≡ 0) × (images ≡ [])
 IsStage graph mol Ended fits images levels depth above = Unit {0}
 
@@ -36,3 +38,19 @@ IsLeftAt graph mol place Ended images depth above = IsLeastFrom place (IsHit gra
 -- the hits that the search still has to give are those from the place on
 abbrev pub IsLeft : GraphView → Molecule → List ℕ → Search → Type 0
 IsLeft graph mol place search = IsLeftAt graph mol place search.stage search.walk.images.items search.walk.depth search.walk.above
+
+-- No list from where the walk stands on is below the place; where nothing is owed, each is above
+-- it. The one list of a graph without atoms is owed for.
+abbrev pub IsOwedAt : List ℕ → ℕ → Stage → List ℕ → ℕ → ℕ → Type 0
+IsOwedAt place debt Walking images depth above = (IsBelow (place_of images depth above) place → ⊥) × (debt ≡ 0 → IsBelow place (place_of images depth above))
+IsOwedAt place debt Once images depth above = debt ≡ 1
+IsOwedAt place debt Ended images depth above = Unit {0}
+
+-- where so much is owed, the place isn't above the nodes that the search comes to; where nothing
+-- is, it is below them
+abbrev pub IsOwed : List ℕ → ℕ → Search → Type 0
+IsOwed place debt search = IsOwedAt place debt search.stage search.walk.images.items search.walk.depth search.walk.above
+
+-- what is owed at a place: 1, but nothing at the empty place of a graph that has an atom
+abbrev pub IsDebt : GraphView → List ℕ → ℕ → Type 0
+IsDebt graph place debt = (debt ≡ 1 × (0 < length place ⊎ length graph.atoms ≡ 0)) ⊎ (debt ≡ 0 × place ≡ [] × 0 < length graph.atoms)

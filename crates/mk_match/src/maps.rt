@@ -3,9 +3,10 @@ ghost use Rattle.std.specs.Prelude.{◌≡◌, ◌≤◌, ◌<◌, ◌+◌, ◌+
 ghost use Rattle.std.specs.Borrow.{sem};
 ghost use Rattle.mk_model.specs.Hits.{IsHit};
 ghost use Rattle.mk_text.specs.Rising.{IsLeastFrom};
+ghost use Rattle.mk_match.specs.Search.{IsDebt};
 
 use crate::search::Search;
-use mk_model::{Graph, Map, Memory, Mol, Place, Steps};
+use mk_model::{Graph, Map, Memory, Mol, Place, Steps, Turn};
 use std::alloc::Global;
 use std::marker::Model;
 use std::sync::ledger::Ledger;
@@ -39,6 +40,7 @@ pub struct Maps<'a> {
     place: Vec<u32>,
     mol: &'a Mol,
     len: usize,
+    debt: u32,
 }
 
 impl<'a> Model for Maps<'a> {
@@ -47,14 +49,15 @@ impl<'a> Model for Maps<'a> {
 
     ghost Value = { MapsLeft };
 
-    ghost view = { λ m. record { graph = m.graph; mol = m.mol.now; place = take m.len m.place.items } };
+    ghost view = { λ m. record { graph = m.graph; mol = m.mol.now; place = take m.len m.place.items; debt = m.debt } };
 
-    ghost invariant = { λ m. IsReady m.graph m.mol.now m.search m.place.items m.len };
+    ghost invariant = { λ m. IsReady m.graph m.mol.now m.search m.place.items m.len m.debt };
 }
 
 impl<'a> Maps<'a> {
-    ghost use Rattle.mk_match.specs.Maps.{IsNextOf, IsTaken, MapsLeft};
+    ghost use Rattle.mk_match.specs.Maps.{IsMadeFrom, IsNextOf, IsTaken, IsTurn, MapsLeft};
     ghost use Rattle.mk_match.specs.Lending.{Ends};
+    ghost use Rattle.std.specs.Prelude.{List, ℕ};
 
     /// The hits that aren't below the place. It takes the graph over, and ticks one begin.
     pub fn from_place<L: Ledger>(
@@ -64,7 +67,7 @@ impl<'a> Maps<'a> {
         place: &[u32],
         steps: &mut Steps<L>,
     ) -> Result<Maps<'a>, Memory>
-        ensures left { IfOk result (λ maps. maps ≡ record { graph = graph; mol = mol.now; place = place.now }) }
+        ensures left { IfOk result (IsMadeFrom graph mol.now place.now) }
         ensures begin { steps.new ≡ steps.old + 1 }
     {
         steps.tick();
@@ -72,16 +75,19 @@ impl<'a> Maps<'a> {
         let room = place.len().max(graph.atom_count() as usize + 1);
         let mut kept = vec![in alloc; 0u32; room]?;
         put(&mut kept, place);
+        let debt = debt_at(&graph, place);
         Ok(Maps {
             search,
             graph,
             place: kept,
             mol,
             len: place.len(),
+            debt,
         })
     }
 
-    /// Gives the place: the last hit followed by 0, or the one that the hits were made from.
+    /// Gives the place: the last hit followed by 0, or the one that the hits were made from; after a
+    /// turn that took none out, the last node.
     pub fn place(&self, alloc: Global) -> Result<Place, Memory>
         ensures { IfOk result (λ place. place ≡ self.now.place) }
     {
@@ -94,10 +100,40 @@ impl<'a> Maps<'a> {
     pub fn next(&mut self) -> Option<&[u32]>
         ensures* lends { sem 𝓛 (Ends self.entry (IsNextOf self.old result)) }
     {
-        if !self.advance() {
+        if !self.take() {
             return None;
         }
         Some(&self.place[..self.len - 1])
+    }
+
+    /// Goes on by one turn: the next hit is taken out, or the place is further on, or there is none.
+    pub fn advance(&mut self) -> Turn
+        ensures { IsTurn self.old self.new result }
+    {
+        match self.search.turn(&self.graph, self.mol) {
+            Turn::Item => {
+                let n = self.search.walk.images.len();
+                put(&mut self.place, &self.search.walk.images);
+                put_last(&mut self.place, n);
+                self.len = n + 1;
+                self.debt = 0;
+                Turn::Item
+            }
+            Turn::Moved => {
+                self.len = self.search.walk.put_node(&mut self.place);
+                self.debt = 0;
+                Turn::Moved
+            }
+            Turn::End => Turn::End,
+        }
+    }
+
+    /// The hit that the last turn took out.
+    pub fn item(&self) -> &[u32]
+        requires behind { (hit : List ℕ) × (self.now.place ≡ hit ++ 0 ∷ []) }
+        ensures { self.now.place ≡ result.now ++ 0 ∷ [] }
+    {
+        &self.place[..self.len - 1]
     }
 
     /// Gives the graph back.
@@ -110,12 +146,13 @@ impl<'a> Maps<'a> {
             place: _,
             mol: _,
             len: _,
+            debt: _,
         } = self;
         graph
     }
 
     // Goes to the place behind the next hit, where there is one.
-    fn advance(&mut self) -> bool
+    fn take(&mut self) -> bool
         ensures { IsTaken self.old self.new result }
     {
         if !self.search.go_on(&self.graph, self.mol) {
@@ -125,6 +162,7 @@ impl<'a> Maps<'a> {
         put(&mut self.place, &self.search.walk.images);
         put_last(&mut self.place, n);
         self.len = n + 1;
+        self.debt = 0;
         true
     }
 }
@@ -147,4 +185,17 @@ fn put_last(place: &mut Vec<u32>, n: usize)
     ensures put { take (n + 1) place.new.items ≡ take n place.old.items ++ 0 ∷ [] }
 {
     place[n] = 0;
+}
+
+// What is owed at a place: it may be a node itself, and so is the empty one where it is the one hit.
+fn debt_at(graph: &Graph, place: &[u32]) -> u32
+    ensures { IsDebt graph.now place.now result }
+{
+    if graph.atom_count() == 0 {
+        return 1;
+    }
+    if place.is_empty() {
+        return 0;
+    }
+    1
 }

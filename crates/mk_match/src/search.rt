@@ -7,7 +7,7 @@ use crate::counts::has_too_few;
 use crate::outlook::Outlook;
 use crate::table::table_of;
 use crate::walk::Walk;
-use mk_model::{Graph, Memory, Mol};
+use mk_model::{Graph, Memory, Mol, Turn};
 use std::alloc::Global;
 
 /// What a search still has to do: a walk, or to give the one hit of a graph without atoms, or
@@ -30,12 +30,14 @@ pub struct Search {
 
 impl Search {
     ghost use Rattle.std.specs.Prelude.{◌∷◌, ◌++◌, [], None, List, ℕ, false};
-    ghost use Rattle.mk_match.specs.Search.{IsLeft, IsSearch};
+    ghost use Rattle.mk_match.specs.Search.{IsLeft, IsOwed, IsSearch};
+    ghost use Rattle.mk_match.specs.SearchTurns.{Turns};
 
     /// A search for the hits that aren't below the front.
     pub fn of(alloc: Global, graph: &Graph, mol: &Mol, front: &[u32]) -> Result<Search, Memory>
         ensures kept { IfOk result (IsSearch graph.now mol.now) }
         ensures left { IfOk result (IsLeft graph.now mol.now front.now) }
+        ensures owed { IfOk result (IsOwed front.now 1) }
     {
         if graph.atom_count() == 0 {
             if front.is_empty() {
@@ -77,8 +79,10 @@ impl Search {
         ensures kept { IsSearch graph.now mol.now self.new }
         ensures least { IsTrue result → (place : List ℕ) → IsLeft graph.now mol.now place self.old → IsLeast place (IsHit graph.now mol.now) self.new.walk.images.items }
         ensures left { IsTrue result → IsLeft graph.now mol.now (self.new.walk.images.items ++ 0 ∷ []) self.new }
+        ensures owed { IsTrue result → IsOwed (self.new.walk.images.items ++ 0 ∷ []) 0 self.new }
         ensures none { result ≡ false → (place : List ℕ) → IsLeft graph.now mol.now place self.old → IsLeastFrom place (IsHit graph.now mol.now) None }
         ensures ended { result ≡ false → (place : List ℕ) → IsLeft graph.now mol.now place self.old → IsLeft graph.now mol.now place self.new }
+        ensures unowed { result ≡ false → (place : List ℕ) (debt : ℕ) → IsOwed place debt self.new }
     {
         match self.stage {
             Stage::Walking => {
@@ -93,6 +97,31 @@ impl Search {
                 true
             }
             Stage::Ended => false,
+        }
+    }
+
+    /// Goes on to the next node. What is said holds for every place from which the hits are left, and
+    /// for what is owed there.
+    pub fn turn(&mut self, graph: &Graph, mol: &Mol) -> Turn
+        requires { IsSearch graph.now mol.now self.old }
+        ensures kept { IsSearch graph.now mol.now self.new }
+        ensures turns { (place : List ℕ) (debt : ℕ) → IsLeft graph.now mol.now place self.old → IsOwed place debt self.old
+            → Turns graph.now mol.now place debt self.new result }
+    {
+        match self.stage {
+            Stage::Walking => match self.walk.turn(graph, mol, &self.fits, &mut self.outlook) {
+                Turn::Item => Turn::Item,
+                Turn::Moved => Turn::Moved,
+                Turn::End => {
+                    self.stage = Stage::Ended;
+                    Turn::End
+                }
+            },
+            Stage::Once => {
+                self.stage = Stage::Ended;
+                Turn::Item
+            }
+            Stage::Ended => Turn::End,
         }
     }
 }

@@ -2,16 +2,17 @@
 ghost use Rattle.std.specs.Prelude.{◌≡◌, ◌<◌, ◌≤◌, ◌+◌, ◌-◌, ◌++◌, ◌∷◌, ◌↔◌, [], ℕ, None, Contains, IfOk, IsTrue, List, false, true, length, slice_index, slice_set, take, if◌then◌else◌};
 ghost use Rattle.mk_model.specs.Graphs.{IsGraph};
 ghost use Rattle.mk_model.specs.Hits.{IsHit};
-ghost use Rattle.mk_text.specs.Rising.{IsLeastFrom};
+ghost use Rattle.mk_text.specs.Rising.{IsBelow, IsLeastFrom};
 ghost use Rattle.mk_match.specs.Begun.{MayStand};
 ghost use Rattle.mk_match.specs.Table.{IsTable};
+ghost use Rattle.mk_match.specs.Turns.{GoesOn, IsVisit, node_of};
 ghost use Rattle.mk_match.specs.Walk.{IsWalk, SameFrom, lists_from, place_of};
 
 use crate::candidates::next_atom;
 use crate::earlier_bonds::{anchor_of, are_bonds_met};
 use crate::outlook::Outlook;
 use crate::table::fits_at;
-use mk_model::{Graph, Memory, Mol};
+use mk_model::{Graph, Memory, Mol, Turn};
 use std::alloc::Global;
 
 /// Where a walk stands: the images of the first atoms of the graph, and the number up to which
@@ -24,12 +25,13 @@ pub struct Walk {
     pub above: u32,
 }
 
-/// What a step comes to: a hit, and then the walk stands behind it; a place further on; or nothing
-/// is left.
+/// What a step comes to: a hit, and then the walk stands behind it; a node that is no hit; a place
+/// further on, with no node on the way; or nothing is left.
 #[derive(Clone, Copy, Debug)]
-pub enum Turn {
+pub enum Step {
     Item,
-    Moved,
+    Node,
+    Back,
     End,
 }
 
@@ -37,7 +39,7 @@ impl Walk {
     /// A walk through all lists.
     pub fn new(alloc: Global, graph: &Graph, mol: &Mol) -> Result<Walk, Memory>
         requires { 0 < length graph.now.atoms }
-        ensures kept { IfOk result (λ walk. IsWalk graph.now mol.now walk.images.items walk.levels.items walk.depth walk.above) }
+        ensures kept { IfOk result (λ walk. IsWalk graph.now mol.now walk.images.items walk.levels.items walk.depth) }
         ensures start { IfOk result (λ walk. (walk.depth ≡ 0) × (walk.above ≡ 0)) }
     {
         Ok(Walk {
@@ -63,20 +65,25 @@ impl Walk {
     /// Goes to the lists from a front on.
     pub fn seek(&mut self, graph: &Graph, mol: &Mol, fits: &[bool], front: &[u32])
         requires table { IsTable graph.now mol.now fits.now }
-        requires kept { IsWalk graph.now mol.now self.old.images.items self.old.levels.items self.old.depth self.old.above }
+        requires kept { IsWalk graph.now mol.now self.old.images.items self.old.levels.items self.old.depth }
         requires start { self.old.depth ≡ 0 }
         requires first { self.old.above ≡ 0 }
-        ensures kept { IsWalk graph.now mol.now self.new.images.items self.new.levels.items self.new.depth self.new.above }
+        ensures kept { IsWalk graph.now mol.now self.new.images.items self.new.levels.items self.new.depth }
         ensures same { SameFrom (IsHit graph.now mol.now) front.now (place_of self.new.images.items self.new.depth self.new.above) }
+        ensures up { IsBelow (place_of self.new.images.items self.new.depth self.new.above) front.now → ⊥ }
     {
         for i in 0..front.len() {
             let number = front[i];
+            if i + 1 == front.len() {
+                self.above = number.saturating_sub(1);
+                return;
+            }
             if i + 1 == self.images.len() {
-                self.above = passed(number, i + 1 == front.len()).min(mol.atom_count());
+                self.above = number;
                 return;
             }
             if !self.stands(graph, mol, fits, number) {
-                self.above = number.min(mol.atom_count());
+                self.above = number;
                 return;
             }
             self.put(number);
@@ -87,47 +94,100 @@ impl Walk {
     /// Goes on to the least hit that is left, and stands behind it; tells whether there is one.
     pub fn go_on(&mut self, graph: &Graph, mol: &Mol, fits: &[bool], outlook: &mut Outlook) -> bool
         requires table { IsTable graph.now mol.now fits.now }
-        requires kept { IsWalk graph.now mol.now self.old.images.items self.old.levels.items self.old.depth self.old.above }
-        ensures kept { IsWalk graph.now mol.now self.new.images.items self.new.levels.items self.new.depth self.new.above }
+        requires kept { IsWalk graph.now mol.now self.old.images.items self.old.levels.items self.old.depth }
+        ensures kept { IsWalk graph.now mol.now self.new.images.items self.new.levels.items self.new.depth }
         ensures hit { IsTrue result → IsHit graph.now mol.now self.new.images.items }
         ensures least { IsTrue result → SameFrom (IsHit graph.now mol.now) (place_of self.old.images.items self.old.depth self.old.above) self.new.images.items }
         ensures behind { IsTrue result → SameFrom (IsHit graph.now mol.now) (self.new.images.items ++ 0 ∷ []) (place_of self.new.images.items self.new.depth self.new.above) }
+        ensures over { IsTrue result → IsBelow (self.new.images.items ++ 0 ∷ []) (place_of self.new.images.items self.new.depth self.new.above) }
         ensures none { result ≡ false → IsLeastFrom (place_of self.old.images.items self.old.depth self.old.above) (IsHit graph.now mol.now) None }
     {
         'walk: loop {
             match self.step(graph, mol, fits, outlook) {
-                Turn::Item => return true,
-                Turn::Moved => {}
-                Turn::End => return false,
+                Step::Item => return true,
+                Step::Node => {}
+                Step::Back => {}
+                Step::End => return false,
             }
         }
     }
 
-    /// Goes on by one step.
-    pub fn step(&mut self, graph: &Graph, mol: &Mol, fits: &[bool], outlook: &mut Outlook) -> Turn
+    /// Goes on to the next node: a hit or not.
+    pub fn turn(&mut self, graph: &Graph, mol: &Mol, fits: &[bool], outlook: &mut Outlook) -> Turn
         requires table { IsTable graph.now mol.now fits.now }
-        requires kept { IsWalk graph.now mol.now self.old.images.items self.old.levels.items self.old.depth self.old.above }
-        ensures kept { IsWalk graph.now mol.now self.new.images.items self.new.levels.items self.new.depth self.new.above }
+        requires kept { IsWalk graph.now mol.now self.old.images.items self.old.levels.items self.old.depth }
+        ensures kept { IsWalk graph.now mol.now self.new.images.items self.new.levels.items self.new.depth }
         ensures moved { result ≡ Turn.Moved → SameFrom (IsHit graph.now mol.now) (place_of self.old.images.items self.old.depth self.old.above) (place_of self.new.images.items self.new.depth self.new.above) }
-        ensures fewer { result ≡ Turn.Moved → lists_from (length mol.now.atoms + 1) (length graph.now.atoms) (place_of self.new.images.items self.new.depth self.new.above)
-            < lists_from (length mol.now.atoms + 1) (length graph.now.atoms) (place_of self.old.images.items self.old.depth self.old.above) }
+        ensures node { result ≡ Turn.Moved → IsVisit graph.now mol.now (place_of self.old.images.items self.old.depth self.old.above) (node_of self.new.images.items self.new.depth self.new.above) }
         ensures hit { result ≡ Turn.Item → IsHit graph.now mol.now self.new.images.items }
         ensures least { result ≡ Turn.Item → SameFrom (IsHit graph.now mol.now) (place_of self.old.images.items self.old.depth self.old.above) self.new.images.items }
         ensures behind { result ≡ Turn.Item → SameFrom (IsHit graph.now mol.now) (self.new.images.items ++ 0 ∷ []) (place_of self.new.images.items self.new.depth self.new.above) }
+        ensures over { result ≡ Turn.Item → IsBelow (self.new.images.items ++ 0 ∷ []) (place_of self.new.images.items self.new.depth self.new.above) }
+        ensures item { result ≡ Turn.Item → IsVisit graph.now mol.now (place_of self.old.images.items self.old.depth self.old.above) self.new.images.items }
         ensures end { result ≡ Turn.End → IsLeastFrom (place_of self.old.images.items self.old.depth self.old.above) (IsHit graph.now mol.now) None }
+    {
+        'turn: loop {
+            match self.step(graph, mol, fits, outlook) {
+                Step::Item => return Turn::Item,
+                Step::Node => return Turn::Moved,
+                Step::Back => {}
+                Step::End => return Turn::End,
+            }
+        }
+    }
+
+    /// Puts the list that the walk came to last over the first numbers of another, and tells how long
+    /// it is.
+    pub fn put_node(&self, place: &mut Vec<u32>) -> usize
+        requires short { self.now.depth < length self.now.images.items }
+        requires room { length self.now.images.items ≤ length place.old.items }
+        ensures size { length place.new.items ≡ length place.old.items }
+        ensures within { result ≤ length self.now.images.items }
+        ensures put { take result place.new.items ≡ node_of self.now.images.items self.now.depth self.now.above }
+    {
+        for i in 0..self.depth {
+            place[i] = self.images[i];
+        }
+        if self.above == 0 {
+            return self.depth;
+        }
+        place[self.depth] = self.above;
+        self.depth + 1
+    }
+
+    /// Goes on by one step.
+    fn step(&mut self, graph: &Graph, mol: &Mol, fits: &[bool], outlook: &mut Outlook) -> Step
+        requires table { IsTable graph.now mol.now fits.now }
+        requires kept { IsWalk graph.now mol.now self.old.images.items self.old.levels.items self.old.depth }
+        ensures kept { IsWalk graph.now mol.now self.new.images.items self.new.levels.items self.new.depth }
+        ensures moved { GoesOn result → SameFrom (IsHit graph.now mol.now) (place_of self.old.images.items self.old.depth self.old.above) (place_of self.new.images.items self.new.depth self.new.above) }
+        ensures fewer { GoesOn result → lists_from (length mol.now.atoms + 1) (length graph.now.atoms) (place_of self.new.images.items self.new.depth self.new.above)
+            < lists_from (length mol.now.atoms + 1) (length graph.now.atoms) (place_of self.old.images.items self.old.depth self.old.above) }
+        ensures up { result ≡ Step.Back → IsBelow (place_of self.old.images.items self.old.depth self.old.above) (place_of self.new.images.items self.new.depth self.new.above) }
+        ensures node { result ≡ Step.Node → IsVisit graph.now mol.now (place_of self.old.images.items self.old.depth self.old.above) (node_of self.new.images.items self.new.depth self.new.above) }
+        ensures hit { result ≡ Step.Item → IsHit graph.now mol.now self.new.images.items }
+        ensures least { result ≡ Step.Item → SameFrom (IsHit graph.now mol.now) (place_of self.old.images.items self.old.depth self.old.above) self.new.images.items }
+        ensures behind { result ≡ Step.Item → SameFrom (IsHit graph.now mol.now) (self.new.images.items ++ 0 ∷ []) (place_of self.new.images.items self.new.depth self.new.above) }
+        ensures over { result ≡ Step.Item → IsBelow (self.new.images.items ++ 0 ∷ []) (place_of self.new.images.items self.new.depth self.new.above) }
+        ensures item { result ≡ Step.Item → IsVisit graph.now mol.now (place_of self.old.images.items self.old.depth self.old.above) self.new.images.items }
+        ensures end { result ≡ Step.End → IsLeastFrom (place_of self.old.images.items self.old.depth self.old.above) (IsHit graph.now mol.now) None }
     {
         let anchor = anchor_of(graph, &self.images[..self.depth]);
         let Some(atom) = next_atom(mol, anchor, self.above) else {
             if self.depth == 0 {
-                return Turn::End;
+                return Step::End;
             }
             self.depth -= 1;
             self.above = self.images[self.depth];
-            return Turn::Moved;
+            return Step::Back;
         };
+        if self.holds(atom) {
+            self.above = atom;
+            return Step::Back;
+        }
         if !self.may_stand(graph, mol, fits, atom) {
             self.above = atom;
-            return Turn::Moved;
+            return Step::Node;
         }
         self.put(atom);
         if outlook.is_dead(
@@ -138,21 +198,21 @@ impl Walk {
             &self.levels,
         ) {
             self.above = atom;
-            return Turn::Moved;
+            return Step::Node;
         }
         if self.depth + 1 == self.images.len() {
             self.above = atom;
-            return Turn::Item;
+            return Step::Item;
         }
         self.depth += 1;
         self.above = 0;
-        Turn::Moved
+        Step::Node
     }
 
     // Tells whether the number is an atom that may stand behind the first ones.
     fn stands(&self, graph: &Graph, mol: &Mol, fits: &[bool], number: u32) -> bool
         requires table { IsTable graph.now mol.now fits.now }
-        requires kept { IsWalk graph.now mol.now self.now.images.items self.now.levels.items self.now.depth self.now.above }
+        requires kept { IsWalk graph.now mol.now self.now.images.items self.now.levels.items self.now.depth }
         ensures { IsTrue result ↔ ((1 ≤ number) × (number ≤ length mol.now.atoms) × MayStand graph.now mol.now (take self.now.depth self.now.images.items) number) }
     {
         if number == 0 || number > mol.atom_count() {
@@ -165,7 +225,7 @@ impl Walk {
     // first ones as the graph asks.
     fn may_stand(&self, graph: &Graph, mol: &Mol, fits: &[bool], a: u32) -> bool
         requires table { IsTable graph.now mol.now fits.now }
-        requires kept { IsWalk graph.now mol.now self.now.images.items self.now.levels.items self.now.depth self.now.above }
+        requires kept { IsWalk graph.now mol.now self.now.images.items self.now.levels.items self.now.depth }
         requires least { 1 ≤ a }
         requires most { a ≤ length mol.now.atoms }
         ensures { IsTrue result ↔ MayStand graph.now mol.now (take self.now.depth self.now.images.items) a }
@@ -210,15 +270,4 @@ impl Walk {
         self.images[depth] = atom;
         self.levels[atom as usize - 1] = depth as u32;
     }
-}
-
-// The number that is passed where a front goes through its last place: the one before it, where the
-// front ends there.
-fn passed(number: u32, ends: bool) -> u32
-    ensures { result ≡ (if ends then number - 1 else number) }
-{
-    if ends {
-        return number.saturating_sub(1);
-    }
-    number
 }

@@ -33,6 +33,7 @@ pub use Rattle.mk_model.proofs.LogicLemmas.{IsPassed, some_passes, passes_some, 
 pub use Rattle.mk_model.proofs.PlainCodesLemmas.{ChoosesWithin, codes_listed, law as valid_codes_listed}
 unfoldable pub use Rattle.mk_model.proofs.FewLemmas.{edge}
 pub use Rattle.mk_model.proofs.FewLemmas.{NoPair, all_1, all_2, all_3, all_same, once_by, pairs_none, pairs_one, pairs_two}
+pub use Rattle.mk_model.proofs.TurnLemmas.{not_below_through, not_below_front, below_more, below_next, not_below_at, same_to_between, same_from_between, pays_visit, pays_end}
 pub use Rattle.mk_model.proofs.KeysLemmas.{code_of_valid, one_code, read_one_way, begins_no_occurrence, begins_no_key}
 
 -- among bonds that are numbered from j on, k numbers one of atom n

@@ -19,3 +19,4 @@ pub mod ForCallers
 pub mod FewLemmas
 pub mod OnLiterals
 pub mod FitsOnLiterals
+pub mod TurnLemmas

@@ -23,3 +23,4 @@ pub mod Pieces
 pub mod Expansions
 pub mod Keys
 pub mod Nodes
+pub mod Screens

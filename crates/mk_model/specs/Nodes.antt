@@ -6,7 +6,11 @@
 --                                           molecule, no more than its expansion has
 --     IsNode Held query node                a held molecule's number alone, or with one of these
 --                                           behind it
+--     StandBetween P from to count          so many lists that have P stand above one place and not
+--                                           above another
 --     Ahead Held query from to count        so many nodes lie above one place and not above another
+--     SameFrom P here there                 the same lists that have P remain from either place on
+--     Pays P from owed to owing             what a turn passes, and owes before and behind it
 --     AheadAddsUp                           what lies between a place and a second, and that and a
 --                                           third, adds up
 -- `Held n mol` says that the molecule is held under the number n.
@@ -46,14 +50,31 @@ pub record IsNode (Held : ℕ → Molecule → Type 0) (query : QueryView) (node
   pub reached : (numbers ≡ []) ⊎ (BeginsCode query numbers ⊎ IsPartialHit query mol numbers)
   pub whole : node ≡ number ∷ numbers
 
--- some rising nodes, so many, lie above the first place and not above the second
-pub record Ahead (Held : ℕ → Molecule → Type 0) (query : QueryView) (from to : List ℕ) (count : ℕ) : Type 0 where
+-- some rising lists that have P, so many, stand above the first place and not above the second
+pub record StandBetween (P : List ℕ → Type 0) (from to : List ℕ) (count : ℕ) : Type 0 where
   pub nodes : List (List ℕ)
   pub rise : Rises nodes
-  pub each : (node : List ℕ) → Holds nodes node → IsNode Held query node
+  pub each : (node : List ℕ) → Holds nodes node → P node
   pub above : (node : List ℕ) → Holds nodes node → IsBelow from node
   pub not_above : (node : List ℕ) → Holds nodes node → IsBelow to node → ⊥
   pub many : length nodes ≡ count
+
+-- some rising nodes, so many, lie above the first place and not above the second
+abbrev pub Ahead : (ℕ → Molecule → Type 0) → QueryView → List ℕ → List ℕ → ℕ → Type 0
+Ahead Held query from to count = StandBetween (IsNode Held query) from to count
+
+-- of the lists that have P the same remain from either place on
+pub record SameFrom (P : List ℕ → Type 0) (here there : List ℕ) : Type 0 where
+  pub on : (xs : List ℕ) → P xs → (IsBelow xs here → ⊥) → IsBelow xs there → ⊥
+  pub back : (xs : List ℕ) → P xs → (IsBelow xs there → ⊥) → IsBelow xs here → ⊥
+
+-- What a turn pays, from a place to a second that isn't below it: with what is owed before it, it
+-- passes one of the things that have P more than are owed behind it.
+pub record Pays (P : List ℕ → Type 0) (from : List ℕ) (owed : ℕ) (to : List ℕ) (owing : ℕ) : Type 0 where
+  pub passed : ℕ
+  pub stand : StandBetween P from to passed
+  pub up : IsBelow to from → ⊥
+  pub pays : owing + 1 ≤ owed + passed
 
 -- ---- law
 

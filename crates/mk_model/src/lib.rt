@@ -6,8 +6,8 @@
 //!
 //! Ring bonds are defined in `specs/Rings.antt`, the aromatic set in `specs/Aromatic.antt`, codes
 //! and valid codes in `specs/Codes.antt` and `specs/Logic.antt`, what a query becomes by a code in
-//! `specs/Expansions.antt`, hits in `specs/Hits.antt`, and keys in `specs/Keys.antt`. `Steps`
-//! counts calls in proofs and takes no bytes.
+//! `specs/Expansions.antt`, hits in `specs/Hits.antt`, keys in `specs/Keys.antt`, and screens in
+//! `specs/Screens.antt`. `Steps` counts calls in proofs and takes no bytes.
 //!
 //! How the marks of bonds are found is left to mk_rings, and how a table becomes a molecule or a
 //! query to the crates above.
@@ -24,10 +24,12 @@ mod group;
 mod molecule;
 mod neighbours;
 mod query;
+mod screen;
 mod steps;
 mod template;
 #[cfg(test)]
 mod tests;
+mod turn;
 
 pub use atom_test::{AtomTest, Kind};
 pub use bond_order::put_in_order;
@@ -44,8 +46,10 @@ pub use mk_text::{Bytes, Listed, Memory, Numbers, Place, Text};
 pub use molecule::{Atom, Mol, MolBond};
 pub use neighbours::Neighbours;
 pub use query::{Count, Query};
+pub use screen::Screen;
 pub use steps::Steps;
 pub use template::{QueryBond, Slot, Template};
+pub use turn::Turn;
 
 /// What a query chooses at its slots: lengths and numbers of members.
 pub type Code = Numbers;

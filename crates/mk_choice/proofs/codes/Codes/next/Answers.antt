@@ -13,8 +13,8 @@ before_last front code len within is =
 
 pub returns : goal.returns
 returns c =
-    let taken = c.if-not-advance.ensures in
-    let next : IsNext c.args.self.now (record { query = c.self.inside.query.now; place = take c.self.inside.len c.self.inside.place.items }) taken.0 =
+    let taken = c.if-not-take.ensures in
+    let next : IsNext c.args.self.now (record { query = c.self.inside.query.now; place = take c.self.inside.len c.self.inside.place.items; debt = c.self.inside.debt }) taken.0 =
     subst (λ (left : CodesLeft). IsNext c.args.self.now left taken.0) (sym c.self.view_is) taken.1 in
     let is = before_last c.self.inside.place.items taken.0 c.self.inside.len c.self.invariant.within next.place in
     ((refl, λ _. tt, rw (c.deref.ensures.value, is) next), record { lends = tt })

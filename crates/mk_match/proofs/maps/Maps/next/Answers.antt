@@ -13,9 +13,9 @@ before_last place hit len within is =
 
 pub returns : goal.returns
 returns c =
-    let taken = c.if-not-advance.ensures in
+    let taken = c.if-not-take.ensures in
     let inside = c.self.inside in
-    let next : IsNext c.args.self.now (record { graph = inside.graph; mol = inside.mol.now; place = take inside.len inside.place.items }) taken.0 =
+    let next : IsNext c.args.self.now (record { graph = inside.graph; mol = inside.mol.now; place = take inside.len inside.place.items; debt = inside.debt }) taken.0 =
     subst (λ (left : MapsLeft). IsNext c.args.self.now left taken.0) (sym c.self.view_is) taken.1 in
     let is = before_last inside.place.items taken.0 inside.len c.self.invariant.within next.place in
     ((refl, λ _. tt, rw (c.deref.ensures.value, is) next), record { lends = tt })

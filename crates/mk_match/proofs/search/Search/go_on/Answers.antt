@@ -3,6 +3,7 @@ use Rattle.mk_model.specs.Hits.{IsHit}
 use Rattle.mk_match.specs.Walk.{place_of}
 use Rattle.mk_match.proofs.PassedLemmas.{least_of, same_through}
 use Rattle.mk_match.proofs.WalkLemmas.{none_least, none_more}
+use Rattle.mk_match.proofs.SearchTurnLemmas.{item_owed}
 use Rattle.mk_match.proofs.search.Search.go_on.Goals as goal
 
 pub returns-then-go_on-clause-least : goal.returns-then-go_on-clause-least
@@ -23,3 +24,8 @@ pub returns-in-Once-clause-left : goal.returns-in-Once-clause-left
 returns-in-Once-clause-left c = λ _.
     let is = rw c.in-Once.is at c.requires in
     rw is.2 (none_more c.args.graph.now c.args.mol.now (0 ∷ []) is.1 (lit< tt))
+
+pub returns-then-go_on-clause-owed : goal.returns-then-go_on-clause-owed
+returns-then-go_on-clause-owed c = λ _.
+    let walk = c.go_on.new.self in
+    rw c.in-Walking.is (item_owed walk.images.items (place_of walk.images.items walk.depth walk.above) (c.if-go_on.ensures.over refl))

@@ -5,7 +5,7 @@ use Rattle.mk_match.proofs.walk.Walk.go_on.Given as goal
 
 abbrev pub invariant-walk : goal.invariant-walk
 invariant-walk l =
-    IsWalk l.graph l.mol l.self.images.items l.self.levels.items l.self.depth l.self.above
+    IsWalk l.graph l.mol l.self.images.items l.self.levels.items l.self.depth
     × SameFrom (IsHit l.graph l.mol) (place_of l.fn.self.images.items l.fn.self.depth l.fn.self.above) (place_of l.self.images.items l.self.depth l.self.above)
 
 abbrev pub decreases-walk : goal.decreases-walk

@@ -1,7 +1,8 @@
 use Rattle.std.proofs.Common.{◌≡◌, ◌+◌, ◌<◌, length, take, refl, ap, arith}
 use Rattle.std.proofs.lemmas.List.{length-set, take-set}
 use Rattle.mk_match.proofs.ListsFromLemmas.{left_back, left_in, left_next}
-use Rattle.mk_match.proofs.WalkLemmas.{anchor_within, behind_found, ended, last_most, least_found, moved_back, moved_dead, moved_in, moved_past, walk_back, walk_found, walk_put, walk_tried}
+use Rattle.mk_match.proofs.TurnLemmas.{back_up, over_found, past_up, visit_dead, visit_found, visit_in, visit_past}
+use Rattle.mk_match.proofs.WalkLemmas.{anchor_within, behind_found, ended, last_most, least_found, moved_back, moved_dead, moved_in, moved_past, not_new, walk_back, walk_found, walk_put, walk_tried}
 use Rattle.mk_match.proofs.walk.Walk.step.Goals as goal
 
 pub next_atom-requires : goal.next_atom-requires
@@ -125,3 +126,67 @@ returns-clause-fewer c = λ _.
     let more : w.depth + 1 < length c.args.graph.now.atoms = omega (arith, ap length c.put.ensures.images, length-set w.images.items w.depth c.in-Some.atom, c.put.ensures.depth, c.requires.kept.room, c.requires.kept.short, c.if-self-len.false) in
     rw (c.put.ensures.images, c.put.ensures.depth)
     (left_in (length c.args.mol.now.atoms + 1) (length c.args.graph.now.atoms) w.images.items w.depth c.requires.kept.short (omega (arith, c.requires.kept.room)) w.above c.in-Some.atom more c.in-Some.ensures.found.0 (omega arith))
+
+-- ---- the order of places
+
+pub returns-in_default-clause-up : goal.returns-in_default-clause-up
+returns-in_default-clause-up c = λ _.
+    let w = c.args.self.now in
+    back_up w.images.items w.depth w.above c.index.result.now c.if-self-eq0.false (omega (arith, c.requires.kept.room, c.requires.kept.short)) c.index.ensures
+
+-- ---- past an atom that stands already
+
+pub returns-then-holds-clause-moved : goal.returns-then-holds-clause-moved
+returns-then-holds-clause-moved c = λ _.
+    let w = c.args.self.now in
+    moved_past c.args.graph.now c.args.mol.now c.requires.kept.drawing c.requires.kept.molecule w.images.items w.levels.items w.depth w.above c.requires.kept
+    c.anchor_of-anchor.result (rw c.deref.ensures.value at c.anchor_of-anchor.ensures.some) c.in-Some.atom c.in-Some.ensures.found.0 c.in-Some.ensures.between
+    (λ stands. not_new (take w.depth w.images.items) c.in-Some.atom (c.if-holds.ensures.0 refl) stands.new)
+
+pub returns-then-holds-clause-fewer : goal.returns-then-holds-clause-fewer
+returns-then-holds-clause-fewer c = λ _.
+    let w = c.args.self.now in
+    left_next (length c.args.mol.now.atoms + 1) (length c.args.graph.now.atoms) w.images.items w.depth c.requires.kept.short (omega (arith, c.requires.kept.room)) w.above c.in-Some.atom c.in-Some.ensures.found.0 (omega (arith, c.in-Some.ensures.found.1))
+
+pub returns-then-holds-clause-up : goal.returns-then-holds-clause-up
+returns-then-holds-clause-up c = λ _.
+    let w = c.args.self.now in
+    past_up w.images.items w.depth w.above c.in-Some.atom c.in-Some.ensures.found.0
+
+-- ---- nodes
+
+pub returns-then-not-may_stand-clause-node : goal.returns-then-not-may_stand-clause-node
+returns-then-not-may_stand-clause-node c = λ _.
+    let w = c.args.self.now in
+    visit_past c.args.graph.now c.args.mol.now w.images.items w.levels.items w.depth w.above c.requires.kept c.in-Some.atom c.in-Some.ensures.found.0 c.in-Some.ensures.found.1
+    (λ held. (let never = c.if-holds.ensures.1 held in absurd cc))
+
+pub returns-then-is_dead-clause-node : goal.returns-then-is_dead-clause-node
+returns-then-is_dead-clause-node c = λ _.
+    let w = c.args.self.now in
+    rw (c.put.ensures.images, c.put.ensures.depth)
+    (visit_dead c.args.graph.now c.args.mol.now w.images.items w.levels.items w.depth w.above c.requires.kept c.in-Some.atom c.in-Some.ensures.found.0 c.in-Some.ensures.found.1
+    (λ held. (let never = c.if-holds.ensures.1 held in absurd cc)))
+
+pub returns-then-self-len-clause-over : goal.returns-then-self-len-clause-over
+returns-then-self-len-clause-over c = λ _.
+    let w = c.args.self.now in
+    let whole : w.depth + 1 ≡ length c.args.graph.now.atoms = omega (arith, ap length c.put.ensures.images, length-set w.images.items w.depth c.in-Some.atom, c.put.ensures.depth, c.requires.kept.room, c.if-self-len.true) in
+    rw (c.put.ensures.images, c.put.ensures.depth)
+    (over_found c.args.graph.now c.args.mol.now w.images.items w.levels.items w.depth w.above c.requires.kept c.in-Some.atom c.in-Some.ensures.found.0 c.in-Some.ensures.found.1
+    (λ held. (let never = c.if-holds.ensures.1 held in absurd cc)) whole)
+
+pub returns-then-self-len-clause-item : goal.returns-then-self-len-clause-item
+returns-then-self-len-clause-item c = λ _.
+    let w = c.args.self.now in
+    let whole : w.depth + 1 ≡ length c.args.graph.now.atoms = omega (arith, ap length c.put.ensures.images, length-set w.images.items w.depth c.in-Some.atom, c.put.ensures.depth, c.requires.kept.room, c.if-self-len.true) in
+    rw c.put.ensures.images
+    (visit_found c.args.graph.now c.args.mol.now w.images.items w.levels.items w.depth w.above c.requires.kept c.in-Some.atom c.in-Some.ensures.found.0 c.in-Some.ensures.found.1
+    (λ held. (let never = c.if-holds.ensures.1 held in absurd cc)) whole)
+
+pub returns-clause-node : goal.returns-clause-node
+returns-clause-node c = λ _.
+    let w = c.args.self.now in
+    rw (c.put.ensures.images, c.put.ensures.depth)
+    (visit_in c.args.graph.now c.args.mol.now w.images.items w.levels.items w.depth w.above c.requires.kept c.in-Some.atom c.in-Some.ensures.found.0 c.in-Some.ensures.found.1
+    (λ held. (let never = c.if-holds.ensures.1 held in absurd cc)))
