@@ -1,2 +1,10 @@
-pub mod RowsLemmas
-pub mod ForCallers
+pub mod WordsLemmas
+pub mod ColumnsLemmas
+pub mod CommonLemmas
+pub mod CountsLemmas
+pub mod LookingLemmas
+pub mod ScreensLemmas
+pub mod BesideLemmas
+pub mod PostingsLemmas
+pub mod SpareLemmas
+pub mod PostedLemmas

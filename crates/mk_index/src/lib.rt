@@ -1,20 +1,25 @@
-//! The shelf: molecules by the numbers of their records.
+//! The shelf: molecules by the numbers of their records, with their screens and postings.
 //!
-//! Callers use one promise. A `Shelf` holds its rows by rising number, each number once
-//! (`specs/Rows.antt`): a row is put in and taken out in its place and no other row is touched, a
-//! number is looked up exactly, and `next_row` gives the least number that is held from one on.
-//! `Shelf` is a `ByNumber` of molecules; a `ByNumber` holds items of any kind so.
+//! Callers use one promise. `next_candidate` gives the least number that is held, from one on,
+//! whose screen covers a need, and looks at no screen that lacks a bit of it (`IsNextCandidate` and
+//! `LooksFor` in `specs/Postings.antt`). The screens and the postings are those of the molecules
+//! that are held, whatever was put in, replaced and taken out.
 //!
-//! An insertion takes no memory where there is room to spare, and that room is a number which
-//! contracts see. What a molecule means isn't known here, nor what record it belongs to: see
-//! `mk_library`.
+//! The postings stand as columns of bits: for each 64 rows and each of 512 bits one word, which
+//! tells which of the rows have the bit. What a screen is stands in mk_model. Rows by number are
+//! left to mk_rows, texts and records to mk_library.
 #![tactic(auto)]
 
-mod by_number;
+mod columns;
+mod looking;
+mod posted;
+mod screens;
+mod shelf;
+#[cfg(test)]
+mod tests;
+mod words;
 
-pub use by_number::{ByNumber, Numbered};
 pub use mk_model::Mol;
+pub use mk_screen::{Screen, need_of};
 pub use mk_text::Memory;
-
-/// Molecules by the numbers of their records.
-pub type Shelf = ByNumber<Mol>;
+pub use shelf::Shelf;
