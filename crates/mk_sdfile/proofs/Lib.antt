@@ -1,3 +1,4 @@
+pub mod MoleculeFileLemmas
 pub mod SdfileLemmas
 pub mod SdfileStepsLemmas
 pub mod SdfileFactLemmas

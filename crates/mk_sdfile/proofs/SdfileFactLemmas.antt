@@ -1,5 +1,5 @@
 -- What the records of every SDfile keep.
-use Rattle.std.proofs.Common.{ℕ, ◌≤◌, ◌<◌, true, All, Option, Some, None, Result, Ok, Err, List, [], ◌∷◌, ◌++◌, length, sym, ap, subst, arith}
+use Rattle.std.proofs.Common.{ℕ, ◌≤◌, ◌<◌, max, inl, inr, true, All, Option, Some, None, Result, Ok, Err, List, [], ◌∷◌, ◌++◌, length, sym, ap, subst, arith}
 use Rattle.std.specs.List.{AllByRecursion}
 use Rattle.std.specs.Prelude.{IfOk, MatchOption, option_to_list}
 use Rattle.std.proofs.lemmas.List.{length-append}
@@ -7,11 +7,17 @@ use Rattle.std.proofs.lemmas.List.Elements.{All-from_recursion}
 use Rattle.mk_form.specs.Rows.{Series}
 use Rattle.mk_form.specs.ToEnd.{EachIs}
 use Rattle.mk_text.specs.Columns.{are_blank}
+use Rattle.mk_ctab.specs.declared.fault.TableFault.{TableFault}
+use Rattle.mk_ctab.specs.declared.fault.TableFault.TheVariants.{Bad, V3000, Memory}
 use Rattle.mk_ctab.specs.TableFacts.{IsRawTable}
+use Rattle.mk_ctab.specs.TableFaults.{IfV3000}
 use Rattle.mk_ctab.specs.TableLines.{Line}
-use Rattle.mk_ctab.proofs.ForCallers.{keeps, few_properties}
+use Rattle.mk_ctab.specs.Table.{IsTable}
+use Rattle.mk_ctab.proofs.ForCallers as ctab
+use Rattle.mk_v3000.specs.V3000Table.{IsV3000Table}
+use Rattle.mk_v3000.proofs.ForCallers as v3000
 use Rattle.mk_sdfile.specs.declared.raw_record.RawRecord.{RawRecord}
-use Rattle.mk_sdfile.specs.Sdfile.{IsRecord, IsBlock, IsSdfile}
+use Rattle.mk_sdfile.specs.Sdfile.{IsRecord, IsBlock, IsSdfile, IsV3000Line}
 
 -- a fact of each record whose lines are no more than n and are all such that Q holds of them
 abbrev pub OfEach : ℕ → (Line → Type 0) → (RawRecord → Type 0) → Type 0
@@ -58,21 +64,34 @@ any_lines : (lines : List Line) → AllByRecursion AnyLine lines
 any_lines [] = tt
 any_lines (l ∷ lines) = (tt, any_lines lines)
 
--- a record's table keeps what every table keeps that was read
+-- a table of either kind keeps what every table keeps that was read
 record_keeps : (lines : List Line) (r : RawRecord) → IsRecord lines r → IsRawTable r.table
-record_keeps lines r h = keeps h.molfile.table_lines r.table h.molfile.is
+record_keeps lines r h = elim h.molfile.is [
+  | inl is ↦ v3000.keeps h.molfile.table_lines r.table is
+  | inr is ↦ ctab.keeps h.molfile.table_lines r.table is
+]
 
--- and has fewer properties than the text has lines
-record_few : (n : ℕ) (lines : List Line) (r : RawRecord) → IsRecord lines r → length lines ≤ n → length r.table.props < n
-record_few n lines r h few =
-    let table = few_properties h.molfile.table_lines r.table h.molfile.is in
-    omega (arith, table, ap length h.whole, length-append h.molfile_lines h.data_lines, ap length h.molfile.whole, length-append h.molfile.header_lines h.molfile.table_lines)
+-- a table of either kind has few properties, or fewer than it has lines
+record_few : (n : ℕ) (lines : List Line) (r : RawRecord) → IsRecord lines r → length lines ≤ n → length r.table.props < max n 2998
+record_few n lines r h few = elim h.molfile.is [
+  | inl is ↦ let table = v3000.few_properties h.molfile.table_lines r.table is in omega (arith, table)
+  | inr is ↦
+      let table = ctab.few_properties h.molfile.table_lines r.table is in
+      omega (arith, table, ap length h.whole, length-append h.molfile_lines h.data_lines, ap length h.molfile.whole, length-append h.molfile.header_lines h.molfile.table_lines)
+]
 
 -- by what was answered
 pub keeps_by : {E : Type 0} (lines : List Line) (answer : Result (List RawRecord) E) → IfOk answer (IsSdfile lines) → IfOk answer (All (λ r. IsRawTable r.table))
 keeps_by lines (Ok records) h = of_all AnyLine (λ r. IsRawTable r.table) lines records (any_lines lines) (λ ls r is few q. record_keeps ls r is) h
 keeps_by lines (Err e) h = tt
 
-pub fewer_by : {E : Type 0} (lines : List Line) (answer : Result (List RawRecord) E) → IfOk answer (IsSdfile lines) → IfOk answer (All (λ r. length r.table.props < length lines))
-fewer_by lines (Ok records) h = of_all AnyLine (λ r. length r.table.props < length lines) lines records (any_lines lines) (λ ls r is few q. record_few (length lines) ls r is few) h
+pub fewer_by : {E : Type 0} (lines : List Line) (answer : Result (List RawRecord) E) → IfOk answer (IsSdfile lines) → IfOk answer (All (λ r. length r.table.props < max (length lines) 2998))
+fewer_by lines (Ok records) h = of_all AnyLine (λ r. length r.table.props < max (length lines) 2998) lines records (any_lines lines) (λ ls r is few q. record_few (length lines) ls r is few) h
 fewer_by lines (Err e) h = tt
+
+-- no line is named
+pub never_named : {T : Type 0} (lines : List Line) (answer : Result T TableFault) → IfV3000 answer (IsV3000Line lines) → IfV3000 answer (λ k. ⊥)
+never_named lines (Ok v) h = tt
+never_named lines (Err (Bad k)) h = tt
+never_named lines (Err (V3000 k)) h = h.due
+never_named lines (Err Memory) h = tt

@@ -1,10 +1,10 @@
 -- SDfiles are read exactly, and so the laws of forms hold of them.
-use Rattle.std.proofs.Common.{◌≡◌, ℕ, zero, suc, ◌≤◌, ◌<◌, true, false, Option, Some, None, List, [], ◌∷◌, ◌++◌, length, refl, sym, ap, subst, ◌∙◌, append_assoc, inl, inr, arith}
+use Rattle.std.proofs.Common.{◌≡◌, ℕ, zero, suc, ◌≤◌, ◌<◌, true, false, Option, Some, None, List, [], ◌∷◌, ◌++◌, length, refl, sym, ap, subst, ◌∙◌, append_assoc, append-nil, inl, inr, arith}
 use Rattle.std.specs.Prelude.{MatchOption, option_to_list}
 use Rattle.std.proofs.lemmas.List.{length-append}
 use Rattle.mk_form.specs.Either.{farther}
-use Rattle.mk_form.specs.Exact.{Part, Exact, Completes, NeverDue, NoLines}
-use Rattle.mk_form.specs.InWords.{form}
+use Rattle.mk_form.specs.Exact.{Part, Exact, Never, NeverDue, NoLines}
+use Rattle.mk_form.specs.Fronts.{IsFront}
 use Rattle.mk_form.specs.Limit.{IsBelow, Grows, IsLimit}
 use Rattle.mk_form.specs.Reading.{Reading, Took, and_then}
 use Rattle.mk_form.specs.Rows.{Series}
@@ -12,8 +12,9 @@ use Rattle.mk_form.specs.Seen.{with_lines}
 use Rattle.mk_form.specs.ToEnd.{EachIs, UpTo, read_up_to}
 use Rattle.mk_form.proofs.Below.{below-sequence, below-seen_as, below-up_to, below-either, below-first}
 use Rattle.mk_form.proofs.Either.{exact-either}
-use Rattle.mk_form.proofs.Fronts.{exact-form, completes-form, completes-either, completes-lines_to_end, completes-seen_as, completes-sequence, completes-up_to, completes-with_lines}
-use Rattle.mk_form.proofs.Limit.{exact-limit, completes-limit, limit_of_steps}
+use Rattle.mk_form.proofs.Fronts.{front_is_live}
+use Rattle.mk_form.proofs.InWords.{exact-in_words}
+use Rattle.mk_form.proofs.Limit.{exact-limit, limit_of_steps}
 use Rattle.mk_form.proofs.NeverDue.{never-lines_to_end, never-seen_as}
 use Rattle.mk_form.proofs.Readings.{same_behind}
 use Rattle.mk_form.proofs.Seen.{exact-seen_as, exact-with_lines}
@@ -24,24 +25,43 @@ use Rattle.mk_form.proofs.UpTo.{exact-up_to, same_up_to}
 use Rattle.mk_text.specs.Columns.{are_blank}
 use Rattle.mk_text.specs.KeptLines.{kept_lines}
 use Rattle.mk_ctab.specs.declared.raw.RawTable.{RawTable}
-use Rattle.mk_ctab.specs.Molfile.{IsMolfile, molfile}
+use Rattle.mk_ctab.specs.Table.{IsTable}
 use Rattle.mk_ctab.specs.TableLines.{Line, is_v3000}
-use Rattle.mk_ctab.proofs.ForCallers.{exact-molfile, blank_is_no_counts_line}
+use Rattle.mk_ctab.proofs.ForCallers.{blank_is_no_counts_line}
+use Rattle.mk_v3000.specs.V3000Table.{IsV3000Table}
 use Rattle.mk_sdfile.specs.declared.raw_record.RawRecord.{RawRecord}
-use Rattle.mk_sdfile.specs.Sdfile.{is_separator, IsRecord, IsBlock, IsSdfile, IsCountsLineDue, HasOneValue, HasBadLine, HasOneBadLine}
+use Rattle.mk_sdfile.specs.MoleculeFile.{IsMoleculeFile, EndInTable, IsMoleculeFront, molecule_file}
+use Rattle.mk_sdfile.specs.Sdfile.{is_separator, IsRecord, IsBlock, IsSdfile, EndsInsideLine, IsSdfileFront, HasOneValue, HasBadLine, HasOneBadLine}
+use Rattle.mk_sdfile.proofs.MoleculeFileLemmas.{exact-molecule}
 use Rattle.mk_sdfile.specs.SdfileReading.{blanks_part, record_of, records_of, after_molfile, block_part, file_part, steps, sdfile_part, sdfile_at}
 
 -- ---- a molfile isn't blank
 
--- its counts line isn't, whatever stands behind the molfile
-pub not_blank : (lines more : List Line) (t : RawTable) → IsMolfile lines t → EachIs are_blank true (lines ++ more) → ⊥
-not_blank lines more t h blank =
-    let table = h.is in
+-- a table isn't, whatever stands before and behind it
+table_not_blank : (headers lines more : List Line) (t : RawTable) → IsTable lines t → EachIs are_blank true (headers ++ (lines ++ more)) → ⊥
+table_not_blank headers lines more t table blank =
     let others = table.atom_lines ++ (table.bond_lines ++ (table.list_lines ++ (table.stext_lines ++ (table.property_lines ++ table.last_line ∷ [])))) in
-    let whole : lines ++ more ≡ h.header_lines ++ table.counts_line ∷ (others ++ more) = ap (λ (x : List Line). x ++ more) (h.whole ∙ ap (λ (x : List Line). h.header_lines ++ x) table.whole) ∙ append_assoc h.header_lines (table.counts_line ∷ others) more in
-    let none = (blank_is_no_counts_line table.counts_line (each-at are_blank true h.header_lines (others ++ more) table.counts_line (subst (EachIs are_blank true) whole blank))).0 in
+    let whole : headers ++ (lines ++ more) ≡ headers ++ table.counts_line ∷ (others ++ more) = ap (λ (x : List Line). headers ++ (x ++ more)) table.whole in
+    let none = (blank_is_no_counts_line table.counts_line (each-at are_blank true headers (others ++ more) table.counts_line (subst (EachIs are_blank true) whole blank))).0 in
     let some = table.counted in
     cc
+
+-- nor is a V3000 table
+v3000_not_blank : (headers lines more : List Line) (t : RawTable) → IsV3000Table lines t → EachIs are_blank true (headers ++ (lines ++ more)) → ⊥
+v3000_not_blank headers lines more t table blank =
+    let others = table.logical_lines ++ table.last_line ∷ [] in
+    let whole : headers ++ (lines ++ more) ≡ headers ++ table.counts_line ∷ (others ++ more) = ap (λ (x : List Line). headers ++ (x ++ more)) table.whole in
+    (blank_is_no_counts_line table.counts_line (each-at are_blank true headers (others ++ more) table.counts_line (subst (EachIs are_blank true) whole blank))).1 table.version
+
+-- its counts line isn't, whatever stands behind the molfile
+pub not_blank : (lines more : List Line) (t : RawTable) → IsMoleculeFile lines t → EachIs are_blank true (lines ++ more) → ⊥
+not_blank lines more t h blank =
+    let whole : lines ++ more ≡ h.header_lines ++ (h.table_lines ++ more) = ap (λ (x : List Line). x ++ more) h.whole ∙ append_assoc h.header_lines h.table_lines more in
+    let all = subst (EachIs are_blank true) whole blank in
+    elim h.is [
+      | inl is ↦ v3000_not_blank h.header_lines h.table_lines more t is all
+      | inr is ↦ table_not_blank h.header_lines h.table_lines more t is all
+    ]
 
 -- ---- the parts, in the order of the definition
 
@@ -55,7 +75,7 @@ never-blanks = never-seen_as (λ _. []) (never-lines_to_end are_blank)
 
 -- so is a block with what stands behind it
 pub exact-block : {behind : Part Line (List RawRecord)} → Exact is_v3000 NoLines behind → Exact is_v3000 NoLines (block_part behind)
-exact-block e = exact-sequence (exact-with_lines exact-molfile) (λ m. exact-seen_as (records_of m) (exact-up_to is_separator e))
+exact-block e = exact-sequence (exact-with_lines exact-molecule) (λ m. exact-seen_as (records_of m) (exact-up_to is_separator e))
 
 -- no lines are both
 apart : (behind : Part Line (List RawRecord)) (lines : List Line) (a b : List RawRecord) → blanks_part.is lines a → (block_part behind).is lines b → ⊥
@@ -74,24 +94,17 @@ exact-steps : (n : ℕ) → Exact is_v3000 NoLines (steps n)
 exact-steps zero = exact-blanks
 exact-steps (suc n) = exact-file (exact-steps n)
 
--- the beginning of each can be completed
-completes-steps : (n : ℕ) → Completes (steps n)
-completes-steps zero = completes-seen_as (λ _. []) (completes-lines_to_end are_blank)
-completes-steps (suc n) =
-    completes-either (completes-seen_as (λ _. []) (completes-lines_to_end are_blank))
-    (completes-sequence (completes-with_lines (completes-form exact-molfile)) (λ m. completes-seen_as (records_of m) (completes-up_to is_separator (completes-steps n))))
-
 -- ---- the steps grow
 
 -- each is below the next
 below-next : (n : ℕ) → IsBelow (steps n) (steps (suc n))
 below-next zero = below-first (block_part blanks_part) never-blanks
-below-next (suc n) = below-either blanks_part (below-sequence (with_lines molfile) (λ m. below-seen_as (records_of m) (below-up_to is_separator (below-next n))))
+below-next (suc n) = below-either blanks_part (below-sequence (with_lines molecule_file) (λ m. below-seen_as (records_of m) (below-up_to is_separator (below-next n))))
 
 -- what stands behind a block is shorter, so that two readers of it which agree on shorter lines are one
 pub same_block : (p q : Part Line (List RawRecord)) (lines : List Line) → ((rest : List Line) → length rest < length lines → p.read rest ≡ q.read rest) → (block_part p).read lines ≡ (block_part q).read lines
-same_block p q lines same = same_behind ((with_lines molfile).read lines) (λ m. (after_molfile p m).read) (λ m. (after_molfile q m).read) (λ m rest took.
-    let text = (exact-with_lines exact-molfile).took lines rest m took in
+same_block p q lines same = same_behind ((with_lines molecule_file).read lines) (λ m. (after_molfile p m).read) (λ m. (after_molfile q m).read) (λ m rest took.
+    let text = (exact-with_lines exact-molecule).took lines rest m took in
     let same_data : read_up_to is_separator p.read rest ≡ read_up_to is_separator q.read rest = same_up_to is_separator p.read q.read rest (λ left lt. same left (omega (arith, lt, ap length text.whole, length-append text.front rest))) in
     ap (λ (x : Reading Line (List Line × Option (List RawRecord))). and_then x (λ d. Took (records_of m d))) same_data)
 
@@ -122,7 +135,7 @@ sdfile_is (l ∷ lines) =
 -- ---- in the words of the definition
 
 -- a molfile and the data lines behind it are a record
-record_is : (lines front taken data_lines : List Line) (t : RawTable) → lines ≡ front ++ data_lines → IsMolfile front t → taken ≡ front → EachIs is_separator false data_lines → IsRecord lines (record_of t (taken ++ data_lines))
+record_is : (lines front taken data_lines : List Line) (t : RawTable) → lines ≡ front ++ data_lines → IsMoleculeFile front t → taken ≡ front → EachIs is_separator false data_lines → IsRecord lines (record_of t (taken ++ data_lines))
 record_is lines front taken data_lines t whole is same none =
     record { molfile_lines = front; data_lines = data_lines; whole = whole; molfile = is; no_separator = none; text = ap kept_lines (ap (λ (x : List Line). x ++ data_lines) same ∙ sym whole) }
 
@@ -147,7 +160,7 @@ one_more lines record_lines back separator r records whole separates is h =
     }
 
 -- what a block and the lines behind it make up, by how its data lines end
-block_is : (behind : Part Line (List RawRecord)) (lines front back taken : List Line) (t : RawTable) (data_lines : List Line) (o : Option (List RawRecord)) (records : List RawRecord) → lines ≡ front ++ back → IsMolfile front t → taken ≡ front
+block_is : (behind : Part Line (List RawRecord)) (lines front back taken : List Line) (t : RawTable) (data_lines : List Line) (o : Option (List RawRecord)) (records : List RawRecord) → lines ≡ front ++ back → IsMoleculeFile front t → taken ≡ front
     → UpTo is_separator behind.is back (data_lines, o) → ((ls : List Line) (rs : List RawRecord) → behind.is ls rs → IsSdfile ls rs) → records ≡ records_of (t, taken) (data_lines, o) → IsSdfile lines records
 block_is behind lines front back taken t data_lines None records whole is same d on seen =
     let all : lines ≡ front ++ data_lines = whole ∙ ap (λ (x : List Line). front ++ x) d.rest in
@@ -225,61 +238,112 @@ from_words lines records h =
     let parts = from_blocks h.blocks lines h.block_lines h.last_lines h.last h.whole h.each h.ended in
     (parts.0, subst ((steps parts.0).is lines) (sym h.all) parts.1)
 
--- ---- where a counts line is due
+-- ---- what is live is a front
 
--- behind some blocks and three header lines
-due_to : (n : ℕ) (lines : List Line) → (steps n).due lines → IsCountsLineDue lines
-due_to zero lines d = absurd d
-due_to (suc n) lines d = elim d [
-  | inl d ↦ record { blocks = []; block_lines = []; header_lines = lines; whole = refl; each = refl; three = d }
-  | inr d ↦
-      let s = d.second in
-      let others = due_to n s.back s.here in
-      let record_lines = d.front ++ s.before in
-      let block = record_lines ++ s.separator ∷ [] in
-      let all : lines ≡ block ++ s.back = d.whole ∙ ap (λ (x : List Line). d.front ++ x) s.whole ∙ sym (append_assoc d.front s.before (s.separator ∷ s.back)) ∙ sym (append_assoc record_lines (s.separator ∷ []) s.back) in
-      let r = record_of d.middle.0 (d.middle.1 ++ s.before) in
-      record {
-        blocks = r ∷ others.blocks;
-        block_lines = block ++ others.block_lines;
-        header_lines = others.header_lines;
-        whole = all ∙ ap (λ (x : List Line). block ++ x) others.whole ∙ sym (append_assoc block others.block_lines others.header_lines);
-        each = (block, others.block_lines, refl, record { record_lines = record_lines; separator = s.separator; whole = refl; is = record_is record_lines d.front d.middle.1 s.before d.middle.0 refl d.first.is d.first.lines_are s.none; separates = s.separates }, others.each);
-        three = others.three;
-      }
+-- a block in front of lines that end inside a logical line
+block_inside : (block back : List Line) (r : RawRecord) → IsBlock block r → EndsInsideLine back → EndsInsideLine (block ++ back)
+block_inside block back r is h = record {
+  blocks = r ∷ h.blocks;
+  block_lines = block ++ h.block_lines;
+  header_lines = h.header_lines;
+  table_lines = h.table_lines;
+  whole = ap (λ (x : List Line). block ++ x) h.whole ∙ sym (append_assoc block h.block_lines (h.header_lines ++ h.table_lines));
+  each = (block, h.block_lines, refl, is, h.each);
+  three = h.three;
+  inside = h.inside;
+}
+
+-- a molfile's front is one
+molfile_front : (lines : List Line) → IsMoleculeFront lines → IsSdfileFront lines
+molfile_front lines h = elim h [
+  | inl h ↦
+      let r = record_of h.1 ((lines ++ h.0) ++ []) in
+      inl (h.0, r ∷ [], record { blocks = []; block_lines = []; last = Some r; last_lines = lines ++ h.0; whole = refl; each = refl; ended = record_is (lines ++ h.0) (lines ++ h.0) (lines ++ h.0) [] h.1 (sym (append-nil (lines ++ h.0))) h.2 refl tt; all = refl })
+  | inr h ↦ inr (record { blocks = []; block_lines = []; header_lines = h.header_lines; table_lines = h.table_lines; whole = h.whole; each = refl; three = h.three; inside = h.inside })
 ]
 
--- and only there
-due_from_at : (blocks : List RawRecord) (lines block_lines header_lines : List Line) → lines ≡ block_lines ++ header_lines → Series IsBlock block_lines blocks → length header_lines ≡ 3 → (n : ℕ) × (steps n).due lines
-due_from_at [] lines block_lines header_lines whole each three = (1, inl (omega (arith, ap length whole, length-append block_lines header_lines, ap length each, three)))
-due_from_at (b ∷ bs) lines block_lines header_lines whole each three =
+-- a block in front of a front
+block_front : (lines record_lines back : List Line) (separator : Line) (r : RawRecord) → lines ≡ record_lines ++ separator ∷ back → is_separator separator ≡ true → IsRecord record_lines r → IsSdfileFront back → IsSdfileFront lines
+block_front lines record_lines back separator r whole separates is h = elim h [
+  | inl h ↦
+      let all : lines ++ h.0 ≡ record_lines ++ separator ∷ (back ++ h.0) = ap (λ (x : List Line). x ++ h.0) whole ∙ append_assoc record_lines (separator ∷ back) h.0 in
+      inl (h.0, r ∷ h.1, one_more (lines ++ h.0) record_lines (back ++ h.0) separator r h.1 all separates is h.2)
+  | inr h ↦
+      let block = record_lines ++ separator ∷ [] in
+      let all : block ++ back ≡ lines = append_assoc record_lines (separator ∷ []) back ∙ sym whole in
+      inr (subst EndsInsideLine all (block_inside block back r (record { record_lines = record_lines; separator = separator; whole = refl; is = is; separates = separates }) h))
+]
+
+-- blank lines are one
+blanks_front : (lines : List Line) → EachIs are_blank true lines → IsSdfileFront lines
+blanks_front lines h = inl ([], [], blanks_are (lines ++ []) [] (subst (EachIs are_blank true) (sym (append-nil lines)) h) refl)
+
+to_front : (n : ℕ) (lines : List Line) → (steps n).live lines → IsSdfileFront lines
+to_front zero lines h = blanks_front lines h
+to_front (suc n) lines h = elim h [
+  | inl h ↦ blanks_front lines h
+  | inr h ↦ elim h [
+    | inl h ↦ molfile_front lines h
+    | inr h ↦ elim h.second [
+      | inl none ↦
+          let r = record_of h.middle.0 (h.middle.1 ++ h.back) in
+          inl ([], r ∷ [], subst (λ (x : List Line). IsSdfile x (r ∷ [])) (sym (append-nil lines)) (record { blocks = []; block_lines = []; last = Some r; last_lines = lines; whole = refl; each = refl; ended = record_is lines h.front h.middle.1 h.back h.middle.0 h.whole h.first.is h.first.lines_are none; all = refl }))
+      | inr s ↦
+          let record_lines = h.front ++ s.before in
+          let all : lines ≡ record_lines ++ s.separator ∷ s.back = h.whole ∙ ap (λ (x : List Line). h.front ++ x) s.whole ∙ sym (append_assoc h.front s.before (s.separator ∷ s.back)) in
+          block_front lines record_lines s.back s.separator (record_of h.middle.0 (h.middle.1 ++ s.before)) all s.separates (record_is record_lines h.front h.middle.1 s.before h.middle.0 refl h.first.is h.first.lines_are s.none) (to_front n s.back s.here)
+    ]
+  ]
+]
+
+-- ---- a front is live
+
+-- behind some blocks and three header lines
+inside_from : (blocks : List RawRecord) (lines block_lines behind : List Line) → lines ≡ block_lines ++ behind → Series IsBlock block_lines blocks → EndInTable behind → (n : ℕ) × (steps n).live lines
+inside_from [] lines block_lines behind whole each end =
+    let all : behind ≡ lines = sym (whole ∙ ap (λ (x : List Line). x ++ behind) each) in
+    (1, subst (steps 1).live all (inr (inl (inr end))))
+inside_from (b ∷ bs) lines block_lines behind whole each end =
     let block = each.3 in
     let is = block.is in
-    let back = each.1 ++ header_lines in
-    let one : lines ≡ each.0 ++ back = whole ∙ ap (λ (x : List Line). x ++ header_lines) each.2 ∙ append_assoc each.0 each.1 header_lines in
+    let back = each.1 ++ behind in
+    let one : lines ≡ each.0 ++ back = whole ∙ ap (λ (x : List Line). x ++ behind) each.2 ∙ append_assoc each.0 each.1 behind in
     let two : lines ≡ block.record_lines ++ block.separator ∷ back = one ∙ ap (λ (x : List Line). x ++ back) block.whole ∙ append_assoc block.record_lines (block.separator ∷ []) back in
     let all : lines ≡ is.molfile_lines ++ (is.data_lines ++ block.separator ∷ back) = two ∙ ap (λ (x : List Line). x ++ block.separator ∷ back) is.whole ∙ append_assoc is.molfile_lines is.data_lines (block.separator ∷ back) in
-    let others = due_from_at bs back each.1 header_lines refl each.4 three in (
+    let others = inside_from bs back each.1 behind refl each.4 end in (
       suc others.0,
-      inr (record {
+      inr (inr (record {
         front = is.molfile_lines;
         back = is.data_lines ++ block.separator ∷ back;
         middle = (b.table, is.molfile_lines);
         whole = all;
         first = record { is = is.molfile; lines_are = refl };
-        second = record { before = is.data_lines; separator = block.separator; back = back; whole = refl; none = is.no_separator; separates = block.separates; here = others.1 };
-      }),
+        second = inr (record { before = is.data_lines; separator = block.separator; back = back; whole = refl; none = is.no_separator; separates = block.separates; here = others.1 });
+      })),
     )
+
+from_front : (lines : List Line) → IsSdfileFront lines → sdfile_part.live lines
+from_front lines h = elim h [
+  | inl h ↦ front_is_live exact-sdfile_part lines (h.0, h.1, from_words (lines ++ h.0) h.1 h.2)
+  | inr h ↦ inside_from h.blocks lines h.block_lines (h.header_lines ++ h.table_lines) h.whole h.each (record { header_lines = h.header_lines; table_lines = h.table_lines; whole = refl; three = h.three; inside = h.inside })
+]
+
+-- ---- no line is named
+
+never : (n : ℕ) (lines : List Line) → (steps n).due lines → ⊥
+never zero lines d = d
+never (suc n) lines d = elim d [ inl d ↦ d | inr d ↦ never n d.second.back d.second.here ]
 
 -- The form of SDfiles.
 abbrev pub sdfile : Part Line (List RawRecord)
-sdfile = form IsSdfile IsCountsLineDue sdfile_at
+sdfile = record { is = IsSdfile; live = IsSdfileFront; due = Never; read = sdfile_at }
 
 -- they are read exactly
 pub exact-sdfile : Exact is_v3000 NoLines sdfile
 unfolding sdfile_at
-exact-sdfile = exact-form exact-sdfile_part (completes-limit completes-steps steps-limit)
-    (record { is_to = λ lines records h. to_words h.0 lines records h.1; is_from = from_words; due_to = λ lines d. due_to d.0 lines d.1; due_from = λ lines d. due_from_at d.blocks lines d.block_lines d.header_lines d.whole d.each d.three })
+exact-sdfile = exact-in_words {p = sdfile_part}
+    (record { is_to = λ lines records h. to_words h.0 lines records h.1; is_from = from_words; live_to = λ lines h. to_front h.0 lines h.1; live_from = from_front; due_to = λ lines d. never d.0 lines d.1; due_from = λ lines d. absurd d; reads = λ lines. refl })
+    exact-sdfile_part
 
 -- ---- the laws
 

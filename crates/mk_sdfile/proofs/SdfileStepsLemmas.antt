@@ -22,16 +22,17 @@ use Rattle.mk_text.specs.Lines.{lines_of}
 use Rattle.mk_ctab.specs.declared.fault.TableFault.{TableFault}
 use Rattle.mk_ctab.specs.declared.fault.TableFault.TheVariants.{Bad, V3000, Memory}
 use Rattle.mk_ctab.specs.declared.raw.RawTable.{RawTable}
-use Rattle.mk_ctab.specs.Molfile.{molfile, molfile_at}
 use Rattle.mk_ctab.specs.TableLines.{Line, is_v3000}
 use Rattle.mk_ctab.specs.TableReading.{Fails}
 use Rattle.mk_ctab.specs.TableWalk.{TakesTo}
-use Rattle.mk_ctab.proofs.ForCallers.{exact-molfile, fails_first}
+use Rattle.mk_ctab.proofs.ForCallers.{fails_first}
 use Rattle.mk_sdfile.specs.declared.raw_record.RawRecord.{RawRecord}
 use Rattle.mk_sdfile.specs.declared.sdfile.DataEnd.{DataEnd}
+use Rattle.mk_sdfile.specs.MoleculeFile.{molecule_file, molecule_at}
 use Rattle.mk_sdfile.specs.Sdfile.{is_separator}
 use Rattle.mk_sdfile.specs.SdfileReading.{record_of, records_of, after_molfile, block_part, sdfile_part, sdfile_at, farther_fault}
 use Rattle.mk_sdfile.specs.SdfileSteps.{AnswersFirst, IsSeparatorAt, IsDataEnd, AnswersBlock}
+use Rattle.mk_sdfile.proofs.MoleculeFileLemmas.{exact-molecule}
 use Rattle.mk_sdfile.proofs.SdfileLemmas.{not_blank, exact-sdfile_part, exact-block, exact-file, exact-sdfile, sdfile_is}
 
 -- ---- ranges of lines
@@ -59,9 +60,9 @@ data_more lines from at order lt none goes = subst (EachIs is_separator false) (
 
 -- ---- a block
 
-module _ (behind : Part Line (List RawRecord)) (lines : List Line) (at m end : ℕ) (t : RawTable) (first : at ≤ m) (second : m ≤ end) (takes : TakesLines lines m t (molfile_at (drop at lines))) (none : EachIs is_separator false (slice_range lines m end)) where
+module _ (behind : Part Line (List RawRecord)) (lines : List Line) (at m end : ℕ) (t : RawTable) (first : at ≤ m) (second : m ≤ end) (takes : TakesLines lines m t (molecule_at (drop at lines))) (none : EachIs is_separator false (slice_range lines m end)) where
   -- the molfile is read with its lines
-  molfile_read : (with_lines molfile).read (drop at lines) ≡ Took (t, slice_range lines at m) (drop m lines)
+  molfile_read : (with_lines molecule_file).read (drop at lines) ≡ Took (t, slice_range lines at m) (drop m lines)
   molfile_read =
       let within = takes.within in
       let count : length (drop at lines) - length (drop m lines) ≡ m - at = omega (arith, length-drop at lines, length-drop m lines) in
@@ -96,17 +97,17 @@ module _ (behind : Part Line (List RawRecord)) (lines : List Line) (at m end : �
       ∙ ap (λ (r : RawRecord). and_then (behind.read (drop (end + 1) lines)) (λ rs. Took (r ∷ rs))) made
 
 -- where the molfile fails, the block does
-pub block_fails : (behind : Part Line (List RawRecord)) (lines : List Line) (at : ℕ) (fault : TableFault) → Fails lines fault (molfile_at (drop at lines)) → Fails lines fault ((block_part behind).read (drop at lines))
+pub block_fails : (behind : Part Line (List RawRecord)) (lines : List Line) (at : ℕ) (fault : TableFault) → Fails lines fault (molecule_at (drop at lines)) → Fails lines fault ((block_part behind).read (drop at lines))
 block_fails behind lines at fault h =
-    fails_first lines fault ((with_lines molfile).read (drop at lines)) (λ x. (after_molfile behind x).read) (fails_first lines fault (molfile_at (drop at lines)) (with_taken (drop at lines)) h)
+    fails_first lines fault ((with_lines molecule_file).read (drop at lines)) (λ x. (after_molfile behind x).read) (fails_first lines fault (molecule_at (drop at lines)) (with_taken (drop at lines)) h)
 
 -- the first line that isn't blank stands no farther on than behind the molfile
-pub blanks_before : (lines : List Line) (at m k : ℕ) (t : RawTable) → at ≤ length lines → at ≤ m → TakesLines lines m t (molfile_at (drop at lines)) → StopsAtLine lines false k (read_all are_blank (drop at lines)) → k ≤ m
+pub blanks_before : (lines : List Line) (at m k : ℕ) (t : RawTable) → at ≤ length lines → at ≤ m → TakesLines lines m t (molecule_at (drop at lines)) → StopsAtLine lines false k (read_all are_blank (drop at lines)) → k ≤ m
 blanks_before lines at m k t inside order takes stops = elim (cases_lt m k) [
   | inr le ↦ le
   | inl lt ↦
       let counted = stops.counted in
-      let is = (part_found exact-molfile at lines m t inside takes).part.is in
+      let is = (part_found exact-molecule at lines m t inside takes).part.is in
       let blank = (exact-lines_to_end {says = is_v3000} are_blank).fits (drop at lines) (drop (k - 1) lines) false stops.stop in
       let size : length blank.front ≡ (k - 1) - at = omega (arith, counted.0, counted.1, ap length blank.whole, length-append blank.front (drop (k - 1) lines), length-drop at lines, length-drop (k - 1) lines) in
       let cut : take ((k - 1) - at) (drop at lines) ≡ blank.front = ap (take ((k - 1) - at)) blank.whole ∙ take_at blank.front (drop (k - 1) lines) ((k - 1) - at) size in
@@ -177,15 +178,15 @@ module _ (lines : List Line) (at k : ℕ) (stops : StopsAtLine lines false k (re
 -- ---- the answer for a block
 
 -- the molfile ends behind the line where it begins
-pub molfile_ahead : (lines : List Line) (at m : ℕ) (t : RawTable) → at ≤ length lines → TakesLines lines m t (molfile_at (drop at lines)) → at < m
+pub molfile_ahead : (lines : List Line) (at m : ℕ) (t : RawTable) → at ≤ length lines → TakesLines lines m t (molecule_at (drop at lines)) → at < m
 molfile_ahead lines at m t inside takes =
-    let part = part_found exact-molfile at lines m t inside takes in
+    let part = part_found exact-molecule at lines m t inside takes in
     let is = part.part.is in
     let within = part.part.within in
     let from = part.from in
     omega (arith, is.three, ap length is.whole, length-append is.header_lines is.table_lines, length-take-le (m - at) (drop at lines) within)
 
-module _ (text : List ℕ) (at : ℕ) (behind : LineStart) (t : RawTable) (inside : at ≤ length (lines_of text)) (takes : TakesTo text behind t (molfile_at (drop at (lines_of text)))) (end : LineStart) (order : behind.line ≤ end.line) (none : EachIs is_separator false (slice_range (lines_of text) behind.line end.line)) where
+module _ (text : List ℕ) (at : ℕ) (behind : LineStart) (t : RawTable) (inside : at ≤ length (lines_of text)) (takes : TakesTo text behind t (molecule_at (drop at (lines_of text)))) (end : LineStart) (order : behind.line ≤ end.line) (none : EachIs is_separator false (slice_range (lines_of text) behind.line end.line)) where
   -- by whether a separator stands behind the block
   answer_by : (next : Option LineStart) → MatchOption next (end.line ≡ length (lines_of text)) (IsSeparatorAt text end.line) → AnswersBlock text at (Ok (record_of t (slice_range (lines_of text) at end.line), next))
   unfolding sdfile_at
@@ -202,7 +203,7 @@ module _ (text : List ℕ) (at : ℕ) (behind : LineStart) (t : RawTable) (insid
       }
 
 -- what was read is the answer
-pub block_answer : (text : List ℕ) (at : ℕ) (behind : LineStart) (t : RawTable) (found : DataEnd) (kept : List ℕ) → at ≤ length (lines_of text) → TakesTo text behind t (molfile_at (drop at (lines_of text))) → IsDataEnd text behind.line found → kept ≡ kept_lines (slice_range (lines_of text) at found.end.line)
+pub block_answer : (text : List ℕ) (at : ℕ) (behind : LineStart) (t : RawTable) (found : DataEnd) (kept : List ℕ) → at ≤ length (lines_of text) → TakesTo text behind t (molecule_at (drop at (lines_of text))) → IsDataEnd text behind.line found → kept ≡ kept_lines (slice_range (lines_of text) at found.end.line)
     → AnswersBlock text at (Ok (record { table = t; text = kept }, found.next))
 block_answer text at behind t found kept inside takes is same =
     rw same (answer_by text at behind t inside takes found.end is.order is.no_separator found.next is.next)

@@ -1,5 +1,5 @@
 -- The text of a record is an SDfile of that one record.
-use Rattle.std.proofs.Common.{◌≡◌, ℕ, zero, suc, ◌-◌, Bool, true, false, eqb, All, Some, List, [], ◌∷◌, length, take, map, refl, sym, ap, subst, ◌∙◌}
+use Rattle.std.proofs.Common.{◌≡◌, ℕ, zero, suc, ◌-◌, Bool, true, false, eqb, All, Some, List, [], ◌∷◌, length, take, map, refl, sym, ap, subst, ◌∙◌, inl, inr}
 use Rattle.std.specs.List.{AllByRecursion, starts_with, suffix_len}
 use Rattle.std.specs.Prelude.{Contains, codes, nat_eq}
 use Rattle.std.proofs.lemmas.List.{length-map, map-append}
@@ -8,10 +8,13 @@ use Rattle.mk_form.specs.ToEnd.{EachIs}
 use Rattle.mk_text.specs.KeptLines.{is_cr, without_crs, kept_lines}
 use Rattle.mk_text.specs.Lines.{lines_of}
 use Rattle.mk_text.proofs.ForCallers.{both, kept_lines_are_read, kept_lines_stay, lines_hold_no_lf}
+use Rattle.mk_ctab.specs.declared.raw.RawTable.{RawTable}
 use Rattle.mk_ctab.specs.KeptTables.{KeepsItsText}
 use Rattle.mk_ctab.specs.TableLines.{Line}
 use Rattle.mk_ctab.proofs.ForCallers.{whole_is_table}
+use Rattle.mk_v3000.proofs.ForCallers.{kept_lines_are_the_table}
 use Rattle.mk_sdfile.specs.declared.raw_record.RawRecord.{RawRecord}
+use Rattle.mk_sdfile.specs.MoleculeFile.{IsEitherTable}
 use Rattle.mk_sdfile.specs.Sdfile.{is_separator, IsRecord, IsSdfile, TextIsItsRecord}
 use Rattle.mk_sdfile.proofs.SdfileFactLemmas.{of_all}
 
@@ -43,6 +46,10 @@ stays (line ∷ lines) none = (stays_at (is_separator (without_crs line)) line r
 abbrev NoLf : Line → Type 0
 NoLf line = Contains line 10 → ⊥
 
+-- a table of either kind is, without the CR bytes at the ends of its lines, the same table
+kept_table : (lines : List Line) (t : RawTable) → IsEitherTable lines t → KeepsItsText t → IsEitherTable (map without_crs lines) t
+kept_table lines t h keeps = elim h [ inl h ↦ inl (kept_lines_are_the_table lines t h) | inr h ↦ inr (whole_is_table lines t h keeps) ]
+
 -- the lines of a record are, without the CR bytes at their ends, the same record
 kept_record : (lines : List Line) (r : RawRecord) → IsRecord lines r → All NoLf lines → KeepsItsText r.table → IsRecord (map without_crs lines) r
 kept_record lines r h none keeps =
@@ -57,7 +64,7 @@ kept_record lines r h none keeps =
         table_lines = map without_crs molfile.table_lines;
         whole = ap (map without_crs) molfile.whole ∙ map-append without_crs molfile.header_lines molfile.table_lines;
         three = length-map molfile.header_lines without_crs ∙ molfile.three;
-        is = whole_is_table molfile.table_lines r.table molfile.is keeps;
+        is = kept_table molfile.table_lines r.table molfile.is keeps;
       };
       no_separator = stays h.data_lines h.no_separator;
       text = h.text ∙ sym again;

@@ -1,3 +1,4 @@
+pub mod MoleculeFile
 pub mod Sdfile
 pub mod SdfileReading
 pub mod SdfileSteps

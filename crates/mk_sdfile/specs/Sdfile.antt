@@ -1,23 +1,26 @@
 -- SDfiles: a relation between a whole list of lines and records.
 --     IsSdfile lines records        the lines are the records of an SDfile, in order
---     IsBadSdfileLine lines k       line k is the first that no SDfile can have behind the lines
---                                   before it
---     IsV3000Line lines k           line k says V3000, and a counts line is due there
+--     IsSdfileFront lines           they are a front of an SDfile, or end inside a logical line of a
+--                                   V3000 table
+--     IsBadSdfileLine lines k       line k is the first with which they are no such front
+--     IsV3000Line lines k           line k is named V3000, which no line of an SDfile is
 --     HasOneValue, HasBadLine, HasOneBadLine     three laws of it
 --     TextIsItsRecord               and one of the texts of records
--- What a molfile is, is said in mk_ctab, and what is kept of lines in mk_text.
-use Rattle.std.specs.Prelude.{◌≡◌, ◌↔◌, ℕ, Bool, true, false, nat_eq, codes, List, [], ◌∷◌, ◌++◌, length, All, Option, MatchOption, option_to_list}
+-- What a molfile is, is said in MoleculeFile.antt, and what is kept of lines in mk_text.
+use Rattle.std.specs.Prelude.{◌≡◌, ◌↔◌, ℕ, Bool, true, false, nat_eq, codes, List, [], ◌∷◌, ◌++◌, length, All, Option, MatchOption, option_to_list, ◌⊎◌}
 use Rattle.std.specs.List.{starts_with}
-use Rattle.mk_form.specs.Fronts.{IsBadLine, IsNamed}
+use Rattle.mk_form.specs.Exact.{Never}
+use Rattle.mk_form.specs.Fronts.{IsFront, IsBadLineWhere, IsNamed}
 use Rattle.mk_form.specs.Rows.{Series}
 use Rattle.mk_form.specs.ToEnd.{EachIs}
 use Rattle.mk_text.specs.Columns.{are_blank}
 use Rattle.mk_text.specs.KeptLines.{kept_lines}
 use Rattle.mk_text.specs.Lines.{lines_of}
 use Rattle.mk_ctab.specs.KeptTables.{KeepsItsText}
-use Rattle.mk_ctab.specs.Molfile.{IsMolfile}
 use Rattle.mk_ctab.specs.TableLines.{Line, is_v3000}
+use Rattle.mk_v3000.specs.V3000Table.{EndInside}
 use Rattle.mk_sdfile.specs.declared.raw_record.RawRecord.{RawRecord}
+use Rattle.mk_sdfile.specs.MoleculeFile.{IsMoleculeFile}
 
 -- ---- the form
 
@@ -25,13 +28,13 @@ use Rattle.mk_sdfile.specs.declared.raw_record.RawRecord.{RawRecord}
 abbrev pub is_separator : Line → Bool
 is_separator line = starts_with nat_eq line (codes "$$$$")
 
--- A molfile and data lines, which are any lines that are no separator. The record's text are these
+-- A molfile of either kind and data lines, which are any lines that are no separator. The record's text are these
 -- lines as they are kept.
 pub record IsRecord (lines : List Line) (of : RawRecord) : Type 0 where
   pub molfile_lines : List Line
   pub data_lines : List Line
   pub whole : lines ≡ molfile_lines ++ data_lines
-  pub molfile : IsMolfile molfile_lines of.table
+  pub molfile : IsMoleculeFile molfile_lines of.table
   pub no_separator : EachIs is_separator false data_lines
   pub text : of.text ≡ kept_lines lines
 
@@ -56,23 +59,30 @@ pub record IsSdfile (lines : List Line) (records : List RawRecord) : Type 0 wher
 
 -- ---- the line that is named
 
--- line k is the first that no SDfile can have behind the lines before it, or one more than the
--- number of lines
-abbrev pub IsBadSdfileLine : List Line → ℕ → Type 0
-IsBadSdfileLine lines k = IsBadLine IsSdfile lines k
-
--- a counts line is due: behind some blocks and three header lines
-pub record IsCountsLineDue (lines : List Line) : Type 0 where
+-- The lines end inside a logical line of a V3000 table, behind some blocks and three header lines.
+pub record EndsInsideLine (lines : List Line) : Type 0 where
   pub blocks : List RawRecord
   pub block_lines : List Line
   pub header_lines : List Line
-  pub whole : lines ≡ block_lines ++ header_lines
+  pub table_lines : List Line
+  pub whole : lines ≡ block_lines ++ (header_lines ++ table_lines)
   pub each : Series IsBlock block_lines blocks
   pub three : length header_lines ≡ 3
+  pub inside : EndInside table_lines
 
--- line k says V3000, and a counts line is due there
+-- some further lines, or none, make the lines an SDfile; or they end inside a logical line of a
+-- V3000 table, whether or not that can still be mended
+abbrev pub IsSdfileFront : List Line → Type 0
+IsSdfileFront lines = IsFront IsSdfile lines ⊎ EndsInsideLine lines
+
+-- line k is the first with which the lines are no front, or one more than the number of lines
+abbrev pub IsBadSdfileLine : List Line → ℕ → Type 0
+IsBadSdfileLine lines k = IsBadLineWhere IsSdfileFront IsSdfile lines k
+
+-- No line of an SDfile is named V3000: where a counts line says so, the table is read. The word
+-- stands for the statements above, which tell both kinds of files alike.
 abbrev pub IsV3000Line : List Line → ℕ → Type 0
-IsV3000Line lines k = IsNamed IsCountsLineDue is_v3000 lines k
+IsV3000Line lines k = IsNamed Never is_v3000 lines k
 
 -- ---- laws
 

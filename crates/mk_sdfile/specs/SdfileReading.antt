@@ -17,9 +17,9 @@ use Rattle.mk_text.specs.KeptLines.{kept_lines}
 use Rattle.mk_ctab.specs.declared.fault.TableFault.{TableFault}
 use Rattle.mk_ctab.specs.declared.fault.TableFault.TheVariants.{Bad, V3000, Memory}
 use Rattle.mk_ctab.specs.declared.raw.RawTable.{RawTable}
-use Rattle.mk_ctab.specs.Molfile.{molfile}
 use Rattle.mk_ctab.specs.TableLines.{Line}
 use Rattle.mk_sdfile.specs.declared.raw_record.RawRecord.{RawRecord}
+use Rattle.mk_sdfile.specs.MoleculeFile.{molecule_file}
 use Rattle.mk_sdfile.specs.Sdfile.{is_separator}
 
 -- ---- the parts
@@ -44,7 +44,7 @@ after_molfile behind m = seen_as (records_of m) (up_to is_separator behind)
 
 -- a block, and then what stands behind it
 abbrev pub block_part : Part Line (List RawRecord) → Part Line (List RawRecord)
-block_part behind = sequence (with_lines molfile) (after_molfile behind)
+block_part behind = sequence (with_lines molecule_file) (after_molfile behind)
 
 -- Blank lines, or a block and then the same again. The first lines of a text may be both, and then
 -- the farther stop counts.

@@ -1,5 +1,5 @@
 // Reads SDfiles, from where one line begins to where the next one does.
-ghost use Rattle.std.specs.Prelude.{◌≡◌, ◌++◌, ◌<◌, ◌∷◌, [], All, Ok, IfOk, MatchOption, drop, length, List, nat_eq};
+ghost use Rattle.std.specs.Prelude.{◌≡◌, ◌++◌, ◌<◌, ◌∷◌, [], All, Ok, IfOk, MatchOption, drop, length, List, max, nat_eq};
 ghost use Rattle.mk_form.specs.Reading.{Took, StopsAtLine};
 ghost use Rattle.mk_form.specs.ToEnd.{read_all};
 ghost use Rattle.mk_text.specs.Columns.{are_blank};
@@ -12,8 +12,9 @@ ghost use Rattle.mk_sdfile.specs.Sdfile.{is_separator, IsSdfile, IsBadSdfileLine
 ghost use Rattle.mk_sdfile.specs.SdfileReading.{sdfile_at, farther_fault};
 ghost use Rattle.mk_sdfile.specs.SdfileSteps.{IsDataEnd, AnswersFirst, AnswersBlock};
 
+use crate::molecule_file::molecule_from;
 use crate::raw_record::{RawRecord, RawRecords};
-use mk_ctab::{TableFault, molfile_from};
+use mk_ctab::TableFault;
 use mk_text::{LineStart, Listed, first_line, is_blank, kept_lines_between, line_from};
 use std::alloc::Global;
 
@@ -76,7 +77,7 @@ fn block_from(
     requires { IsLineStart text.now at }
     ensures { AnswersBlock text.now at.line result }
 {
-    let (table, behind) = molfile_from(alloc, text, at)?;
+    let (table, behind) = molecule_from(alloc, text, at)?;
     let data = data_from(text, behind);
     let kept = kept_lines_between(alloc, text, at, data.end)?;
     let record = RawRecord {
@@ -121,16 +122,18 @@ fn records_from(alloc: Global, text: &[u8]) -> Result<RawRecords, TableFault>
 }
 
 /// Reads the records of an SDfile, in the order of the file. A file of blank lines alone, or of no
-/// lines, has none. Lines count from 1, in the whole text.
+/// lines, has none. A table of the format V3000 is read as its twin, and no line is named V3000.
+/// Lines count from 1, in the whole text.
 pub fn read_sdfile(alloc: Global, text: &[u8]) -> Result<RawRecords, TableFault>
     ensures sdfile { IfOk result (IsSdfile (lines_of text.now)) }
     ensures bad { IfBad result (IsBadSdfileLine (lines_of text.now)) }
     ensures unnamed { IfBad result (λ k. ¬ (IsV3000Line (lines_of text.now) k)) }
     ensures v3000 { IfV3000 result (IsBadSdfileLine (lines_of text.now)) }
     ensures named { IfV3000 result (IsV3000Line (lines_of text.now)) }
+    ensures never { IfV3000 result (λ k. ⊥) }
 
     ensures keeps { IfOk result (All (λ r. IsRawTable r.table)) }
-    ensures fewer { IfOk result (All (λ r. length r.table.props < length (lines_of text.now))) }
+    ensures fewer { IfOk result (All (λ r. length r.table.props < max (length (lines_of text.now)) 2998)) }
 
     // The same, computed from the left.
     ensures value { AnswersText (lines_of text.now) result (sdfile_at (lines_of text.now)) }

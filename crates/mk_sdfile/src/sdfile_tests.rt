@@ -22,7 +22,7 @@ fn answered(answer: Result<RawRecords, TableFault>) -> Want {
     }
 }
 
-static ROWS: [(&str, &str, Want); 34] = [
+static ROWS: [(&str, &str, Want); 38] = [
     ("no byte", "", Want::Records(0)),
     ("a blank line", "  \n", Want::Records(0)),
     ("four blank lines", "\n\n\n\n", Want::Records(0)),
@@ -104,12 +104,32 @@ static ROWS: [(&str, &str, Want); 34] = [
     (
         "a line that says V3000 where a counts line is due",
         "\n\n\n  0  0  0     0  0            999 V3000\n",
-        Want::V3000(4),
+        Want::Bad(5),
     ),
     (
         "one in the second block",
         "\n\n\n  0\nM  END\n$$$$\na\nb\nc\n  0  0  0     0  0            999 V3000\nM  END\n",
-        Want::V3000(10),
+        Want::Bad(11),
+    ),
+    (
+        "a V3000 table, and a record of the other kind behind it",
+        "\n\n\n  0  0  0     0  0            999 V3000\r\nM  V30 BEGIN CTAB\r\nM  V30 COUNTS 0 0\r\nM  V30 BEGIN ATOM\nM  V30 END ATOM\nM  V30 END CTAB\nM  END\n> <a>\nM  V30 x -\n$$$$\n\n\n\n  0\nM  END\n",
+        Want::Records(2),
+    ),
+    (
+        "a V3000 table that is cut inside a logical line",
+        "\n\n\n  0\nM  END\n$$$$\na\nb\nc\n  0  0  0     0  0            999 V3000\nM  V30 x -\n",
+        Want::Bad(12),
+    ),
+    (
+        "and one whose logical line ends",
+        "\n\n\n  0\nM  END\n$$$$\na\nb\nc\n  0  0  0     0  0            999 V3000\nM  V30 x -\nM  V30 y\n",
+        Want::Bad(12),
+    ),
+    (
+        "a separator inside a V3000 table",
+        "\n\n\n  0  0  0     0  0            999 V3000\nM  V30 BEGIN CTAB\n$$$$\n",
+        Want::Bad(6),
     ),
     (
         "one in the header",

@@ -1,6 +1,6 @@
 use Rattle.mk_text.specs.Lines.{lines_of}
 use Rattle.mk_ctab.proofs.ForCallers.{text_by, bad_by, unnamed_by, v3000_by, named_by}
-use Rattle.mk_sdfile.proofs.SdfileFactLemmas.{keeps_by, fewer_by}
+use Rattle.mk_sdfile.proofs.SdfileFactLemmas.{keeps_by, fewer_by, never_named}
 use Rattle.mk_sdfile.proofs.SdfileLemmas.{exact-sdfile}
 use Rattle.mk_sdfile.proofs.sdfile.read_sdfile.Goals as goal
 
@@ -24,3 +24,6 @@ returns-clause-keeps c = keeps_by (lines_of c.args.text.now) c.records_from.resu
 
 pub returns-clause-fewer : goal.returns-clause-fewer
 returns-clause-fewer c = fewer_by (lines_of c.args.text.now) c.records_from.result (text_by exact-sdfile (lines_of c.args.text.now) c.records_from.result c.records_from.ensures)
+
+pub returns-clause-never : goal.returns-clause-never
+returns-clause-never c = never_named (lines_of c.args.text.now) c.records_from.result (named_by exact-sdfile (lines_of c.args.text.now) c.records_from.result c.records_from.ensures)

@@ -1,0 +1,14 @@
+pub mod WalkingLemmas
+pub mod WordLemmas
+pub mod PushLemmas
+pub mod RunLemmas
+pub mod TableLemmas
+pub mod FreshLemmas
+pub mod FewLemmas
+pub mod FrontLemmas
+pub mod LiveLemmas
+pub mod ReaderLemmas
+pub mod KeptLemmas
+pub mod FactLemmas
+pub mod LawLemmas
+pub mod ForCallers
