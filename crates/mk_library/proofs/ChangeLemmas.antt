@@ -4,9 +4,9 @@ use Rattle.std.specs.List.{AllByRecursion}
 use Rattle.std.proofs.lemmas.Bool.{true≢false}
 use Rattle.std.proofs.lemmas.List.{length-map}
 use Rattle.std.proofs.lemmas.Grind.{common_steps}
-use Rattle.mk_index.specs.declared.by_number.Numbered.{Numbered}
-use Rattle.mk_index.specs.Rows.{holds, item_at, put_in_order, replaced, without}
-use Rattle.mk_index.proofs.ForCallers.{put_rising, replaced_rising, without_rising}
+use Rattle.mk_rows.specs.declared.by_number.Numbered.{Numbered}
+use Rattle.mk_rows.specs.Rows.{holds, item_at, put_in_order, replaced, without}
+use Rattle.mk_rows.proofs.ForCallers.{put_rising, replaced_rising, without_rising}
 use Rattle.mk_model.specs.Molecules.{Molecule}
 use Rattle.mk_outside.specs.declared.tables.RecordRow.{RecordRow}
 use Rattle.mk_outside.specs.declared.tables.Change.TheVariants.{PutRecord, DropRecord}

@@ -5,7 +5,7 @@ use Rattle.std.specs.List.{AllByRecursion}
 use Rattle.std.proofs.lemmas.List.{length-map}
 use Rattle.std.proofs.lemmas.Option.{slice_get_read}
 use Rattle.std.proofs.lemmas.Grind.{common_steps}
-use Rattle.mk_index.specs.declared.by_number.Numbered.{Numbered}
+use Rattle.mk_rows.specs.declared.by_number.Numbered.{Numbered}
 use Rattle.mk_model.specs.Molecules.{Molecule}
 use Rattle.mk_outside.specs.declared.tables.RecordRow.{RecordRow}
 use Rattle.mk_sdfile.specs.declared.raw_record.RawRecord.{RawRecord}

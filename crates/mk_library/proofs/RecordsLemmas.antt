@@ -3,10 +3,10 @@ use Rattle.std.proofs.Common.{◌≡◌, ℕ, ◌+◌, ◌<◌, ◌≤◌, Bool,
 use Rattle.std.specs.List.{AllByRecursion}
 use Rattle.std.proofs.lemmas.Bool.{cond_both, eqb-true, eqb-false, ltb-true, ltb-false}
 use Rattle.std.proofs.lemmas.Grind.{common_steps}
-use Rattle.mk_index.specs.declared.by_number.Numbered.{Numbered}
+use Rattle.mk_rows.specs.declared.by_number.Numbered.{Numbered}
 use Rattle.std.specs.Prelude.{IfNone, IfSome}
 use Rattle.mk_library.specs.Library.{IsKept, IsLeastHeld, IsLibrary, NoneHeld}
-use Rattle.mk_index.specs.Rows.{holds, item_at, IsLeastFrom, NoneFrom, IsRising, put_in_order, replaced, without}
+use Rattle.mk_rows.specs.Rows.{holds, item_at, IsLeastFrom, NoneFrom, IsRising, put_in_order, replaced, without}
 use Rattle.mk_model.specs.Molecules.{Molecule}
 use Rattle.mk_outside.specs.declared.tables.RecordRow.{RecordRow}
 use Rattle.mk_outside.specs.Rows.{put, in_place, in_order}
@@ -124,6 +124,11 @@ module _ {T : Type 0} where
   pub fewer_without : (n : ℕ) (rows : List (Numbered T)) → length (without n rows) ≤ length rows
   fewer_without n [] = omega arith
   fewer_without n (x ∷ rows) = grind (arith, common_steps, fewer_without n rows)
+
+-- where an item was taken out, there is room for one more
+pub freed_there : {A : Type 0} (r : Option A) (old new : ℕ) → (r ≡ None → ⊥) → IfSome r (λ _. old + 1 ≤ new) → old + 1 ≤ new
+freed_there None old new some freed = absurd (some refl)
+freed_there (Some item) old new some freed = freed
 
 -- ---- bytes
 

@@ -6,9 +6,9 @@ use Rattle.std.proofs.lemmas.Bool.{cases_lt, true≢false}
 use Rattle.std.proofs.lemmas.List.{length-append}
 use Rattle.std.proofs.lemmas.Grind.{common_steps}
 use Rattle.mk_text.specs.Lines.{lines_of}
-use Rattle.mk_index.specs.declared.by_number.Numbered.{Numbered}
-use Rattle.mk_index.specs.Rows.{holds, IsLeastFrom, NoneFrom, put_in_order}
-use Rattle.mk_index.proofs.ForCallers.{none_of, put_rising}
+use Rattle.mk_rows.specs.declared.by_number.Numbered.{Numbered}
+use Rattle.mk_rows.specs.Rows.{holds, IsLeastFrom, NoneFrom, put_in_order}
+use Rattle.mk_rows.proofs.ForCallers.{none_of, put_rising}
 use Rattle.mk_model.specs.Molecules.{Molecule}
 use Rattle.mk_outside.specs.declared.tables.RecordRow.{RecordRow}
 use Rattle.mk_sdfile.specs.declared.raw_record.RawRecord.{RawRecord}

@@ -4,12 +4,14 @@
 --     tables_of library            its record rows and next number, as tables without queries and
 --                                  cursors
 --     IsSame a b                   two libraries hold the same, whatever room they have
+--     HaveSamePostings a b         each bit has one list of numbers in both
 --     IsLeastHeld from records n   the number is the least that is held, from there on
 --     NoneHeld from records        from there on none is held
-use Rattle.std.specs.Prelude.{◌≡◌, ℕ, ◌<◌, ◌≤◌, true, false, List}
+use Rattle.std.specs.Prelude.{◌≡◌, ◌↔◌, ℕ, ◌<◌, ◌≤◌, true, false, List}
 use Rattle.std.specs.List.{AllByRecursion}
-use Rattle.mk_index.specs.Rows.{IsRising}
-use Rattle.mk_index.specs.declared.by_number.Numbered.{Numbered}
+use Rattle.mk_index.specs.Postings.{IsPosting}
+use Rattle.mk_rows.specs.Rows.{IsRising}
+use Rattle.mk_rows.specs.declared.by_number.Numbered.{Numbered}
 use Rattle.mk_model.specs.Molecules.{Molecule}
 use Rattle.mk_outside.specs.declared.tables.RecordRow.{RecordRow}
 use Rattle.mk_outside.specs.declared.tables.Tables.{Tables}
@@ -18,7 +20,7 @@ use Rattle.mk_library.specs.Records.{AreHeld, AreRising, is_held, records_of, te
 use Rattle.mk_library.specs.Limits.{IsWithinLimits}
 
 -- what is seen of a `Library`: its records, their molecules, the number that comes next, and how
--- many more records it has room for
+-- many more records it counts on room for
 pub record LibraryView : Type 0 where
   pub records : List RecordRow
   pub rows : List (Numbered Molecule)
@@ -47,6 +49,10 @@ pub record IsSame (a b : LibraryView) : Type 0 where
   pub rows : b.rows ≡ a.rows
   pub next_record : b.next_record ≡ a.next_record
 
+-- a list of numbers is the posting of a bit in one library exactly where it is that in the other
+abbrev pub HaveSamePostings : LibraryView → LibraryView → Type 0
+HaveSamePostings a b = (bit : ℕ) (numbers : List ℕ) → IsPosting a.rows bit numbers ↔ IsPosting b.rows bit numbers
+
 -- the number is the least that is held and not below `from`
 pub record IsLeastHeld (from : ℕ) (records : List RecordRow) (n : ℕ) : Type 0 where
   pub held : is_held n records ≡ true
@@ -66,3 +72,8 @@ pub record IsKept (texts : List (Numbered (List ℕ))) (rows : List (Numbered Mo
   pub limits : IsWithinLimits (records_of texts)
   pub held : AreHeld (records_of texts) rows
   pub counted : bytes ≡ text_bytes (records_of texts)
+
+-- there is room for so many more, among the texts and on the shelf
+pub record HasRoom (texts shelf room : ℕ) : Type 0 where
+  pub in_texts : room ≤ texts
+  pub on_shelf : room ≤ shelf

@@ -15,7 +15,7 @@ use Rattle.mk_sdfile.specs.Sdfile.{IsSdfile}
 use Rattle.mk_model.specs.Molecules.{IsMolecule, Molecule}
 use Rattle.mk_mol.specs.Filled.{IsFilled}
 use Rattle.mk_mol.specs.FirstFault.{PassesAll}
-use Rattle.mk_index.specs.declared.by_number.Numbered.{Numbered}
+use Rattle.mk_rows.specs.declared.by_number.Numbered.{Numbered}
 
 -- the text is an SDfile of one record, is that record's own text, and its table passes the checks
 -- of molecules

@@ -1,5 +1,5 @@
 // Edits made ready: what a load, a replacement or a removal would change.
-ghost use Rattle.std.specs.Prelude.{◌≡◌, ◌+◌, ◌<◌, ◌≤◌, ℕ, IfOk, length};
+ghost use Rattle.std.specs.Prelude.{◌≡◌, ◌+◌, ◌<◌, ◌≤◌, ℕ, IfOk, OnErr, length};
 ghost use Rattle.mk_library.specs.Edits.{Load, Replace, Remove, puts_from};
 ghost use Rattle.mk_library.specs.FirstRefusal.{IfRefused, IsAllowed, IsFirstRefusal};
 ghost use Rattle.mk_library.specs.Library.{IsSame};
@@ -35,6 +35,8 @@ impl Library {
         ensures refused { IfRefused result (IsFirstRefusal self.old.records self.old.next_record (Load text.now)) }
 
         ensures same { IsSame self.old self.new }
+        ensures kept { self.old.spare ≤ self.new.spare }
+        ensures err { OnErr result (self.new.spare ≡ self.old.spare) }
     {
         let raws = match records_of(alloc, text) {
             Ok(raws) => raws,
@@ -48,8 +50,9 @@ impl Library {
             return Err(LoadRefusal::Full);
         }
         let Prepared { texts, mols } = prepared;
-        self.reserve(texts.len())?;
+        let more = texts.len();
         let changes = puts_from(alloc, self.next_number(), texts)?;
+        self.reserve(more)?;
         Ok(Pending::of(changes, mols))
     }
 
@@ -66,6 +69,8 @@ impl Library {
         ensures refused { IfRefused result (IsFirstRefusal self.old.records self.old.next_record (Replace number text.now)) }
 
         ensures same { IsSame self.old self.new }
+        ensures kept { self.old.spare ≤ self.new.spare }
+        ensures err { OnErr result (self.new.spare ≡ self.old.spare) }
     {
         if !self.holds(number) {
             return Err(LoadRefusal::NoRecord);
@@ -88,8 +93,8 @@ impl Library {
             return Err(LoadRefusal::Full);
         }
         let Prepared { texts, mols } = prepared;
-        self.reserve(1)?;
         let changes = puts_from(alloc, number, texts)?;
+        self.reserve(1)?;
         Ok(Pending::of(changes, mols))
     }
 
@@ -101,6 +106,7 @@ impl Library {
         ensures refused { IfRefused result (IsFirstRefusal self.old.records self.old.next_record (Remove number)) }
 
         ensures same { IsSame self.old self.new }
+        ensures kept { self.new.spare ≡ self.old.spare }
     {
         if !self.holds(number) {
             return Err(LoadRefusal::NoRecord);

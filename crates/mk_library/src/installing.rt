@@ -1,5 +1,6 @@
 // A pending change made.
-ghost use Rattle.std.specs.Prelude.{◌≡◌};
+ghost use Rattle.std.specs.Prelude.{◌≡◌, ◌+◌, ◌≤◌};
+ghost use Rattle.mk_outside.specs.Store.{record_puts};
 ghost use Rattle.mk_outside.specs.Tables.{after_batch};
 ghost use Rattle.mk_library.specs.Library.{tables_of};
 ghost use Rattle.mk_library.specs.Pending.{PendingFits};
@@ -8,10 +9,12 @@ use crate::{Library, Pending};
 use mk_outside::Change;
 
 impl Library {
-    /// Makes a pending change that fits. It takes no memory.
+    /// Makes a pending change that fits. It takes no memory, and from the room to spare at most 1 for
+    /// each record that is put.
     pub fn install(&mut self, pending: Pending)
         requires { PendingFits self.old pending }
-        ensures { tables_of self.new ≡ after_batch pending.changes (tables_of self.old) }
+        ensures tables { tables_of self.new ≡ after_batch pending.changes (tables_of self.old) }
+        ensures spare { self.old.spare ≤ self.new.spare + record_puts pending.changes }
     {
         let (changes, mols) = pending.into_parts();
         let mut changes = changes.into_iter();

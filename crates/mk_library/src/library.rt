@@ -1,6 +1,6 @@
 // The library, its readers, and one change of it at a time.
-ghost use Rattle.std.specs.Prelude.{◌≡◌, ◌↔◌, ◌+◌, ◌≤◌, ◌++◌, ◌∷◌, [], true, false, IsTrue, IfSome, IfNone, OnOk, Some};
-ghost use Rattle.mk_index.specs.Rows.{holds};
+ghost use Rattle.std.specs.Prelude.{◌≡◌, ◌↔◌, ◌+◌, ◌≤◌, ◌++◌, ◌∷◌, [], true, false, IsTrue, IfSome, IfNone, OnErr, OnOk, Some};
+ghost use Rattle.mk_rows.specs.Rows.{holds};
 ghost use Rattle.mk_outside.specs.Tables.{after_change};
 ghost use Rattle.mk_outside.specs.declared.tables.Change.TheVariants.{PutRecord, DropRecord};
 ghost use Rattle.mk_library.specs.Records.{IsMoleculeOf, AreHeld, is_held, records_of, text_of};
@@ -9,9 +9,10 @@ ghost use Rattle.mk_library.specs.Pending.{IsNumbered, KeepsLimits};
 ghost use Rattle.mk_library.specs.Steps.{GoesBehind, LoadKeeps, bytes_of};
 ghost use Rattle.mk_library.specs.StoredRows.{HasPlace};
 
-use mk_index::{ByNumber, Numbered, Shelf};
+use mk_index::Shelf;
 use mk_model::Mol;
 use mk_outside::{Bytes, Memory, RecordRow};
+use mk_rows::{ByNumber, Numbered};
 use std::alloc::Global;
 use std::marker::Model;
 
@@ -39,19 +40,20 @@ fn go_into(texts: &[Bytes], most: usize) -> bool
     true
 }
 
-/// The texts of records and their molecules, by rising number, and the number that comes next.
+/// The texts of records and their molecules, by rising number, the number that comes next, and for
+/// how many more records there is room.
 #[derive(Debug, Drop)]
 pub struct Library {
     texts: ByNumber<Bytes>,
     shelf: Shelf,
     bytes: usize,
     next: u32,
+    room: usize,
 }
 
 impl Model for Library {
-    ghost use Rattle.std.specs.Prelude.{◌≡◌, min};
-    ghost use Rattle.mk_library.specs.Records.{records_of, text_bytes};
-    ghost use Rattle.mk_library.specs.Library.{IsKept, LibraryView};
+    ghost use Rattle.mk_library.specs.Records.{records_of};
+    ghost use Rattle.mk_library.specs.Library.{HasRoom, IsKept, LibraryView};
 
     ghost Value = { LibraryView };
 
@@ -59,10 +61,10 @@ impl Model for Library {
       records = records_of l.texts.rows;
       rows = l.shelf.rows;
       next_record = l.next;
-      spare = min l.texts.spare l.shelf.spare;
+      spare = l.room;
     } };
 
-    ghost invariant = { λ l. IsKept l.texts.rows l.shelf.rows l.bytes l.next };
+    ghost invariant = { λ l. IsKept l.texts.rows l.shelf.rows l.bytes l.next × HasRoom l.texts.spare l.shelf.spare l.room };
 }
 
 impl Library {
@@ -86,6 +88,7 @@ impl Library {
             shelf: Shelf::new(alloc),
             bytes: 0,
             next,
+            room: 0,
         }
     }
 
@@ -123,8 +126,8 @@ impl Library {
         self.next
     }
 
-    // The texts under their numbers, in order.
-    pub(crate) fn texts(&self) -> &[Numbered<Bytes>]
+    /// The texts under their numbers, by rising number.
+    pub fn texts(&self) -> &[Numbered<Bytes>]
         ensures texts { records_of result.now ≡ self.now.records }
         ensures kept { IsLibrary self.now }
     {
@@ -189,13 +192,18 @@ impl Library {
         size <= MOST_BYTES - self.bytes
     }
 
-    // Makes room for so many more records.
+    // Makes room for so many more records. Where there is no memory for it, what is counted on stays
+    // as it was.
     pub(crate) fn reserve(&mut self, more: usize) -> Result<(), Memory>
         ensures spare { OnOk result (more ≤ self.new.spare) }
+        ensures kept { self.old.spare ≤ self.new.spare }
+        ensures err { OnErr result (self.new.spare ≡ self.old.spare) }
         ensures same { IsSame self.old self.new }
     {
         self.texts.reserve(more)?;
-        self.shelf.reserve(more)
+        self.shelf.reserve(more)?;
+        self.room = self.room.max(more);
+        Ok(())
     }
 
     // Puts a record under a number that is held, or under the next one.
@@ -218,6 +226,7 @@ impl Library {
         self.shelf.insert(number, mol);
         self.bytes += size;
         self.next = number + 1;
+        self.room -= 1;
     }
 
     // Puts a stored record behind all that are held, below the next number.
@@ -232,6 +241,7 @@ impl Library {
         self.texts.insert(number, text);
         self.shelf.insert(number, mol);
         self.bytes += size;
+        self.room -= 1;
     }
 
     // Takes a record out that is held.
@@ -245,5 +255,6 @@ impl Library {
         };
         let _ = self.shelf.remove(number);
         self.bytes -= text.as_slice().len();
+        self.room = self.room.saturating_add(1);
     }
 }

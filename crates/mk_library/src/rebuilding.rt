@@ -1,6 +1,6 @@
 // A library built anew from its texts.
 ghost use Rattle.std.specs.Prelude.{◌≡◌, IfOk};
-ghost use Rattle.mk_library.specs.Library.{IsSame};
+ghost use Rattle.mk_library.specs.Library.{HaveSamePostings, IsSame};
 
 use crate::Library;
 use crate::molecules::molecule_of_text;
@@ -24,6 +24,7 @@ impl Library {
     /// The same library, with every molecule made anew from its text.
     pub fn rebuilt(&self, alloc: Global) -> Result<Library, Memory>
         ensures same { IfOk result (IsSame self.now) }
+        ensures postings { IfOk result (HaveSamePostings self.now) }
     {
         let mut library = Library::with_next(alloc, self.next_number());
         for row in self.texts() {

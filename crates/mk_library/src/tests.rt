@@ -8,6 +8,8 @@ const EMPTY: &str = "\n\n\n  0\nM  END\n";
 
 const CARBON: &str = "\n\n\n  1  0\n                               C\nM  END\n";
 
+const OXYGEN: &str = "\n\n\n  1  0\n                               O\nM  END\n";
+
 const TWO: &str = "\n\n\n  0\nM  END\n$$$$\n\n\n\n  0\nM  END\n$$$$\n";
 
 const UNKNOWN: &str = "\n\n\n  1  0\n                               R#\nM  END\n";
@@ -163,7 +165,8 @@ fn refusals_come_in_order(rt: HostRuntime) -> Result<(), Fail> {
     Ok(())
 }
 
-// The texts under the numbers below 6, the atoms of their molecules, and the next number.
+// The texts under the numbers below 6, the atoms of their molecules, the numbers of those with a
+// carbon, and the next number.
 fn drawn(library: &Library, alloc: Global) -> Result<Vec<u8>, AllocError> {
     let mut drawn = Vec::new(alloc);
     for n in 0..6u32 {
@@ -173,6 +176,9 @@ fn drawn(library: &Library, alloc: Global) -> Result<Vec<u8>, AllocError> {
         if let Some(mol) = library.shelf().get(n) {
             drawn.push(if mol.atom_count() == 5 { b'5' } else { b'-' })?;
         }
+    }
+    for number in library.shelf().posting(alloc, 137)?.as_slice() {
+        drawn.push((*number % 100) as u8)?;
     }
     drawn.push(if library.next_number() == 4 {
         b'y'
@@ -201,6 +207,24 @@ fn a_library_is_built_anew(rt: HostRuntime) -> Result<(), Fail> {
     assert!(rt; load(&mut library, rt.alloc(), EMPTY) == b'+');
     assert!(rt; remove(&mut library, rt.alloc(), 3) == b'+');
     assert!(rt; is_same_anew(&library, rt.alloc())?, "after a removal");
+    Ok(())
+}
+
+// A carbon is loaded three times, replaced by an oxygen, and taken out: the numbers of the records
+// with a carbon and of those with an oxygen.
+#[test]
+fn postings_follow_edits(rt: HostRuntime) -> Result<(), Fail> {
+    let alloc = rt.alloc();
+    let mut library = Library::new(alloc);
+    for _ in 0..3 {
+        assert!(rt; load(&mut library, alloc, CARBON) == b'+');
+    }
+    assert!(rt; replace(&mut library, alloc, 2, OXYGEN) == b'+');
+    assert!(rt; remove(&mut library, alloc, 1) == b'+');
+    let shelf = library.shelf();
+    assert!(rt; shelf.posting(alloc, 137)?.as_slice() == [3u32].as_slice());
+    assert!(rt; shelf.posting(alloc, 139)?.as_slice() == [2u32].as_slice());
+    assert!(rt; is_same_anew(&library, alloc)?);
     Ok(())
 }
 

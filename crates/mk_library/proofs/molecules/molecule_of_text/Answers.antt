@@ -1,4 +1,4 @@
-use Rattle.std.proofs.Common.{◌≡◌, ◌∙◌, ◌<◌, length, sym, ap, subst, arith, All, []}
+use Rattle.std.proofs.Common.{◌≡◌, ◌∙◌, ◌<◌, max, length, sym, ap, subst, arith, All, []}
 use Rattle.std.proofs.lemmas.List.Elements.{All-head}
 use Rattle.mk_text.specs.Lines.{lines_of}
 use Rattle.mk_text.proofs.ForCallers.{lines_few}
@@ -27,8 +27,8 @@ pub prepare-requires-clause-few_properties : goal.prepare-requires-clause-few_pr
 prepare-requires-clause-few_properties c =
     let once : length c.in-Ok.raws ≡ 1 = sym (ap length c.as_slice.ensures) ∙ c.if-as_slice-ne1.false in
     let only = raw_only c.in-Ok.raws c.as_slice-2.result.now c.index-as_slice-0.result c.as_slice-2.ensures once c.index-as_slice-0.is in
-    let few = All-head (λ (raw : RawRecord). length raw.table.props < length (lines_of c.args.text.now)) c.index-as_slice-0.result []
-    (subst (All (λ (raw : RawRecord). length raw.table.props < length (lines_of c.args.text.now))) only c.in-Ok.ensures.fewer) in
+    let few = All-head (λ (raw : RawRecord). length raw.table.props < max (length (lines_of c.args.text.now)) 2998) c.index-as_slice-0.result []
+    (subst (All (λ (raw : RawRecord). length raw.table.props < max (length (lines_of c.args.text.now)) 2998)) only c.in-Ok.ensures.fewer) in
     omega (arith, few, lines_few c.args.text.now, c.requires)
 
 pub returns-in-Ok-prepare : goal.returns-in-Ok-prepare

@@ -22,6 +22,6 @@ returns-clause-place c = λ yes.
       above = all_under c.args.row.now.number c.self.inside.texts.rows c.in_default.ensures.none;
       below_next = omega (arith, c.if-number-self.false);
       few = rw length-map (omega (arith, c.if-rows-ge-MOST_RECORDS.false, ap length c.rows.ensures.rows));
-      bytes = omega (arith, fits, c.self.invariant.counted, c.self.invariant.limits.short, ap length c.as_slice-size.ensures);
+      bytes = omega (arith, fits, c.self.invariant.0.counted, c.self.invariant.0.limits.short, ap length c.as_slice-size.ensures);
       short = omega (arith, c.if-size.false, ap length c.as_slice-size.ensures);
     })

@@ -1,4 +1,4 @@
-use Rattle.std.proofs.Common.{◌≡◌, ◌≤◌, length}
+use Rattle.std.proofs.Common.{◌≡◌, ◌+◌, ◌≤◌, length}
 use Rattle.mk_outside.specs.Store.{record_puts}
 use Rattle.mk_outside.specs.Tables.{after_batch}
 use Rattle.mk_library.specs.Library.{tables_of}
@@ -11,6 +11,7 @@ invariant-loop-change l = record {
   numbers : InTurn IsNumbered l.changes.rest.items (tables_of l.self);
   limits : InTurn KeepsLimits l.changes.rest.items (tables_of l.self);
   room : record_puts l.changes.rest.items ≤ l.self.spare;
+  kept : l.initial.self.spare + record_puts l.changes.rest.items ≤ l.self.spare + record_puts l.initial.changes.rest.items;
   tables : after_batch l.changes.rest.items (tables_of l.self) ≡ after_batch l.initial.changes.rest.items (tables_of l.initial.self);
 }
 

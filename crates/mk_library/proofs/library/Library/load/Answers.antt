@@ -26,14 +26,14 @@ returns-then-not-keeps-clause-refused c =
 pub of-requires : goal.of-requires
 of-requires c =
     let keeps : LoadKeeps c.args.self.now.records c.args.self.now.next_record (texts_of c.in-Ok.raws) = rw (c.as_slice.ensures.value, c.in-Ok-molecules_of.ensures.0) at c.keeps.ensures.keeps c.if-not-keeps.false in
-    let next = c.next_number.ensures ∙ c.reserve.ensures.same.next_record in
+    let next = c.next_number.ensures in
     rw (c.in_ok-changes.ensures, next, c.in-Ok-molecules_of.ensures.0)
     (file_prepared c.args.text.now c.in-Ok.raws c.in-Ok-molecules_of.prepared.mols.items c.args.self.now.next_record c.in-Ok.ensures.answer.1 c.in-Ok-molecules_of.ensures.1 keeps.numbers)
 
 pub returns-clause-changes : goal.returns-clause-changes
 returns-clause-changes c =
     let keeps : LoadKeeps c.args.self.now.records c.args.self.now.next_record (texts_of c.in-Ok.raws) = rw (c.as_slice.ensures.value, c.in-Ok-molecules_of.ensures.0) at c.keeps.ensures.keeps c.if-not-keeps.false in
-    let next = c.next_number.ensures ∙ c.reserve.ensures.same.next_record in
+    let next = c.next_number.ensures in
     rw (c.of.ensures.changes, c.in_ok-changes.ensures, next, c.in-Ok-molecules_of.ensures.0)
     (load_allowed c.args.self.now.records c.args.self.now.next_record c.args.text.now c.in-Ok.raws c.in-Ok.ensures.answer.0 c.in-Ok.ensures.answer.1
     (all_pass c.in-Ok.raws c.in-Ok-molecules_of.prepared.mols.items c.in-Ok-molecules_of.ensures.1) c.keeps.ensures.kept.below_next c.keeps.ensures.kept.limits keeps)
@@ -41,7 +41,7 @@ returns-clause-changes c =
 pub returns-clause-fits : goal.returns-clause-fits
 returns-clause-fits c =
     let keeps : LoadKeeps c.args.self.now.records c.args.self.now.next_record (texts_of c.in-Ok.raws) = rw (c.as_slice.ensures.value, c.in-Ok-molecules_of.ensures.0) at c.keeps.ensures.keeps c.if-not-keeps.false in
-    let next = c.next_number.ensures ∙ c.reserve.ensures.same.next_record in
+    let next = c.next_number.ensures in
     let below = c.keeps.ensures.kept.below_next in
     record {
       numbers = rw (c.of.ensures.changes, c.in_ok-changes.ensures, next, c.in-Ok-molecules_of.ensures.0, c.reserve.ensures.same.records, c.reserve.ensures.same.next_record)
@@ -51,5 +51,5 @@ returns-clause-fits c =
       room = rw (c.of.ensures.changes, c.in_ok-changes.ensures) (
           let puts = puts_counted c.in-Ok-molecules_of.prepared.texts.items c.next_number.result in
           let room = c.in_ok-reserve.ensures.spare in
-          omega (arith, puts, room, c.len.ensures));
+          omega (arith, puts, room, c.len-more.ensures));
     }

@@ -1,4 +1,7 @@
-use Rattle.std.proofs.Common.{◌∙◌, length, ap, arith, rules}
+use Rattle.std.proofs.Common.{◌∙◌, ◌↔◌, List, length, ap, arith, rules, subst, sym}
+use Rattle.mk_index.specs.Postings.{IsPosting}
+use Rattle.mk_model.specs.Molecules.{Molecule}
+use Rattle.mk_rows.specs.declared.by_number.Numbered.{Numbered}
 use Rattle.mk_library.specs.Records.{record_of}
 use Rattle.mk_library.proofs.RebuiltLemmas.{again_behind, all_again, row_at, text_again, text_short}
 use Rattle.mk_library.proofs.StoredLemmas.{records_more}
@@ -41,4 +44,5 @@ returns c = record {
     rows = c.have_same_molecules.ensures;
     next_record = c.loop-row.invariant.next;
   };
+  postings = λ bit numbers. subst (λ (rows : List (Numbered Molecule)). IsPosting c.args.self.now.rows bit numbers ↔ IsPosting rows bit numbers) (sym c.have_same_molecules.ensures) ((λ h. h), (λ h. h));
 }

@@ -5,4 +5,4 @@ use Rattle.mk_library.proofs.library.Library.texts.Goals as goal
 
 pub returns-clause-kept : goal.returns-clause-kept
 returns-clause-kept c =
-    subst IsLibrary c.self.view_is (is_library c.self.inside.texts.rows c.self.inside.shelf.rows c.self.inside.bytes c.self.inside.next _ c.self.invariant)
+    subst IsLibrary c.self.view_is (is_library c.self.inside.texts.rows c.self.inside.shelf.rows c.self.inside.bytes c.self.inside.next _ c.self.invariant.0)
