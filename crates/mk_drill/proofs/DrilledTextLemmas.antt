@@ -1,5 +1,5 @@
 -- The text of a drilled table is a file of one record, with that table.
-use Rattle.std.proofs.Common.{[], ◌∷◌, ◌≡◌, ℕ, List, Some, arith, refl, sym}
+use Rattle.std.proofs.Common.{[], ◌∷◌, ◌≡◌, ℕ, List, Some, arith, inr, refl, sym}
 use Rattle.std.proofs.lemmas.List.{append-nil}
 use Rattle.mk_text.specs.Lines.{lines_of}
 use Rattle.mk_ctab.specs.declared.raw.RawTable.{RawTable}
@@ -34,7 +34,7 @@ is_record table can = record {
     table_lines = lines_of (spelling table);
     whole = lines_are table;
     three = refl;
-    is = is_read table can;
+    is = inr (is_read table can);
   };
   no_separator = tt;
   text = refl;

@@ -4,8 +4,8 @@ use Rattle.std.proofs.lemmas.Bool.{eqb-true, eqb-false}
 use Rattle.std.proofs.lemmas.List.Elements.{All-head}
 use Rattle.mk_text.specs.Lines.{lines_of}
 use Rattle.mk_model.specs.Molecules.{Molecule}
-use Rattle.mk_index.specs.declared.by_number.Numbered.{Numbered}
-use Rattle.mk_index.specs.Rows.{item_at}
+use Rattle.mk_rows.specs.declared.by_number.Numbered.{Numbered}
+use Rattle.mk_rows.specs.Rows.{item_at}
 use Rattle.mk_outside.specs.declared.tables.RecordRow.{RecordRow}
 use Rattle.mk_ctab.specs.declared.raw.RawTable.{RawTable}
 use Rattle.mk_ctab.specs.KeptTables.{KeepsItsText}

@@ -6,7 +6,7 @@ use Rattle.mk_text.specs.Rising.{AreFirst, Each, Holds, IsBelow, IsRisingListOfA
 use Rattle.mk_model.specs.Keys.{IsKey, Remains}
 use Rattle.mk_model.specs.Molecules.{Molecule}
 use Rattle.mk_model.specs.Queries.{QueryView}
-use Rattle.mk_index.specs.declared.by_number.Numbered.{Numbered}
+use Rattle.mk_rows.specs.declared.by_number.Numbered.{Numbered}
 use Rattle.mk_search.specs.declared.pages.Page.{Page}
 use Rattle.mk_search.specs.Pages.{IsHeldIn, IsPage}
 use Rattle.mk_search.proofs.ForCallers.{page_and_others}

@@ -16,7 +16,7 @@ use Rattle.mk_outside.specs.declared.tables.RecordRow.{RecordRow}
 use Rattle.mk_ctab.specs.declared.raw.RawTable.{RawTable}
 use Rattle.mk_ctab.specs.TableSpelling.{CanBeSpelt, spelling}
 use Rattle.mk_mol.specs.FirstFault.{PassesAll}
-use Rattle.mk_index.specs.declared.by_number.Numbered.{Numbered}
+use Rattle.mk_rows.specs.declared.by_number.Numbered.{Numbered}
 use Rattle.mk_library.specs.Library.{LibraryView}
 use Rattle.mk_library.specs.Records.{text_bytes}
 use Rattle.mk_search.specs.Pages.{IsHeldIn}

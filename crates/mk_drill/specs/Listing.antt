@@ -6,7 +6,7 @@ use Rattle.mk_text.specs.Rising.{IsRisingListOfAll}
 use Rattle.mk_model.specs.Keys.{Remains}
 use Rattle.mk_model.specs.Molecules.{Molecule}
 use Rattle.mk_model.specs.Queries.{QueryView}
-use Rattle.mk_index.specs.declared.by_number.Numbered.{Numbered}
+use Rattle.mk_rows.specs.declared.by_number.Numbered.{Numbered}
 use Rattle.mk_search.specs.Pages.{IsHeldIn}
 
 -- behind the former hits stand all keys that remain from the place on

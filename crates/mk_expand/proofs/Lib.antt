@@ -22,6 +22,7 @@ pub mod WidthLemmas
 pub mod ChoiceFits
 pub mod GraphLemmas
 pub mod OneExpansionLemmas
+pub mod HaveExpansionLemmas
 pub mod DrawnLawLemmas
 pub mod EachAtomLemmas
 pub mod TwoHydrogenLemmas

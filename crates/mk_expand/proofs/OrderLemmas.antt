@@ -66,7 +66,7 @@ module _ (atoms : ℕ) (bonds : List QueryBond) (ends : All (IsLowerFirst atoms)
 -- ---- two lists in order
 
 -- one before another before a third
-before_through : (b c d : GraphBond) → IsBefore b c → IsBefore c d → IsBefore b d
+pub before_through : (b c d : GraphBond) → IsBefore b c → IsBefore c d → IsBefore b d
 before_through b c d (inl h) (inl g) = inl (omega arith)
 before_through b c d (inl h) (inr g) = inl (omega (arith, g.0))
 before_through b c d (inr h) (inl g) = inl (omega (arith, h.0))
@@ -78,23 +78,23 @@ never_itself bond (inl less) = absurd (omega arith)
 never_itself bond (inr less) = absurd (omega (arith, less.1))
 
 -- each bond that the others hold stands behind the first
-behind_first : (bond : GraphBond) (bonds : List GraphBond) (other : GraphBond) → AllPairs IsBefore (bond ∷ bonds) → Contains bonds other → IsBefore bond other
+pub behind_first : (bond : GraphBond) (bonds : List GraphBond) (other : GraphBond) → AllPairs IsBefore (bond ∷ bonds) → Contains bonds other → IsBefore bond other
 behind_first bond bonds other order is = subst (IsBefore bond) is.2 (order 0 (suc is.0) other (omega arith) (omega (arith, is.1)))
 
 -- and the others are in order
-others_ordered : (bond : GraphBond) (bonds : List GraphBond) → AllPairs IsBefore (bond ∷ bonds) → AllPairs IsBefore bonds
+pub others_ordered : (bond : GraphBond) (bonds : List GraphBond) → AllPairs IsBefore (bond ∷ bonds) → AllPairs IsBefore bonds
 others_ordered bond bonds order i j d less within = order (suc i) (suc j) d (omega arith) (omega arith)
 
 -- the first is held
-first_in : (bond : GraphBond) (bonds : List GraphBond) → Contains (bond ∷ bonds) bond
+pub first_in : (bond : GraphBond) (bonds : List GraphBond) → Contains (bond ∷ bonds) bond
 first_in bond bonds = (0, omega arith, refl)
 
 -- so is each of the others
-other_in : (bond : GraphBond) (bonds : List GraphBond) (other : GraphBond) → Contains bonds other → Contains (bond ∷ bonds) other
+pub other_in : (bond : GraphBond) (bonds : List GraphBond) (other : GraphBond) → Contains bonds other → Contains (bond ∷ bonds) other
 other_in bond bonds other is = (suc is.0, omega (arith, is.1), is.2)
 
 -- and no more
-first_or_other : (bond : GraphBond) (bonds : List GraphBond) (held : GraphBond) → Contains (bond ∷ bonds) held → (bond ≡ held) ⊎ Contains bonds held
+pub first_or_other : (bond : GraphBond) (bonds : List GraphBond) (held : GraphBond) → Contains (bond ∷ bonds) held → (bond ≡ held) ⊎ Contains bonds held
 first_or_other bond bonds held is = by_place is.0 is.1 is.2
   where
     by_place : (k : ℕ) → k < length (bond ∷ bonds) → get_or (bond ∷ bonds) k held ≡ held → (bond ≡ held) ⊎ Contains bonds held

@@ -1,7 +1,9 @@
 -- Laws of expansions.
 --     CodeAndHitAreShort        a code and a hit of its expansion together have at most 512 numbers
---     OneExpansion              a code has at most one expansion
+--     EachCodeHasExpansion      each structural code of a query's root has an expansion
+--     OneExpansion              and one expansion alone
 use Rattle.std.specs.Prelude.{◌≡◌, ◌≤◌, ◌+◌, ℕ, List, length}
+use Rattle.mk_model.specs.Codes.{IsCode}
 use Rattle.mk_model.specs.Expansions.{IsExpansion}
 use Rattle.mk_model.specs.Graphs.{GraphView}
 use Rattle.mk_model.specs.Hits.{IsHit}
@@ -13,6 +15,10 @@ use Rattle.mk_model.specs.QueryFits.{QueryFits}
 abbrev pub CodeAndHitAreShort : Type 0
 CodeAndHitAreShort = (query : QueryView) (code : List ℕ) (graph : GraphView) (mol : Molecule) (hit : List ℕ)
     → QueryFits query → IsExpansion query code graph → IsHit graph mol hit → length code + length hit ≤ 512
+
+-- each structural code of a query's root has an expansion
+abbrev pub EachCodeHasExpansion : Type 0
+EachCodeHasExpansion = (query : QueryView) (code : List ℕ) → QueryFits query → IsCode query 0 code → (graph : GraphView) × IsExpansion query code graph
 
 -- two graphs that are the expansion of a query by a code are one
 abbrev pub OneExpansion : Type 0

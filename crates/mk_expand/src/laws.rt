@@ -1,18 +1,20 @@
 // Laws over the definitions alone, each carried by a function that does nothing.
 ghost use Rattle.mk_expand.specs.Drawn.{FilledByOneAtom, HydrogenForSite, HydrogensForSite, LinksThatStandOnce, OneAtomAtEachSlot, WithoutSlots};
-ghost use Rattle.mk_expand.specs.Laws.{CodeAndHitAreShort, OneExpansion};
+ghost use Rattle.mk_expand.specs.Laws.{CodeAndHitAreShort, EachCodeHasExpansion, OneExpansion};
 
-use mk_rings::marks_determine_bonds;
+use mk_rings::{bonds_have_marks, marks_determine_bonds};
 
 /// A code and a hit of its expansion together have at most 512 numbers.
 pub fn code_and_hit_are_short()
     ensures { CodeAndHitAreShort }
 {}
 
-/// Two graphs that are the expansion of a query by a code are one.
+/// Each structural code of a query's root has an expansion, and one alone.
 pub fn one_expansion()
-    ensures { OneExpansion }
+    ensures some { EachCodeHasExpansion }
+    ensures one { OneExpansion }
 {
+    bonds_have_marks();
     marks_determine_bonds()
 }
 

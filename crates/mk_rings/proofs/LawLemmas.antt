@@ -13,7 +13,7 @@ use Rattle.mk_rings.specs.Laws.{OneListOfGraphBonds, OneListOfMolBonds}
 use Rattle.mk_rings.proofs.BareLemmas.{same_at, same_edges, same_length}
 
 -- tests that are true for one reason are one
-same_test : (p q : Bool) (P : Type 0) → IsTrue p ↔ P → IsTrue q ↔ P → p ≡ q
+pub same_test : (p q : Bool) (P : Type 0) → IsTrue p ↔ P → IsTrue q ↔ P → p ≡ q
 same_test true true P e f = refl
 same_test false false P e f = refl
 same_test true false P e f = let never = f.1 (e.0 refl) in cc

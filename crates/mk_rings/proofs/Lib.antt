@@ -14,3 +14,5 @@ pub mod LawLemmas
 pub mod MoleculeLemmas
 pub mod ReachLemmas
 pub mod BridgeLemmas
+pub mod DecisionLemmas
+pub mod HaveMarksLemmas

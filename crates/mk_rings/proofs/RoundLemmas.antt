@@ -31,7 +31,7 @@ closed_ring atoms bonds marks set' b ends closed lie c =
 -- ---- marks that are added
 
 -- one mark more
-unmarked-set : (marks : List Bool) (n : ℕ) → n < length marks → get_or marks n false ≡ false → unmarked (set marks n true) + 1 ≡ unmarked marks
+pub unmarked-set : (marks : List Bool) (n : ℕ) → n < length marks → get_or marks n false ≡ false → unmarked (set marks n true) + 1 ≡ unmarked marks
 unmarked-set marks n below is =
     let all = sum_by-set (λ (t : Bool). cond (not t) 1 0) marks n true false below in
     let was : ◌≡◌ {A = ℕ} (cond (not (get_or marks n false)) 1 0) 1 = rw is refl in

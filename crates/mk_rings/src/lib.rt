@@ -32,6 +32,6 @@ mod steps;
 
 pub use aromatic::aromatic_bonds;
 pub use graphs::marked_graph;
-pub use laws::marks_determine_bonds;
+pub use laws::{bonds_have_marks, marks_determine_bonds};
 pub use marking::ring_bonds;
 pub use molecules::marked_bonds;

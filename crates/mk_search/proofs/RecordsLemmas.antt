@@ -5,10 +5,8 @@
 --     occurrences_of_record     behind a number stand the occurrences in its molecule
 --     least_record, no_record   the next number, or none
 --     passed_up, passed_down    the place behind a number
---     last_is_greatest          the last number is the greatest
 --     keys_none .. keys_of_none      keys that are listed record by record
 use Rattle.std.proofs.Common.{◌≡◌, ℕ, zero, suc, ◌+◌, ◌-◌, ◌<◌, ◌≤◌, ◌⊎◌, inl, inr, Bool, true, false, cond, eqb, nat_eq, List, [], ◌∷◌, ◌++◌, Some, None, length, map, refl, sym, ap, ◌∙◌, subst, arith}
-use Rattle.std.specs.Prelude.{slice_get}
 use Rattle.std.proofs.lemmas.Bool.{cases_eq, cases_lt, cond_both, eqb-true}
 use Rattle.std.proofs.lemmas.Bool.Decides.{nat_tests}
 use Rattle.std.proofs.lemmas.Grind.{common_steps}
@@ -16,9 +14,9 @@ use Rattle.mk_text.specs.Rising.{AreFirst, IsBelow, IsFrom, IsLeast, IsLeastFrom
 use Rattle.mk_model.specs.Keys.{IsKey, IsOccurrence, Remains}
 use Rattle.mk_model.specs.Molecules.{Molecule}
 use Rattle.mk_model.specs.Queries.{QueryView}
-use Rattle.mk_index.specs.declared.by_number.Numbered.{Numbered}
-use Rattle.mk_index.specs.Rows.{holds, item_at, IsLeastFrom as IsLeastNumber, IsRising, NoneFrom}
-use Rattle.mk_index.proofs.ForCallers.{no_item}
+use Rattle.mk_rows.specs.declared.by_number.Numbered.{Numbered}
+use Rattle.mk_rows.specs.Rows.{holds, item_at, IsLeastFrom as IsLeastNumber, NoneFrom}
+use Rattle.mk_rows.proofs.ForCallers.{no_item}
 use Rattle.mk_search.specs.Listing.{PutsFirst, first_number, rest_in}
 use Rattle.mk_search.specs.Pages.{IsHeldIn}
 use Rattle.mk_search.proofs.ListingLemmas.{HasListed, IsMade, first_same, listed_all, listed_front, listed_moved, listed_none}
@@ -74,31 +72,6 @@ pub held_either : (n : ℕ) (x : Numbered Molecule) (rows : List (Numbered Molec
 held_either n x rows held =
     cond_both (nat_eq x.number n) true (holds n rows) (λ b. b ≡ true → (x.number ≡ n) ⊎ (holds n rows ≡ true))
     (λ e. λ _. inl (eqb-true x.number n e)) (λ e. λ later. inr later) (grind (arith, common_steps, held))
-
-first_held : (x : Numbered Molecule) (rows : List (Numbered Molecule)) → holds x.number (x ∷ rows) ≡ true
-first_held x rows = grind (arith, common_steps)
-
--- the last of rising numbers is the greatest
-last_at : (rows : List (Numbered Molecule)) (k : ℕ) (last : Numbered Molecule) → IsRising rows → k + 1 ≡ length rows → slice_get rows k ≡ Some last → (n : ℕ) → holds n rows ≡ true → n ≤ last.number
-last_at [] k last rising end is n held = absurd cc
-last_at (x ∷ []) zero last rising end is n held =
-    let same : x ≡ last = cc in
-    subst (λ (row : Numbered Molecule). n ≤ row.number) same (elim (held_either n x [] held) [ inl e ↦ omega (arith, e) | inr none ↦ absurd cc ])
-last_at (x ∷ []) (suc k) last rising end is n held = absurd (omega (arith, end))
-last_at (x ∷ y ∷ rows) zero last rising end is n held = absurd (omega (arith, end))
-last_at (x ∷ y ∷ rows) (suc k) last rising end is n held =
-    let end' : k + 1 ≡ length (y ∷ rows) = omega (arith, end) in
-    elim (held_either n x (y ∷ rows) held) [
-      | inl e ↦
-          let next : y.number ≤ last.number = last_at (y ∷ rows) k last rising.1 end' is y.number (first_held y rows) in
-          let less : x.number < y.number = rising.0.0 in
-          omega (arith, e, next, less)
-      | inr later ↦ last_at (y ∷ rows) k last rising.1 end' is n later
-    ]
-
-pub last_is_greatest : (rows : List (Numbered Molecule)) (last : Numbered Molecule) → IsRising rows → slice_get rows (length rows - 1) ≡ Some last → (n : ℕ) → holds n rows ≡ true → n ≤ last.number
-last_is_greatest [] last rising is n held = absurd cc
-last_is_greatest (x ∷ rows) last rising is n held = last_at (x ∷ rows) (length (x ∷ rows) - 1) last rising (omega arith) is n held
 
 -- ---- the records
 

@@ -24,8 +24,8 @@ mod starts;
 mod tests;
 
 pub use laws::{
-    keys_are_listed, keys_are_short, no_held_key_begins_another, one_page_from_a_place,
-    page_and_others_are_all, page_and_others_are_listed, places_are_short,
+    keys_are_listed, keys_are_short, no_held_key_begins_another, nothing_is_behind_a_key,
+    one_page_from_a_place, page_and_others_are_all, page_and_others_are_listed, places_are_short,
 };
 pub use mk_model::{Key, Keys, Memory, Place};
 pub use pages::Page;

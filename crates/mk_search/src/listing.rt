@@ -3,7 +3,6 @@ ghost use Rattle.std.specs.Prelude.{◌≡◌, ◌≤◌, ◌<◌, ◌∷◌, �
 ghost use Rattle.mk_text.specs.Rising.{AreFirst};
 ghost use Rattle.mk_model.specs.Hits.{IsHit};
 ghost use Rattle.mk_model.specs.Keys.{IsOccurrence, Remains};
-ghost use Rattle.mk_index.specs.Rows.{holds};
 ghost use Rattle.mk_match.specs.Asked.{AreAsked, AreThere};
 ghost use Rattle.mk_search.specs.Kept.{IsKept};
 ghost use Rattle.mk_search.specs.Listing.{PutsFirst};
@@ -33,7 +32,7 @@ pub fn first_keys<L: Ledger>(
 {
     let mut keys = Vec::new(alloc);
     let mut kept = VecDeque::new(alloc);
-    let Some(greatest) = greatest(shelf) else {
+    let Some(greatest) = shelf.last_row() else {
         return Ok(keys);
     };
     let mut from = first_number(place);
@@ -61,17 +60,6 @@ pub fn first_keys<L: Ledger>(
         from = number + 1;
     }
     Ok(keys)
-}
-
-// The greatest number that is held.
-fn greatest(shelf: &Shelf) -> Option<u32>
-    ensures some { IfSome result (λ last. (n : ℕ) → holds n shelf.now.rows ≡ true → n ≤ last) }
-    ensures none { IfNone result (shelf.now.rows ≡ []) }
-{
-    let Some(row) = shelf.rows().last() else {
-        return None;
-    };
-    Some(row.number)
 }
 
 // Puts the keys of one record.

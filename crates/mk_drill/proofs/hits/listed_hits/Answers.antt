@@ -1,5 +1,5 @@
 use Rattle.std.proofs.Common.{List, [], ℕ, subst}
-use Rattle.mk_index.specs.declared.by_number.Numbered.{Numbered}
+use Rattle.mk_rows.specs.declared.by_number.Numbered.{Numbered}
 use Rattle.mk_model.specs.Molecules.{Molecule}
 use Rattle.mk_search.specs.Pages.{IsHeldIn, IsPage}
 use Rattle.mk_drill.specs.Listing.{AreOthers}
