@@ -1,2 +1,22 @@
+pub mod LayoutLemmas
+pub mod ToldLemmas
+pub mod TreeRowLemmas
+pub mod OneRowLemmas
+pub mod AnswerLemmas
+pub mod TextLemmas
+pub mod MakeTextLemmas
+pub mod WriteLemmas
+pub mod PutLemmas
+pub mod FormLemmas
+pub mod StatementLemmas
+pub mod SelectLemmas
+pub mod MakeLemmas
+pub mod InsideLemmas
 pub mod FailsLemmas
 pub mod StoredLemmas
+pub mod KeepsLemmas
+pub mod PlaceLemmas
+pub mod BatchLemmas
+pub mod AgainLemmas
+mod ToldOnLiterals
+pub mod ForCallers

@@ -1,16 +1,24 @@
 // A keeper of tables in a database.
-ghost use Rattle.std.specs.Prelude.{◌≡◌, ⊤, false, Ok, Err, None, All, IfOk, IfErr};
+ghost use Rattle.std.specs.Prelude.{◌≡◌, false, [], Ok, Err, All, Some, IfOk, IfErr, IfSome, IsTrue};
 ghost use Rattle.sqlite_store.specs.FileStore.{view};
+ghost use Rattle.sqlite_wal.specs.Files.{image_at};
 ghost use Rattle.sqlite.specs.State.{HasCleanDisk};
-ghost use Rattle.sqlite.specs.Files.{file_state};
+ghost use Rattle.sqlite.specs.Held.{state, IsNew};
+ghost use Rattle.sqlite.specs.Start.{FindsIn};
+ghost use Rattle.sqlite.specs.Files.{over_files, file_state, IsOpened, IsBlankAs};
+ghost use Rattle.mk_outside.specs.declared.tables.Tables.{Tables as AllTables};
 ghost use Rattle.mk_outside.specs.Counts.{Counts};
 ghost use Rattle.mk_outside.specs.Tables.{CanKeep};
-ghost use Rattle.mk_outside.specs.Told.{is_failed_keep};
+ghost use Rattle.mk_outside.specs.Told.{committed, is_failed_keep};
+ghost use Rattle.mk_sqlite.specs.Told.{tables_of};
+ghost use Rattle.mk_sqlite.specs.Keeps.{FilesStandFor};
+ghost use Rattle.mk_sqlite.specs.Laws.{told_is_sound};
+ghost use Rattle.mk_sqlite.specs.Keeper.{kept_tables, IsKeptSound, handed_back, StaysKept, CrashLeaves};
 
 use crate::changes;
-use crate::fails::answer_of;
+use crate::fails::fail_of;
 use mk_outside::{Change, KeepFail, Keeper, Tables};
-use sqlite::{Alter, Connection, File, FileStore};
+use sqlite::{Alter, Connection, File, FileFrom, FileStore, Start};
 use std::alloc::Global;
 
 /// A keeper of tables in a database.
@@ -21,29 +29,48 @@ pub struct SqlKeeper<S: Alter = FileStore<File>> {
 }
 
 impl SqlKeeper {
-    /// Opens the file, or makes it, without checksums of the library's own. Where that fails the
-    /// keeper is shut, and each call answers why.
-    #[tactic(auto, using(crate::proofs::FailsLemmas::answered_ok))]
-    pub fn at(rt: &HostRuntime, path: &str) -> SqlKeeper
+    /// Opens the file, or makes it, without checksums of the library's own. `start` stands for what
+    /// the file and its log hold. Where that fails the keeper is shut, and each call answers why.
+    pub fn at<B: Start>(rt: &HostRuntime, path: &str, start: B) -> SqlKeeper<FileStore<FileFrom<B>>>
         ensures faults { result.faults ≡ 0 }
-        ensures plain { IfOk result.opened (λ c. HasCleanDisk (file_state c) → (view c.store).has_sums ≡ false) }
+        ensures opened { IfOk result.opened (λ c. HasCleanDisk (file_state c) → IsOpened c) }
+        ensures found { IfOk result.opened (λ c. HasCleanDisk (file_state c) → FindsIn (image_at B.Start) (file_state c)) }
+        ensures sound { IfOk result.opened (λ c. HasCleanDisk (file_state c) → IsKeptSound over_files result.opened) }
+        ensures starts { (t : AllTables) → FilesStandFor (image_at B.Start) t → IsKeptSound over_files result.opened → kept_tables over_files result.opened ≡ Some t }
+        ensures fresh { IfOk result.opened IsNew }
+        ensures plain { IfOk result.opened (λ c. HasCleanDisk (file_state c) → IsBlankAs false (image_at B.Start) → (view c.store).has_sums ≡ false) }
     {
-        SqlKeeper {
-            opened: answer_of(Connection::open(rt, path)),
-            faults: 0,
-        }
+        let opened = match Connection::open_from(rt, path, false, start) {
+            Ok(connection) => Ok(connection),
+            Err((error, _left)) => Err(fail_of(error)),
+        };
+        SqlKeeper { opened, faults: 0 }
     }
 }
 
 impl<S: Alter> SqlKeeper<S> {
-    /// A keeper over an open database.
+    /// A keeper over an open database, which is in no transaction.
     pub fn over(connection: Connection<S>) -> SqlKeeper<S>
+        requires { connection.in_transaction ≡ false }
         ensures faults { result.faults ≡ 0 }
         ensures opened { result.opened ≡ Ok connection }
+        ensures sound { HasCleanDisk (state S.Store connection) → IsTrue (state S.Store connection).is_open → IsKeptSound S.Store result.opened }
+        ensures tells { IsKeptSound S.Store result.opened → kept_tables S.Store result.opened ≡ tables_of (state S.Store connection).committed }
     {
         SqlKeeper {
             opened: Ok(connection),
             faults: 0,
+        }
+    }
+
+    /// Hands the connection back, where there is one.
+    pub fn back(self) -> Option<Connection<S>>
+        ensures { result ≡ handed_back self.opened }
+    {
+        let SqlKeeper { opened, faults: _ } = self;
+        match opened {
+            Ok(connection) => Some(connection),
+            Err(_) => None,
         }
     }
 
@@ -61,21 +88,23 @@ impl<S: Alter> SqlKeeper<S> {
 }
 
 impl<S: Alter> Keeper for SqlKeeper<S> {
-    ghost tables = { λ _. None };
+    ghost tables = { λ k. kept_tables S.Store k.opened };
 
-    ghost sound = { λ _. ⊤ };
+    ghost sound = { λ k. IsKeptSound S.Store k.opened };
 
     ghost faults = { λ k. k.faults };
 
-    ghost untold = { λ _ _. tt };
+    ghost untold = { λ k. told_is_sound (record { view = S.Store.view; faults = S.Store.faults; recovers = S.Store.recovers; is_shielded = S.Store.is_shielded; is_step = S.Store.is_step; blamed = S.Store.blamed; names = S.Store.names }) k.opened };
 
     fn load(&mut self, alloc: Global) -> Result<Tables, KeepFail>
-        ensures sound { ⊤ → ⊤ }
-        ensures kept { ⊤ → ⊤ }
-        ensures gives { ⊤ → ⊤ }
+        ensures sound { IsKeptSound S.Store self.new.opened → IsKeptSound S.Store self.old.opened }
+        ensures kept { IsKeptSound S.Store self.new.opened → IfSome (kept_tables S.Store self.old.opened) (λ t. kept_tables S.Store self.new.opened ≡ Some t) }
+        ensures gives { IsKeptSound S.Store self.new.opened → IfSome (kept_tables S.Store self.old.opened) (λ t. IfOk result (λ loaded. loaded ≡ t)) }
         ensures counted { Counts (is_failed_keep result) self.old.faults self.new.faults }
         ensures shut { IfErr self.old.opened (λ fail. result ≡ Err fail) }
         ensures stays_shut { IfErr self.old.opened (λ fail. self.new.opened ≡ Err fail) }
+        ensures stays { StaysKept S.Store self.old.opened self.new.opened }
+        ensures crash { CrashLeaves S.Store self.old.opened self.new.opened [] }
     {
         let answer = match &mut self.opened {
             Ok(connection) => changes::load(alloc, connection),
@@ -86,11 +115,13 @@ impl<S: Alter> Keeper for SqlKeeper<S> {
 
     fn commit(&mut self, alloc: Global, batch: &[Change]) -> Result<(), KeepFail>
         requires { All CanKeep batch.now }
-        ensures sound { ⊤ → ⊤ }
-        ensures told { ⊤ → ⊤ }
+        ensures sound { IsKeptSound S.Store self.new.opened → IsKeptSound S.Store self.old.opened }
+        ensures told { IsKeptSound S.Store self.new.opened → IfSome (kept_tables S.Store self.old.opened) (λ t. kept_tables S.Store self.new.opened ≡ Some (committed batch.now t result)) }
         ensures counted { Counts (is_failed_keep result) self.old.faults self.new.faults }
         ensures shut { IfErr self.old.opened (λ fail. result ≡ Err fail) }
         ensures stays_shut { IfErr self.old.opened (λ fail. self.new.opened ≡ Err fail) }
+        ensures stays { StaysKept S.Store self.old.opened self.new.opened }
+        ensures crash { CrashLeaves S.Store self.old.opened self.new.opened batch.now }
     {
         let answer = match &mut self.opened {
             Ok(connection) => changes::commit(alloc, connection, batch),

@@ -1,22 +1,26 @@
-//! A keeper of tables in a SQLite file.
+//! A keeper of tables in a SQLite file, which tells what it keeps.
 //!
-//! Callers use `SqlKeeper` as the `Keeper` of mk_outside that it is. It tells nothing of what it
-//! holds, so no clause says what a load gives. What is promised is its count of faults: a call
-//! answers `Failed` only where the count rose, and want of memory that the database names is no
-//! fault (`specs/Fails.antt`). A keeper whose file couldn't be opened is shut, and answers why to
-//! each call.
+//! Callers use `SqlKeeper` as the `Keeper` of mk_outside that it is. While nobody else writes the
+//! file and the disk returns what was written, it tells the tables that the database stands for
+//! (`specs/Told.antt`), and its loads and commits do to them what the trait says. A crash leaves
+//! the tables before a commit or after it, and a keeper over the files opened again tells those of
+//! the last commit (`again`). A keeper whose file couldn't be opened is shut, tells nothing and
+//! answers why to each call.
 //!
-//! How rows and places stand in a file is known here alone (`specs/Stored.antt`). What bytes mean
-//! isn't.
+//! How rows and places stand in a file is known here alone. What their bytes mean isn't.
 #![tactic(auto)]
 
 mod changes;
+#[cfg(test)]
+mod disk_tests;
 mod fails;
 mod keeper;
 mod places;
+mod restart;
 mod statements;
 mod stored;
 #[cfg(test)]
 mod tests;
 
 pub use keeper::SqlKeeper;
+pub use restart::again;

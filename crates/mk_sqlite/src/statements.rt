@@ -1,55 +1,267 @@
-// The statements, each with a function of its own.
-use crate::fails::answer_of;
-use crate::places::stored_place;
+// The statements, each with a function of its own. What each does to the told tables is its clause
+// `inside`.
+ghost use Rattle.std.specs.Prelude.{◌≡◌, ◌≤◌, ◌<◌, ◌+◌, ℕ, max, [], Ok, Some, IsTrue, IfOk, slice_index};
+ghost use Rattle.sqlite.specs.State.{Survives, Executes, Shown};
+ghost use Rattle.sqlite.specs.Held.{state};
+ghost use Rattle.sqlite.specs.Values.{bound};
+ghost use Rattle.std.specs.Prelude.{List};
+ghost use Rattle.mk_outside.specs.declared.tables.Tables.{Tables};
+ghost use Rattle.mk_outside.specs.Rows.{put, without};
+ghost use Rattle.mk_outside.specs.Tables.{record_number, query_number, cursor_number, without_name};
+ghost use Rattle.mk_sqlite.specs.Told.{place_in};
+ghost use Rattle.mk_sqlite.specs.Steps.{IsWhole, Inside, Changes, Moves, with_one, with_two, with_three, with_all};
+
+use crate::fails::fail_of;
 use crate::stored::{cursors_of, next_of, queries_of, records_of};
 use mk_outside::{CursorRows, KeepFail, QueryRows, RecordRows};
-use sqlite::{Alter, Error, Row, Transaction, params};
+use sqlite::{Alter, Row, Transaction, params};
 use sqlite_value::value::ValueRef;
 use std::alloc::Global;
 
-static RECORDS: &str =
-    "CREATE TABLE IF NOT EXISTS records(number INTEGER PRIMARY KEY, text BLOB NOT NULL) STRICT";
-
-static QUERIES: &str =
-    "CREATE TABLE IF NOT EXISTS queries(number INTEGER PRIMARY KEY, name TEXT NOT NULL UNIQUE, text BLOB NOT NULL) STRICT";
-
-static CURSORS: &str =
-    "CREATE TABLE IF NOT EXISTS cursors(number INTEGER PRIMARY KEY, name TEXT NOT NULL, place BLOB NOT NULL) STRICT";
-
-static NEXTS: &str =
-    "CREATE TABLE IF NOT EXISTS nexts(which INTEGER PRIMARY KEY, value INTEGER NOT NULL) STRICT";
-
-// The answer of a statement, without its count of rows.
-fn done(answer: Result<usize, Error>) -> Result<(), KeepFail> {
-    answer_of(answer)?;
-    Ok(())
-}
-
-fn make_table<S: Alter>(transaction: &mut Transaction<'_, S>, text: &str) -> Result<(), KeepFail> {
-    done(transaction.execute(text, &[]))
-}
-
-/// Makes the tables that are missing.
-pub fn make_tables<S: Alter>(transaction: &mut Transaction<'_, S>) -> Result<(), KeepFail> {
-    make_table(transaction, RECORDS)?;
-    make_table(transaction, QUERIES)?;
-    make_table(transaction, CURSORS)?;
-    make_table(transaction, NEXTS)
-}
-
-fn select<S: Alter>(
+// A statement is sent.
+fn send<S: Alter>(
     transaction: &mut Transaction<'_, S>,
     text: &str,
     params: &[ValueRef<'_>],
-) -> Result<Vec<Row>, KeepFail> {
-    answer_of(transaction.query_all(text, params))
+) -> Result<(), KeepFail>
+    ensures same_reference { transaction.new.conn.ghost_name ≡ transaction.old.conn.ghost_name }
+    ensures survives { Survives (state S.Store transaction.old.conn.now) (state S.Store transaction.new.conn.now) (λ _. ⊥) }
+    ensures inside { Inside (state S.Store transaction.old.conn.now) (state S.Store transaction.new.conn.now) result
+        (λ _. (count : ℕ) × Executes text.now (bound params.now) (state S.Store transaction.old.conn.now) (state S.Store transaction.new.conn.now) (Ok count)) }
+{
+    match transaction.execute(text, params) {
+        Ok(_) => Ok(()),
+        Err(error) => Err(fail_of(error)),
+    }
 }
+
+// What a query shows.
+fn show<S: Alter>(
+    transaction: &mut Transaction<'_, S>,
+    text: &str,
+    params: &[ValueRef<'_>],
+) -> Result<Vec<Row>, KeepFail>
+    ensures same_reference { transaction.new.conn.ghost_name ≡ transaction.old.conn.ghost_name }
+    ensures survives { Survives (state S.Store transaction.old.conn.now) (state S.Store transaction.new.conn.now) (λ _. ⊥) }
+    ensures inside { Inside (state S.Store transaction.old.conn.now) (state S.Store transaction.new.conn.now) result
+        (λ rows. Shown text.now (bound params.now) (state S.Store transaction.old.conn.now) (state S.Store transaction.new.conn.now) rows.items) }
+{
+    match transaction.query_all(text, params) {
+        Ok(rows) => Ok(rows),
+        Err(error) => Err(fail_of(error)),
+    }
+}
+
+// ---- the tables
+
+pub fn make_records<S: Alter>(transaction: &mut Transaction<'_, S>) -> Result<(), KeepFail>
+    ensures same_reference { transaction.new.conn.ghost_name ≡ transaction.old.conn.ghost_name }
+    ensures survives { Survives (state S.Store transaction.old.conn.now) (state S.Store transaction.new.conn.now) (λ _. ⊥) }
+    ensures inside { Inside (state S.Store transaction.old.conn.now) (state S.Store transaction.new.conn.now) result
+        (λ _. Moves (λ stage. stage) with_one (state S.Store transaction.old.conn.now).now (state S.Store transaction.new.conn.now).now) }
+{
+    send(
+        transaction,
+        "CREATE TABLE IF NOT EXISTS records(number INTEGER PRIMARY KEY, text BLOB NOT NULL) STRICT",
+        &[],
+    )
+}
+
+pub fn make_queries<S: Alter>(transaction: &mut Transaction<'_, S>) -> Result<(), KeepFail>
+    ensures same_reference { transaction.new.conn.ghost_name ≡ transaction.old.conn.ghost_name }
+    ensures survives { Survives (state S.Store transaction.old.conn.now) (state S.Store transaction.new.conn.now) (λ _. ⊥) }
+    ensures inside { Inside (state S.Store transaction.old.conn.now) (state S.Store transaction.new.conn.now) result
+        (λ _. Moves with_one with_two (state S.Store transaction.old.conn.now).now (state S.Store transaction.new.conn.now).now) }
+{
+    send(
+        transaction,
+        "CREATE TABLE IF NOT EXISTS queries(number INTEGER PRIMARY KEY, name TEXT NOT NULL UNIQUE, text BLOB NOT NULL) STRICT",
+        &[],
+    )
+}
+
+pub fn make_cursors<S: Alter>(transaction: &mut Transaction<'_, S>) -> Result<(), KeepFail>
+    ensures same_reference { transaction.new.conn.ghost_name ≡ transaction.old.conn.ghost_name }
+    ensures survives { Survives (state S.Store transaction.old.conn.now) (state S.Store transaction.new.conn.now) (λ _. ⊥) }
+    ensures inside { Inside (state S.Store transaction.old.conn.now) (state S.Store transaction.new.conn.now) result
+        (λ _. Moves with_two with_three (state S.Store transaction.old.conn.now).now (state S.Store transaction.new.conn.now).now) }
+{
+    send(
+        transaction,
+        "CREATE TABLE IF NOT EXISTS cursors(number INTEGER PRIMARY KEY, name TEXT NOT NULL, place BLOB NOT NULL) STRICT",
+        &[],
+    )
+}
+
+pub fn make_nexts<S: Alter>(transaction: &mut Transaction<'_, S>) -> Result<(), KeepFail>
+    ensures same_reference { transaction.new.conn.ghost_name ≡ transaction.old.conn.ghost_name }
+    ensures survives { Survives (state S.Store transaction.old.conn.now) (state S.Store transaction.new.conn.now) (λ _. ⊥) }
+    ensures inside { Inside (state S.Store transaction.old.conn.now) (state S.Store transaction.new.conn.now) result
+        (λ _. Moves with_three with_all (state S.Store transaction.old.conn.now).now (state S.Store transaction.new.conn.now).now) }
+{
+    send(
+        transaction,
+        "CREATE TABLE IF NOT EXISTS nexts(which INTEGER PRIMARY KEY, value INTEGER NOT NULL) STRICT",
+        &[],
+    )
+}
+
+// ---- rows that are dropped
+
+pub fn drop_record<S: Alter>(
+    transaction: &mut Transaction<'_, S>,
+    number: u32,
+) -> Result<(), KeepFail>
+    ensures same_reference { transaction.new.conn.ghost_name ≡ transaction.old.conn.ghost_name }
+    ensures survives { Survives (state S.Store transaction.old.conn.now) (state S.Store transaction.new.conn.now) (λ _. ⊥) }
+    ensures inside { Inside (state S.Store transaction.old.conn.now) (state S.Store transaction.new.conn.now) result
+        (λ _. Changes (state S.Store transaction.old.conn.now) (state S.Store transaction.new.conn.now) (λ t. record t { records = without record_number number t.records })) }
+{
+    send(
+        transaction,
+        "DELETE FROM records WHERE number = ?1",
+        params![number],
+    )
+}
+
+pub fn drop_query<S: Alter>(
+    transaction: &mut Transaction<'_, S>,
+    name: &str,
+) -> Result<(), KeepFail>
+    ensures same_reference { transaction.new.conn.ghost_name ≡ transaction.old.conn.ghost_name }
+    ensures survives { Survives (state S.Store transaction.old.conn.now) (state S.Store transaction.new.conn.now) (λ _. ⊥) }
+    ensures inside { Inside (state S.Store transaction.old.conn.now) (state S.Store transaction.new.conn.now) result
+        (λ _. Changes (state S.Store transaction.old.conn.now) (state S.Store transaction.new.conn.now) (λ t. record t { queries = without_name name.now t.queries })) }
+{
+    send(
+        transaction,
+        "DELETE FROM queries WHERE name = ?1",
+        params![name],
+    )
+}
+
+pub fn drop_cursor<S: Alter>(
+    transaction: &mut Transaction<'_, S>,
+    number: u32,
+) -> Result<(), KeepFail>
+    ensures same_reference { transaction.new.conn.ghost_name ≡ transaction.old.conn.ghost_name }
+    ensures survives { Survives (state S.Store transaction.old.conn.now) (state S.Store transaction.new.conn.now) (λ _. ⊥) }
+    ensures inside { Inside (state S.Store transaction.old.conn.now) (state S.Store transaction.new.conn.now) result
+        (λ _. Changes (state S.Store transaction.old.conn.now) (state S.Store transaction.new.conn.now) (λ t. record t { cursors = without cursor_number number t.cursors })) }
+{
+    send(
+        transaction,
+        "DELETE FROM cursors WHERE number = ?1",
+        params![number],
+    )
+}
+
+// ---- rows that are put
+
+pub fn put_record<S: Alter>(
+    transaction: &mut Transaction<'_, S>,
+    number: u32,
+    text: &[u8],
+) -> Result<(), KeepFail>
+    ensures same_reference { transaction.new.conn.ghost_name ≡ transaction.old.conn.ghost_name }
+    ensures survives { Survives (state S.Store transaction.old.conn.now) (state S.Store transaction.new.conn.now) (λ _. ⊥) }
+    ensures inside { Inside (state S.Store transaction.old.conn.now) (state S.Store transaction.new.conn.now) result
+        (λ _. Changes (state S.Store transaction.old.conn.now) (state S.Store transaction.new.conn.now) (λ t. record t { records = put record_number (record { number = number; text = text.now }) t.records })) }
+{
+    send(
+        transaction,
+        "INSERT INTO records(number, text) VALUES (?1, ?2) ON CONFLICT(number) DO UPDATE SET text = excluded.text",
+        params![number, text],
+    )
+}
+
+pub fn put_query<S: Alter>(
+    transaction: &mut Transaction<'_, S>,
+    number: u32,
+    name: &str,
+    text: &[u8],
+) -> Result<(), KeepFail>
+    ensures same_reference { transaction.new.conn.ghost_name ≡ transaction.old.conn.ghost_name }
+    ensures survives { Survives (state S.Store transaction.old.conn.now) (state S.Store transaction.new.conn.now) (λ _. ⊥) }
+    ensures inside { Inside (state S.Store transaction.old.conn.now) (state S.Store transaction.new.conn.now) result
+        (λ _. Changes (state S.Store transaction.old.conn.now) (state S.Store transaction.new.conn.now) (λ t. record t { queries = put query_number (record { number = number; name = name.now; text = text.now }) t.queries })) }
+{
+    send(
+        transaction,
+        "INSERT INTO queries(number, name, text) VALUES (?1, ?2, ?3) ON CONFLICT(number) DO UPDATE SET name = excluded.name, text = excluded.text",
+        params![number, name, text],
+    )
+}
+
+/// Puts a cursor whose place reads from the bytes.
+pub fn put_cursor<S: Alter>(
+    transaction: &mut Transaction<'_, S>,
+    number: u32,
+    name: &str,
+    place: &[u8],
+) -> Result<(), KeepFail>
+    ensures same_reference { transaction.new.conn.ghost_name ≡ transaction.old.conn.ghost_name }
+    ensures survives { Survives (state S.Store transaction.old.conn.now) (state S.Store transaction.new.conn.now) (λ _. ⊥) }
+    ensures inside { Inside (state S.Store transaction.old.conn.now) (state S.Store transaction.new.conn.now) result
+        (λ _. (list : List ℕ) → place_in place.now ≡ Some list → Changes (state S.Store transaction.old.conn.now) (state S.Store transaction.new.conn.now) (λ t. record t { cursors = put cursor_number (record { number = number; name = name.now; place = list }) t.cursors })) }
+{
+    send(
+        transaction,
+        "INSERT INTO cursors(number, name, place) VALUES (?1, ?2, ?3) ON CONFLICT(number) DO UPDATE SET name = excluded.name, place = excluded.place",
+        params![number, name, place],
+    )
+}
+
+// ---- the next numbers
+
+/// Raises the next number of records to the value, where it is below.
+pub fn raise_next_record<S: Alter>(
+    transaction: &mut Transaction<'_, S>,
+    value: u32,
+) -> Result<(), KeepFail>
+    requires { 1 ≤ value }
+    ensures same_reference { transaction.new.conn.ghost_name ≡ transaction.old.conn.ghost_name }
+    ensures survives { Survives (state S.Store transaction.old.conn.now) (state S.Store transaction.new.conn.now) (λ _. ⊥) }
+    ensures inside { Inside (state S.Store transaction.old.conn.now) (state S.Store transaction.new.conn.now) result
+        (λ _. Changes (state S.Store transaction.old.conn.now) (state S.Store transaction.new.conn.now) (λ t. record t { next_record = max t.next_record value })) }
+{
+    send(
+        transaction,
+        "INSERT INTO nexts(which, value) VALUES (?1, ?2) ON CONFLICT(which) DO UPDATE SET value = excluded.value WHERE nexts.value < excluded.value",
+        params![1u32, value],
+    )
+}
+
+/// The same of cursors.
+pub fn raise_next_cursor<S: Alter>(
+    transaction: &mut Transaction<'_, S>,
+    value: u32,
+) -> Result<(), KeepFail>
+    requires { 1 ≤ value }
+    ensures same_reference { transaction.new.conn.ghost_name ≡ transaction.old.conn.ghost_name }
+    ensures survives { Survives (state S.Store transaction.old.conn.now) (state S.Store transaction.new.conn.now) (λ _. ⊥) }
+    ensures inside { Inside (state S.Store transaction.old.conn.now) (state S.Store transaction.new.conn.now) result
+        (λ _. Changes (state S.Store transaction.old.conn.now) (state S.Store transaction.new.conn.now) (λ t. record t { next_cursor = max t.next_cursor value })) }
+{
+    send(
+        transaction,
+        "INSERT INTO nexts(which, value) VALUES (?1, ?2) ON CONFLICT(which) DO UPDATE SET value = excluded.value WHERE nexts.value < excluded.value",
+        params![2u32, value],
+    )
+}
+
+// ---- selections
 
 pub fn select_records<S: Alter>(
     alloc: Global,
     transaction: &mut Transaction<'_, S>,
-) -> Result<RecordRows, KeepFail> {
-    let rows = select(
+) -> Result<RecordRows, KeepFail>
+    ensures same_reference { transaction.new.conn.ghost_name ≡ transaction.old.conn.ghost_name }
+    ensures survives { Survives (state S.Store transaction.old.conn.now) (state S.Store transaction.new.conn.now) (λ _. ⊥) }
+    ensures inside { Inside (state S.Store transaction.old.conn.now) (state S.Store transaction.new.conn.now) result
+        (λ it. (t : Tables) → IsWhole (state S.Store transaction.old.conn.now).now t → (it ≡ t.records) × IsWhole (state S.Store transaction.new.conn.now).now t) }
+{
+    let rows = show(
         transaction,
         "SELECT number, text FROM records ORDER BY number",
         &[],
@@ -60,8 +272,13 @@ pub fn select_records<S: Alter>(
 pub fn select_queries<S: Alter>(
     alloc: Global,
     transaction: &mut Transaction<'_, S>,
-) -> Result<QueryRows, KeepFail> {
-    let rows = select(
+) -> Result<QueryRows, KeepFail>
+    ensures same_reference { transaction.new.conn.ghost_name ≡ transaction.old.conn.ghost_name }
+    ensures survives { Survives (state S.Store transaction.old.conn.now) (state S.Store transaction.new.conn.now) (λ _. ⊥) }
+    ensures inside { Inside (state S.Store transaction.old.conn.now) (state S.Store transaction.new.conn.now) result
+        (λ it. (t : Tables) → IsWhole (state S.Store transaction.old.conn.now).now t → (it ≡ t.queries) × IsWhole (state S.Store transaction.new.conn.now).now t) }
+{
+    let rows = show(
         transaction,
         "SELECT number, name, text FROM queries ORDER BY number",
         &[],
@@ -72,8 +289,13 @@ pub fn select_queries<S: Alter>(
 pub fn select_cursors<S: Alter>(
     alloc: Global,
     transaction: &mut Transaction<'_, S>,
-) -> Result<CursorRows, KeepFail> {
-    let rows = select(
+) -> Result<CursorRows, KeepFail>
+    ensures same_reference { transaction.new.conn.ghost_name ≡ transaction.old.conn.ghost_name }
+    ensures survives { Survives (state S.Store transaction.old.conn.now) (state S.Store transaction.new.conn.now) (λ _. ⊥) }
+    ensures inside { Inside (state S.Store transaction.old.conn.now) (state S.Store transaction.new.conn.now) result
+        (λ it. (t : Tables) → IsWhole (state S.Store transaction.old.conn.now).now t → (it ≡ t.cursors) × IsWhole (state S.Store transaction.new.conn.now).now t) }
+{
+    let rows = show(
         transaction,
         "SELECT number, name, place FROM cursors ORDER BY number",
         &[],
@@ -81,117 +303,30 @@ pub fn select_cursors<S: Alter>(
     cursors_of(alloc, rows.as_slice())
 }
 
-fn select_next<S: Alter>(
-    transaction: &mut Transaction<'_, S>,
-    which: u32,
-) -> Result<u32, KeepFail> {
-    let rows = select(
+pub fn select_next_record<S: Alter>(transaction: &mut Transaction<'_, S>) -> Result<u32, KeepFail>
+    ensures same_reference { transaction.new.conn.ghost_name ≡ transaction.old.conn.ghost_name }
+    ensures survives { Survives (state S.Store transaction.old.conn.now) (state S.Store transaction.new.conn.now) (λ _. ⊥) }
+    ensures inside { Inside (state S.Store transaction.old.conn.now) (state S.Store transaction.new.conn.now) result
+        (λ it. (t : Tables) → IsWhole (state S.Store transaction.old.conn.now).now t → (it ≡ t.next_record) × IsWhole (state S.Store transaction.new.conn.now).now t) }
+{
+    let rows = show(
         transaction,
         "SELECT value FROM nexts WHERE which = ?1",
-        params![which],
+        params![1u32],
     )?;
     next_of(rows.as_slice())
 }
 
-pub fn select_next_record<S: Alter>(transaction: &mut Transaction<'_, S>) -> Result<u32, KeepFail> {
-    select_next(transaction, 1)
-}
-
-pub fn select_next_cursor<S: Alter>(transaction: &mut Transaction<'_, S>) -> Result<u32, KeepFail> {
-    select_next(transaction, 2)
-}
-
-fn name_of(name: &[u8]) -> Result<&str, KeepFail> {
-    match std::str::from_utf8(name) {
-        Ok(name) => Ok(name),
-        Err(_) => Err(KeepFail::Failed),
-    }
-}
-
-pub fn put_record<S: Alter>(
-    transaction: &mut Transaction<'_, S>,
-    number: u32,
-    text: &[u8],
-) -> Result<(), KeepFail> {
-    done(transaction.execute(
-        "INSERT INTO records(number, text) VALUES (?1, ?2) ON CONFLICT(number) DO UPDATE SET text = excluded.text",
-        params![number, text],
-    ))
-}
-
-pub fn put_query<S: Alter>(
-    transaction: &mut Transaction<'_, S>,
-    number: u32,
-    name: &[u8],
-    text: &[u8],
-) -> Result<(), KeepFail> {
-    let name = name_of(name)?;
-    done(transaction.execute(
-        "INSERT INTO queries(number, name, text) VALUES (?1, ?2, ?3) ON CONFLICT(number) DO UPDATE SET name = excluded.name, text = excluded.text",
-        params![number, name, text],
-    ))
-}
-
-pub fn put_cursor<S: Alter>(
-    alloc: Global,
-    transaction: &mut Transaction<'_, S>,
-    number: u32,
-    name: &[u8],
-    place: &[u32],
-) -> Result<(), KeepFail> {
-    let name = name_of(name)?;
-    let place = stored_place(alloc, place)?;
-    done(transaction.execute(
-        "INSERT INTO cursors(number, name, place) VALUES (?1, ?2, ?3) ON CONFLICT(number) DO UPDATE SET name = excluded.name, place = excluded.place",
-        params![number, name, place.as_slice()],
-    ))
-}
-
-pub fn drop_record<S: Alter>(
-    transaction: &mut Transaction<'_, S>,
-    number: u32,
-) -> Result<(), KeepFail> {
-    done(transaction.execute("DELETE FROM records WHERE number = ?1", params![number]))
-}
-
-pub fn drop_query<S: Alter>(
-    transaction: &mut Transaction<'_, S>,
-    name: &[u8],
-) -> Result<(), KeepFail> {
-    let name = name_of(name)?;
-    done(transaction.execute("DELETE FROM queries WHERE name = ?1", params![name]))
-}
-
-pub fn drop_cursor<S: Alter>(
-    transaction: &mut Transaction<'_, S>,
-    number: u32,
-) -> Result<(), KeepFail> {
-    done(transaction.execute("DELETE FROM cursors WHERE number = ?1", params![number]))
-}
-
-fn raise_next<S: Alter>(
-    transaction: &mut Transaction<'_, S>,
-    which: u32,
-    least: u32,
-) -> Result<(), KeepFail> {
-    done(transaction.execute(
-        "INSERT INTO nexts(which, value) VALUES (?1, ?2) ON CONFLICT(which) DO UPDATE SET value = excluded.value WHERE nexts.value < excluded.value",
-        params![which, least],
-    ))
-}
-
-/// Raises the next number of records above the number, where it isn't.
-pub fn raise_next_record<S: Alter>(
-    transaction: &mut Transaction<'_, S>,
-    number: u32,
-) -> Result<(), KeepFail> {
-    raise_next(transaction, 1, number.saturating_add(1))
-}
-
-/// The same of cursors.
-pub fn raise_next_cursor<S: Alter>(
-    transaction: &mut Transaction<'_, S>,
-    number: u32,
-) -> Result<(), KeepFail> {
-    raise_next(transaction, 2, number.saturating_add(1))
+pub fn select_next_cursor<S: Alter>(transaction: &mut Transaction<'_, S>) -> Result<u32, KeepFail>
+    ensures same_reference { transaction.new.conn.ghost_name ≡ transaction.old.conn.ghost_name }
+    ensures survives { Survives (state S.Store transaction.old.conn.now) (state S.Store transaction.new.conn.now) (λ _. ⊥) }
+    ensures inside { Inside (state S.Store transaction.old.conn.now) (state S.Store transaction.new.conn.now) result
+        (λ it. (t : Tables) → IsWhole (state S.Store transaction.old.conn.now).now t → (it ≡ t.next_cursor) × IsWhole (state S.Store transaction.new.conn.now).now t) }
+{
+    let rows = show(
+        transaction,
+        "SELECT value FROM nexts WHERE which = ?1",
+        params![2u32],
+    )?;
+    next_of(rows.as_slice())
 }

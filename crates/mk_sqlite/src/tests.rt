@@ -1,11 +1,11 @@
-// A file that is written and read again, and rows that are none of ours.
+// A file that is written and read again, and rows and schemas that are none of ours.
 ghost use Rattle.std.specs.Prelude.{IfOk};
 ghost use Rattle.std.specs.Str.{IsAscii};
 ghost use Rattle.mk_outside.specs.Tables.{CanKeep};
 
 use crate::SqlKeeper;
 use mk_outside::{Bytes, Change, KeepFail, Keeper, Place, SureKeeper, Tables};
-use sqlite::Connection;
+use sqlite::{Connection, MemStore, Unknown};
 use std::alloc::{AllocError, Global};
 use std::fs;
 use std::test::Fail;
@@ -109,21 +109,31 @@ fn shown(alloc: Global, tables: &Tables) -> Result<Vec<u8>, AllocError> {
     Ok(shown)
 }
 
-// Whether both batches were made.
-fn put_all<K: Keeper>(keeper: &mut K, alloc: Global) -> Result<bool, AllocError> {
-    let first = record(alloc, b"ab")?;
+// Whether a batch of a record, a query and a cursor was made.
+pub fn put_first<K: Keeper>(keeper: &mut K, alloc: Global) -> Result<bool, AllocError> {
+    let record = record(alloc, b"ab")?;
     let query = query(alloc, 2)?;
     let cursor = cursor(alloc)?;
-    if keeper.commit(alloc, &[first, query, cursor]).is_err() {
+    Ok(keeper.commit(alloc, &[record, query, cursor]).is_ok())
+}
+
+// Whether a batch that replaces the record was made.
+pub fn put_second<K: Keeper>(keeper: &mut K, alloc: Global) -> Result<bool, AllocError> {
+    let record = record(alloc, b"c")?;
+    let dropped = Change::DropRecord { number: 8 };
+    Ok(keeper.commit(alloc, &[record, dropped]).is_ok())
+}
+
+// Whether both batches were made.
+fn put_all<K: Keeper>(keeper: &mut K, alloc: Global) -> Result<bool, AllocError> {
+    if !put_first(keeper, alloc)? {
         return Ok(false);
     }
-    let second = record(alloc, b"c")?;
-    let dropped = Change::DropRecord { number: 8 };
-    Ok(keeper.commit(alloc, &[second, dropped]).is_ok())
+    put_second(keeper, alloc)
 }
 
 // What is loaded. Nothing where that fails.
-fn loaded<K: Keeper>(keeper: &mut K, alloc: Global) -> Result<Vec<u8>, AllocError> {
+pub fn loaded<K: Keeper>(keeper: &mut K, alloc: Global) -> Result<Vec<u8>, AllocError> {
     match keeper.load(alloc) {
         Ok(tables) => shown(alloc, &tables),
         Err(_) => Ok(Vec::new(alloc)),
@@ -137,10 +147,10 @@ fn kept_in_memory(alloc: Global) -> Result<Vec<u8>, AllocError> {
 }
 
 fn kept_in_file(rt: &HostRuntime) -> Result<Vec<u8>, AllocError> {
-    let mut keeper = SqlKeeper::at(rt, "kept.db");
+    let mut keeper = SqlKeeper::at(rt, "kept.db", Unknown);
     let put = put_all(&mut keeper, rt.alloc())?;
     drop(keeper);
-    let mut keeper = SqlKeeper::at(rt, "kept.db");
+    let mut keeper = SqlKeeper::at(rt, "kept.db", Unknown);
     let kept = loaded(&mut keeper, rt.alloc())?;
     Ok(if put { kept } else { Vec::new(rt.alloc()) })
 }
@@ -177,13 +187,20 @@ fn a_refused_batch_leaves_nothing(rt: HostRuntime) -> Result<(), Fail> {
     Ok(())
 }
 
-fn fails_to_load(alloc: Global, before: &str) -> Result<bool, AllocError> {
+// A keeper over a database that these statements made.
+fn over(alloc: Global, before: &str) -> Result<Option<SqlKeeper<MemStore>>, AllocError> {
     let mut connection = Connection::open_in_memory(alloc)?;
-    if connection.execute_batch(before).is_err() {
-        return Ok(false);
+    if connection.execute_batch(before).is_err() || !connection.is_autocommit() {
+        return Ok(None);
     }
-    let mut keeper = SqlKeeper::over(connection);
-    Ok(matches!(keeper.load(alloc), Err(KeepFail::Failed)))
+    Ok(Some(SqlKeeper::over(connection)))
+}
+
+fn fails_to_load(alloc: Global, before: &str) -> Result<bool, AllocError> {
+    match over(alloc, before)? {
+        Some(mut keeper) => Ok(matches!(keeper.load(alloc), Err(KeepFail::Failed))),
+        None => Ok(false),
+    }
 }
 
 #[test]
@@ -191,7 +208,45 @@ fn strange_rows_fail(rt: HostRuntime) -> Result<(), Fail> {
     for (name, before) in STRANGE.iter() {
         assert!(rt; fails_to_load(rt.alloc(), before)?, "{name}");
     }
-    let mut shut = SqlKeeper::at(&rt, ":memory:");
+    let mut shut = SqlKeeper::at(&rt, ":memory:", Unknown);
     assert!(rt; matches!(shut.load(rt.alloc()), Err(KeepFail::Failed)));
+    assert!(rt; matches!(shut.back(), None));
+    Ok(())
+}
+
+// Schemas of which nothing is told, and what is loaded of them.
+static SCHEMAS: [(&str, &str, &str); 3] = [
+    (
+        "another table",
+        "CREATE TABLE notes(a TEXT);
+        INSERT INTO notes VALUES ('b')",
+        "11",
+    ),
+    (
+        "another text of a table",
+        "CREATE TABLE records(number INTEGER PRIMARY KEY, text BLOB NOT NULL);
+        INSERT INTO records VALUES (1, x'61')",
+        "1a11",
+    ),
+    (
+        "the last table alone",
+        "CREATE TABLE nexts(which INTEGER PRIMARY KEY, value INTEGER NOT NULL) STRICT;
+        INSERT INTO nexts VALUES (1, 5)",
+        "51",
+    ),
+];
+
+fn loads(alloc: Global, before: &str, wanted: &str) -> Result<bool, AllocError> {
+    match over(alloc, before)? {
+        Some(mut keeper) => Ok(loaded(&mut keeper, alloc)?.as_slice() == wanted.as_bytes()),
+        None => Ok(false),
+    }
+}
+
+#[test]
+fn other_schemas_are_read(rt: HostRuntime) -> Result<(), Fail> {
+    for (name, before, wanted) in SCHEMAS.iter() {
+        assert!(rt; loads(rt.alloc(), before, wanted)?, "{name}");
+    }
     Ok(())
 }

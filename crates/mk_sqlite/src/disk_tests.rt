@@ -1,0 +1,129 @@
+// A keeper over disks in memory, which are opened again, and stopped at each of their calls.
+use crate::tests::{loaded, put_first, put_second};
+use crate::{SqlKeeper, again};
+use sqlite::{Connection, FileStore, Files, Options};
+use sqlite_disk::{Crash, Fuse, Memory};
+use std::alloc::{AllocError, Global};
+use std::test::Fail;
+
+type Fused = Fuse<Memory>;
+
+type FusedKeeper = SqlKeeper<FileStore<Fused>>;
+
+// An empty log and an empty database, which stop after so many calls.
+fn files(alloc: Global, log: u64, db: u64) -> Files<Fused> {
+    Files {
+        log: Fuse::new(Memory::new(alloc), log),
+        db: Fuse::new(Memory::new(alloc), db),
+    }
+}
+
+// A keeper over the files, or else the files.
+fn opened(alloc: Global, files: Files<Fused>) -> Result<FusedKeeper, Files<Fused>> {
+    if !files.may_be_used() {
+        return Err(files);
+    }
+    match Connection::open_files(alloc, files, Options::new(7)) {
+        Ok(connection) => Ok(SqlKeeper::over(connection)),
+        Err((_error, left)) => Err(left.into_files()),
+    }
+}
+
+// The files of a keeper, whether they could be closed well or not.
+fn closed(keeper: FusedKeeper) -> Option<Files<Fused>> {
+    match keeper.back() {
+        Some(connection) => match connection.close_files() {
+            Ok(files) => Some(files),
+            Err((_error, store)) => Some(store.close()),
+        },
+        None => None,
+    }
+}
+
+// How many of the two batches were made.
+fn made(keeper: &mut FusedKeeper, alloc: Global) -> Result<usize, AllocError> {
+    if !put_first(keeper, alloc)? {
+        return Ok(0);
+    }
+    Ok(if put_second(keeper, alloc)? { 2 } else { 1 })
+}
+
+// The files after a stop: what was not yet safe is lost, and they take calls again.
+fn restarted(mut files: Files<Fused>) -> Files<Fused> {
+    files.log.crash();
+    files.db.crash();
+    files
+}
+
+// How many batches were made over files that stop after so many calls, and what is loaded of them
+// afterwards.
+fn stopped(alloc: Global, log: u64, db: u64) -> Result<(usize, Vec<u8>), Fail> {
+    let (made, files) = match opened(alloc, files(alloc, log, db)) {
+        Ok(mut keeper) => (made(&mut keeper, alloc)?, closed(keeper).ok_or("no files")?),
+        Err(files) => (0, files),
+    };
+    match opened(alloc, restarted(files)) {
+        Ok(mut keeper) => Ok((made, loaded(&mut keeper, alloc)?)),
+        Err(_files) => Err(Fail::new("files that can't be opened again")),
+    }
+}
+
+// What is loaded after none, one and both of the batches.
+static LEFT: [&str; 3] = ["11", "3ab2qt7q18548", "3c2qt7q18548"];
+
+fn is_left(left: &[u8], batches: usize) -> bool {
+    match LEFT.get(batches) {
+        Some(wanted) => left == wanted.as_bytes(),
+        None => false,
+    }
+}
+
+// Stops the one file or the other at each call, until both batches are made. Says how often it was
+// stopped before one was made, before the other, and behind both.
+fn stop_each(alloc: Global, stops_log: bool) -> Result<[usize; 3], Fail> {
+    let mut seen = [0; 3];
+    for calls in 0..1000 {
+        let (log, db) = if stops_log {
+            (calls, u64::MAX)
+        } else {
+            (u64::MAX, calls)
+        };
+        let (made, left) = stopped(alloc, log, db)?;
+        if !is_left(left.as_slice(), made) && !is_left(left.as_slice(), made + 1) {
+            return Err(Fail::new("the tables of no number of batches"));
+        }
+        if let Some(count) = seen.get_mut(made) {
+            *count += 1;
+        }
+        if made == 2 {
+            return Ok(seen);
+        }
+    }
+    Err(Fail::new("both batches are never made"))
+}
+
+#[test]
+fn a_stopped_log_leaves_whole_batches(rt: HostRuntime) -> Result<(), Fail> {
+    let seen = stop_each(rt.alloc(), true)?;
+    assert!(rt; seen[0] > 1 && seen[1] > 1 && seen[2] == 1);
+    Ok(())
+}
+
+#[test]
+fn a_stopped_database_leaves_whole_batches(rt: HostRuntime) -> Result<(), Fail> {
+    let seen = stop_each(rt.alloc(), false)?;
+    assert!(rt; seen[2] == 1);
+    Ok(())
+}
+
+#[test]
+fn a_keeper_opened_again_keeps_all(rt: HostRuntime) -> Result<(), Fail> {
+    let alloc = rt.alloc();
+    let Ok(mut keeper) = opened(alloc, files(alloc, u64::MAX, u64::MAX)) else {
+        return Err(Fail::new("files that can't be opened"));
+    };
+    assert_eq!(rt; made(&mut keeper, alloc)?, 2);
+    let mut keeper = again(alloc, keeper, Options::new(7)).ok_or("a keeper")?;
+    assert!(rt; is_left(loaded(&mut keeper, alloc)?.as_slice(), 2));
+    Ok(())
+}
