@@ -4,7 +4,7 @@
 //! Files, stores, scripts and answers are written out (`test_files`), and each call of each object
 //! is failed in turn (`failure_tests`, `fault_tests`).
 //!
-//! What is promised of runs is proved in mk_session.
+//! What is promised of runs is proved in mk_session, mk_effects and mk_kept.
 #![tactic(auto)]
 
 #[cfg(test)]

@@ -8,7 +8,7 @@ use mk_session::Status;
 use std::alloc::Global;
 use std::test::Fail;
 
-static HITS: [(&str, Content, Content, &str); 22] = [
+static HITS: [(&str, Content, Content, &str); 23] = [
     (
         "two maps of C-O",
         CO,
@@ -91,6 +91,14 @@ static HITS: [(&str, Content, Content, &str); 22] = [
         "hit 1 choice map 1\nend\n",
     ),
     (
+        "a V3000 table",
+        Drawn("N C | 1-2"),
+        Written(
+            "\n\n\n  0  0  0     0  0            999 V3000\nM  V30 BEGIN CTAB\nM  V30 COUNTS 2 1 0 0 0\nM  V30 BEGIN ATOM\nM  V30 1 N 0 0 0 0 CHG=1\nM  V30 2 C 1.5 0 0 -\nM  V30 0\nM  V30 END ATOM\nM  V30 BEGIN BOND\nM  V30 1 1 1 2\nM  V30 END BOND\nM  V30 END CTAB\nM  END\n",
+        ),
+        "hit 1 choice map 1 2\nend\n",
+    ),
+    (
         "a line that ends the record",
         C,
         Written("\n\n\n  1  0\n                               C\nM  END\n$$$$\n"),
@@ -150,7 +158,7 @@ fn queries_have_their_hits(rt: HostRuntime) -> Result<(), Fail> {
     Ok(())
 }
 
-static REFUSALS: [(&str, Content, Content, &str); 19] = [
+static REFUSALS: [(&str, Content, Content, &str); 22] = [
     (
         "an unknown symbol",
         C,
@@ -198,10 +206,34 @@ static REFUSALS: [(&str, Content, Content, &str); 19] = [
         "refused 3 molecules record 1 check V7 item 1\n",
     ),
     (
-        "V3000",
+        "a V3000 table that is cut",
         C,
         Written("\n\n\n  0  0  0     0  0            999 V3000\nM  V30 BEGIN CTAB\n"),
-        "refused 2 molecules v3000 line 4\n",
+        "refused 2 molecules line 6\n",
+    ),
+    (
+        "a V3000 table without the end of its atoms",
+        C,
+        Written(
+            "\n\n\n  0  0  0     0  0            999 V3000\nM  V30 BEGIN CTAB\nM  V30 COUNTS 2 1 0 0 0\nM  V30 BEGIN ATOM\nM  V30 1 N 0 0 0 0 CHG=1\nM  V30 2 C 1.5 0 0 -\nM  V30 0\nM  V30 BEGIN BOND\nM  V30 1 1 1 2\nM  V30 END BOND\nM  V30 END CTAB\nM  END\n",
+        ),
+        "refused 2 molecules line 11\n",
+    ),
+    (
+        "a charge of 16 in a V3000 table",
+        C,
+        Written(
+            "\n\n\n  0  0  0     0  0            999 V3000\nM  V30 BEGIN CTAB\nM  V30 COUNTS 1 0 0 0 0\nM  V30 BEGIN ATOM\nM  V30 1 N 0 0 0 0 CHG=16\nM  V30 END ATOM\nM  V30 END CTAB\nM  END\n",
+        ),
+        "refused 3 molecules record 1 check V6 item 1\n",
+    ),
+    (
+        "a bond of a V3000 table to an atom that isn't there",
+        C,
+        Written(
+            "\n\n\n  0  0  0     0  0            999 V3000\nM  V30 BEGIN CTAB\nM  V30 COUNTS 1 1 0 0 0\nM  V30 BEGIN ATOM\nM  V30 1 N 0 0 0 0\nM  V30 END ATOM\nM  V30 BEGIN BOND\nM  V30 1 1 1 2\nM  V30 END BOND\nM  V30 END CTAB\nM  END\n",
+        ),
+        "refused 3 molecules record 1 check V2 item 1\n",
     ),
     (
         "a counts line that is none",
@@ -251,10 +283,10 @@ static REFUSALS: [(&str, Content, Content, &str); 19] = [
         "refused 2 molecules line 10\n",
     ),
     (
-        "V3000 in a second record",
+        "a second record of V3000 that is cut",
         C,
         Written("\n\n\n  0\nM  END\n$$$$\n\n\n\n  0  0  0     0  0            999 V3000\n"),
-        "refused 2 molecules v3000 line 10\n",
+        "refused 2 molecules line 11\n",
     ),
     (
         "a query of no byte",

@@ -57,10 +57,10 @@ static FILES: [(&str, Content, &str, &str, Status); 13] = [
         Status::Refused,
     ),
     (
-        "V3000",
+        "a V3000 table that is cut",
         Written("\n\n\n  0  0  0     0  0            999 V3000\n"),
         "load m\nload q\nreplace 1 m",
-        "refused 2 molecules v3000 line 4\nloaded 1 first 1\nrefused 2 molecules v3000 line 4\n",
+        "refused 2 molecules line 5\nloaded 1 first 1\nrefused 2 molecules line 5\n",
         Status::Refused,
     ),
     (

@@ -1,5 +1,5 @@
 // Words of the command line, and scripts.
-use crate::test_files::{C, Content, Written, files, is_run, words};
+use crate::test_files::{C, CO, COC, Content, Written, files, is_run, words};
 use mk_outside::{
     Bytes, FileRows, Memory, Source, SureFiles, SureKeeper, SureSink, SureSource, Tables,
 };
@@ -102,6 +102,21 @@ fn lines_are_answered_in_order(rt: HostRuntime) -> Result<(), Fail> {
             "{script}"
         );
     }
+    Ok(())
+}
+
+// Two maps, an edit of each kind, a record as it was kept, and one line that is refused.
+const SESSION: &str =
+    "match q m\nload m\nquery ether q\nreplace 1 q\n\nshow 1\nshow 2\nremove 1\nforget ether\nlist\n";
+
+const SESSION_ANSWER: &str =
+    "hit 1 choice map 1 2\nhit 1 choice map 3 2\nend\nloaded 1 first 1\nkept ether\nreplaced 1\nrecord 1 8\n\n\n\n  2  1  0  0  0  0            999 V2000\n    0.0000    0.0000    0.0000 C   0  0  0  0  0  0\n    0.0000    0.0000    0.0000 O   0  0  0  0  0  0\n  1  2  1  0  0  0\nM  END\nrefused 6 record 2\nremoved 1\nforgot ether\nrecords 0\nqueries 0\ncursors 0\nnext 2 1\n";
+
+#[test]
+fn a_session_answers_each_line(rt: HostRuntime) -> Result<(), Fail> {
+    let alloc = rt.alloc();
+    let rows = files(alloc, CO, COC)?;
+    assert!(rt; is_run(alloc, &[], rows, SESSION, SESSION_ANSWER, Status::Refused)?);
     Ok(())
 }
 

@@ -1,52 +1,30 @@
 -- Single words of a command.
---     name_utf8        a name is UTF-8
---     name_if          what the tests of a name come to
+--     name_as_file     a name is UTF-8, and so read as any text is
 --     digits_field     one to nine digits are a field with their number
-use Rattle.std.proofs.Common.{◌≡◌, ℕ, ◌<◌, ◌≤◌, Bool, true, false, ◌&&◌, List, [], ◌∷◌, ◌++◌, length, Option, Some, None, refl, sym, ap, ◌∙◌, arith}
-use Rattle.std.specs.Prelude.{ℤ, pos, nat_le, ◌==◌}
+use Rattle.std.proofs.Common.{◌≡◌, ℕ, ◌<◌, ◌≤◌, true, List, [], ◌++◌, length, Option, Some, None, refl, sym, ap, ◌∙◌, arith}
+use Rattle.std.specs.Prelude.{ℤ, pos}
 use Rattle.std.proofs.lemmas.Int.{to_z-of_z}
 use mir.Syntax.{w32}
 use mir.Val.{SFits, to_z, of_z}
 use lib.IntN.{nat_abs}
 use Rattle.std.specs.List.{list_all}
 use Rattle.std.specs.Char.{is_ascii_digit}
-use Rattle.std.specs.Str.{IsAscii, is_utf8}
+use Rattle.std.specs.Str.{is_utf8}
 use Rattle.std.specs.Str.Parse.{digits_value}
-use Rattle.std.proofs.lemmas.Bool.{le-leb}
-use Rattle.std.proofs.lemmas.Bool.Decides.{nat_tests}
 use Rattle.std.proofs.lemmas.List.{append-nil}
 use Rattle.std.proofs.lemmas.Str.{IsUtf8-from_ascii, is_utf8-from_IsUtf8}
-use Rattle.std.proofs.lemmas.Str.Ascii.{IsAscii-cons, IsAscii-nil}
 use Rattle.mk_text.specs.Columns.{columns}
 use Rattle.mk_text.specs.Fields.{NoSign, digits_number, field_in, field_of}
-use Rattle.mk_text.proofs.ForCallers.{both, columns_between, digits_given, number_given}
-use Rattle.mk_session.specs.Commands.{file_in, is_name, is_name_byte, name_in}
-
--- a list that isn't empty
-pub some_bytes : (n : ℕ) → false ≡ (n == 0) → 0 < n
-some_bytes n h = grind (arith, nat_tests)
+use Rattle.mk_text.proofs.ForCallers.{columns_between, digits_given, number_given}
+use Rattle.mk_session.specs.Commands.{file_in, name_in}
+use Rattle.mk_kept.specs.Names.{is_name}
+use Rattle.mk_kept.proofs.ForCallers.{name_ascii}
 
 -- ---- names
-
-small : (c : ℕ) → is_name_byte c ≡ true → c < 128
-small c h = grind (arith, nat_tests)
-
-ascii : (word : List ℕ) → list_all is_name_byte word ≡ true → IsAscii word
-ascii [] all = IsAscii-nil
-ascii (c ∷ word) all = let h = both (is_name_byte c) (list_all is_name_byte word) all in IsAscii-cons c word (small c h.0) (ascii word h.1)
-
--- a name is ASCII
-pub name_ascii : (word : List ℕ) → is_name word ≡ true → IsAscii word
-name_ascii word is =
-    let h = both (nat_le 1 (length word)) (nat_le (length word) 64 && list_all is_name_byte word) is in
-    ascii word (both (nat_le (length word) 64) (list_all is_name_byte word) h.1).1
 
 -- and so UTF-8: it is read as any text is
 pub name_as_file : (word : List ℕ) → is_name word ≡ true → file_in word ≡ name_in word
 name_as_file word is = let utf8 : is_utf8 word ≡ true = is_utf8-from_IsUtf8 word (IsUtf8-from_ascii word (name_ascii word is)) in rw (utf8, is) refl
-
-pub name_if : (word : List ℕ) (b : Bool) → 0 < length word → length word ≤ 64 → b ≡ list_all is_name_byte word → b ≡ is_name word
-name_if word b some few is = rw (le-leb 1 (length word) some, le-leb (length word) 64 few) is
 
 -- ---- numbers
 

@@ -1,222 +1,31 @@
 -- Tables that a run leaves read, where those before it did. A further command is a further case of `command_goes_on`.
---     edit_goes_on            an edit of records
 --     runs_keep_reading       the law
-use Rattle.std.proofs.Common.{◌≡◌, ℕ, ◌+◌, ◌≤◌, true, List, [], ◌∷◌, ◌++◌, length, map, filter, bytes_eq, nat_eq, ◌||◌, Option, Some, None, refl, sym, subst, arith}
+use Rattle.std.proofs.Common.{◌≡◌, ℕ, ◌+◌, List, [], ◌∷◌, ◌++◌, length, Option, Some, None, refl, sym, subst}
 use Rattle.std.specs.Prelude.{nat_lt}
-use Rattle.std.specs.List.{AllByRecursion, list_any}
+use Rattle.std.specs.List.{AllByRecursion}
 use Rattle.std.proofs.lemmas.Bool.{cond_both}
 use Rattle.mk_text.specs.Lines.{lines_of}
-use Rattle.mk_outside.specs.declared.tables.Change.{Change}
-use Rattle.mk_outside.specs.declared.tables.Change.TheVariants.{PutQuery, DropQuery, PutCursor, DropCursor, DropRecord}
-use Rattle.mk_outside.specs.declared.tables.CursorRow.{CursorRow}
-use Rattle.mk_outside.specs.declared.tables.QueryRow.{QueryRow}
 use Rattle.mk_outside.specs.declared.tables.Tables.{Tables}
-use Rattle.mk_outside.specs.Tables.{after_batch, after_change, cursor_number}
-use Rattle.mk_rgfile.specs.KeptQueries.{KeptLinesAreKept}
-use Rattle.mk_rgfile.proofs.ForCallers.{query_keeps}
-use Rattle.mk_query.specs.Laws.{KeptTextIsTheQuery, PassedQueriesFit}
-use Rattle.mk_query.proofs.ForCallers.{in_range}
-use Rattle.mk_text.specs.Rising.{place_behind}
-use Rattle.mk_model.specs.Queries.{QueryView}
-use Rattle.mk_model.specs.QueryFits.{QueryFits}
-use Rattle.mk_search.proofs.ForCallers.{place_has_few}
-use Rattle.mk_library.specs.EditedRows.{EditsAreOfRecords, EditsKeepReading}
-use Rattle.mk_library.specs.Edits.{Edit, Load, Remove, Replace}
-use Rattle.mk_library.specs.FirstRefusal.{Demand, Demands, IsAllowed}
-use Rattle.mk_library.specs.FirstRefusal as demand
-use Rattle.mk_library.specs.Pending.{InTurn, RecordsChangeAlone}
-use Rattle.mk_library.specs.Records.{is_held}
-use Rattle.mk_library.proofs.ForCallers.{kept_lines_are_short}
+use Rattle.mk_library.specs.Edits.{Load, Remove, Replace}
 use Rattle.mk_session.specs.declared.command.Command.{Command}
 use Rattle.mk_session.specs.declared.command.Command.TheVariants as variant
 use Rattle.mk_session.specs.declared.command.LineKind.{LineKind}
 use Rattle.mk_session.specs.declared.command.LineKind.TheVariants as line_kind
 use Rattle.mk_session.specs.declared.command.WordsKind.{WordsKind}
 use Rattle.mk_session.specs.declared.command.WordsKind.TheVariants as words_kind
-use Rattle.mk_session.specs.Commands.{CanAsk, CanAskLine, CanAskWords, IsName, kind_of_line, kind_of_words}
-use Rattle.mk_session.specs.Effects.{Answers, Effect, Refuses, after_effect, after_effects}
-use Rattle.mk_session.specs.Files.{Look}
-use Rattle.mk_session.specs.Laws.{CanGoOn, RunsKeepReading}
-use Rattle.mk_session.specs.Loading.{EditRefused, EditTooLong, Edits, IsEdited, IsReplace, NoRecordReplaced, ReplacesHeld}
-use Rattle.mk_session.specs.Match.{IsMatch, IsSearchOfFile, Lists, MoleculesRefused, QueryRefused, Searches}
+use Rattle.mk_session.specs.Commands.{CanAsk, CanAskLine, CanAskWords, kind_of_line, kind_of_words}
+use Rattle.mk_effects.specs.Effects.{Effect, after_effect}
+use Rattle.mk_session.specs.Run.{after_effects, Commands, Does, OneLine}
+use Rattle.mk_effects.specs.Files.{Look}
+use Rattle.mk_kept.specs.StoredRows.{CanGoOn}
+use Rattle.mk_session.specs.Laws.{RunsKeepReading}
 use Rattle.mk_session.specs.Orders.{Asked, Order, Orders, TooMuch, asked_of, asked_of_script, orders_of, orders_of_kind, script_bytes}
-use Rattle.mk_session.specs.Queries.{FileIsRefused, Forgets, IsForget, IsKeep, Keeps, NameIsHeld, NoQueryForgotten, QueriesAreFull, TextsAreFull, drop_of, forget_changes, kept_text}
-use Rattle.mk_session.specs.Records.{IsRemove, IsShow, NoRecordRemoved, NoRecordShown, Removes, Shows}
-use Rattle.mk_session.specs.Run.{Commands, Does, OneLine}
-use Rattle.mk_session.specs.Running.{CanAskOrder}
-use Rattle.mk_session.specs.Saved.{IsMeant, greatest_number, is_named, kept_tables, longest_place}
-use Rattle.mk_session.specs.SavedPending.{IsInPlace}
-use Rattle.mk_session.specs.Searching.{IsListing, IsMoleculeAt, IsQueryNamed, IsResume, IsSearch, ListsAll, ListsRest, MovesPlace, NoQuerySearched, NoSearchResumed, SavesPlace, SearchesAreFull, search_of, text_named}
+use Rattle.mk_session.specs.Given.{CanAskOrder}
 use Rattle.mk_session.specs.Step.{Comes}
-use Rattle.mk_session.specs.StoredRows.{EachReads, ReadsCursor, ReadsQuery}
 use Rattle.mk_session.proofs.CommandLemmas.{can_ask_line, can_ask_words}
-use Rattle.mk_session.proofs.KeptRowsLemmas.{all_of_each}
-use Rattle.mk_session.proofs.QueriesLemmas.{among_all, forget_places, kept_is_meant}
-use Rattle.mk_session.proofs.SavedLemmas.{below_all, none_above_greatest, or_left_true}
-use Rattle.mk_session.proofs.SavedRowsLemmas.{drop_cursor_goes_on, drop_query_goes_on, later_cursor_goes_on, new_cursor_goes_on, put_query_goes_on}
-
--- the laws of other crates on which this one rests
-pub record KeepingLaws : Type 0 where
-  pub kept : KeptLinesAreKept
-  pub same : KeptTextIsTheQuery
-  pub reading : EditsKeepReading
-  pub of_records : EditsAreOfRecords
-  pub alone : RecordsChangeAlone
-  pub fit : PassedQueriesFit
-
--- ---- records
-
-pub edit_goes_on : KeepingLaws → (t : Tables) (edit : Edit) (changes : List Change) → CanGoOn t → IsAllowed t.records t.next_record edit changes → CanGoOn (after_batch changes t)
-edit_goes_on laws t edit changes go allowed =
-    let whole = laws.alone changes t (laws.of_records t.records t.next_record edit changes allowed) in
-    let on = laws.reading t edit changes (record { read = go.reads.records; least = go.record_number }) allowed in
-    record {
-      reads = record {
-        records = on.read;
-        queries = subst (λ (u : Tables). EachReads ReadsQuery u.queries) (sym whole) go.reads.queries;
-        cursors = subst (λ (u : Tables). EachReads (ReadsCursor u.queries u.next_cursor) u.cursors) (sym whole) go.reads.cursors;
-      };
-      record_number = on.least;
-      cursor_number = subst (λ (u : Tables). 1 ≤ u.next_cursor) (sym whole) go.cursor_number;
-    }
-
--- a record that is held may be removed
-removal : (t : Tables) (n : ℕ) → is_held n t.records ≡ true → (d : Demand) → Demands t.records t.next_record (Remove n) d
-removal t n held demand.held_number = held
-removal t n held demand.short_file = tt
-removal t n held demand.sdfile = tt
-removal t n held demand.one_record = tt
-removal t n held demand.molecules = tt
-removal t n held demand.kept_limits = tt
+use Rattle.mk_effects.proofs.ForCallers.{KeepingLaws, refused_goes_on, answered_goes_on, match_goes_on, edited_goes_on, replace_goes_on, remove_goes_on, show_goes_on, keep_goes_on, forget_goes_on, search_goes_on, resume_goes_on}
 
 -- ---- commands
-
--- a refusal, and an answer without a batch, change nothing
-refused_goes_on : (t : Tables) (effect : Effect) (line : List ℕ) → effect ≡ Refuses line → CanGoOn t → CanGoOn (after_effect effect t)
-refused_goes_on t effect line is go = subst (λ (e : Effect). CanGoOn (after_effect e t)) (sym is) go
-
-answered_goes_on : (t : Tables) (effect : Effect) (text : List ℕ) → effect ≡ Answers [] text → CanGoOn t → CanGoOn (after_effect effect t)
-answered_goes_on t effect text is go = subst (λ (e : Effect). CanGoOn (after_effect e t)) (sym is) go
-
-changed_goes_on : (t : Tables) (effect : Effect) (batch : List Change) (text : List ℕ) → effect ≡ Answers batch text → CanGoOn (after_batch batch t) → CanGoOn (after_effect effect t)
-changed_goes_on t effect batch text is go = subst (λ (e : Effect). CanGoOn (after_effect e t)) (sym is) go
-
-file_goes_on : (t : Tables) (wanted : QueryView) (files : Option Look) (name : List ℕ) (effect : Effect) → IsSearchOfFile wanted files name effect → CanGoOn t → CanGoOn (after_effect effect t)
-file_goes_on t wanted files name effect (MoleculesRefused line refused is) go = refused_goes_on t effect line is go
-file_goes_on t wanted files name effect (Lists mol held keys first text hits is) go = answered_goes_on t effect text is go
-
-match_goes_on : (files : Option Look) (t : Tables) (query molecules : List ℕ) (effect : Effect) → IsMatch files query molecules effect → CanGoOn t → CanGoOn (after_effect effect t)
-match_goes_on files t query molecules effect (QueryRefused line refused is) go = refused_goes_on t effect line is go
-match_goes_on files t query molecules effect (Searches wanted held searched) go = file_goes_on t wanted files molecules effect searched go
-
-edited_goes_on : KeepingLaws → (files : Option Look) (t : Tables) (name : List ℕ) (edit : List ℕ → Edit) (answer : List Change → List ℕ) (effect : Effect)
-    → IsEdited files t name edit answer effect → CanGoOn t → CanGoOn (after_effect effect t)
-edited_goes_on laws files t name edit answer effect (EditTooLong long is) go = refused_goes_on t effect _ is go
-edited_goes_on laws files t name edit answer effect (EditRefused bytes read said first line says is) go = refused_goes_on t effect line is go
-edited_goes_on laws files t name edit answer effect (Edits bytes read changes allowed is) go = changed_goes_on t effect changes (answer changes) is (edit_goes_on laws t (edit bytes) changes go allowed)
-
-replace_goes_on : KeepingLaws → (files : Option Look) (t : Tables) (n : ℕ) (name : List ℕ) (effect : Effect) → IsReplace files t n name effect → CanGoOn t → CanGoOn (after_effect effect t)
-replace_goes_on laws files t n name effect (NoRecordReplaced none is) go = refused_goes_on t effect _ is go
-replace_goes_on laws files t n name effect (ReplacesHeld held edited) go = edited_goes_on laws files t name (Replace n) _ effect edited go
-
-remove_goes_on : KeepingLaws → (t : Tables) (n : ℕ) (effect : Effect) → IsRemove t n effect → CanGoOn t → CanGoOn (after_effect effect t)
-remove_goes_on laws t n effect (NoRecordRemoved none is) go = refused_goes_on t effect _ is go
-remove_goes_on laws t n effect (Removes held is) go =
-    changed_goes_on t effect (DropRecord n ∷ []) _ is (edit_goes_on laws t (Remove n) (DropRecord n ∷ []) go (record { met = removal t n held; are = refl }))
-
-show_goes_on : (t : Tables) (n : ℕ) (effect : Effect) → IsShow t n effect → CanGoOn t → CanGoOn (after_effect effect t)
-show_goes_on t n effect (NoRecordShown none is) go = refused_goes_on t effect _ is go
-show_goes_on t n effect (Shows text there is) go = answered_goes_on t effect _ is go
-
-keep_goes_on : KeepingLaws → (files : Option Look) (t : Tables) (name file : List ℕ) (effect : Effect) → IsName name → IsKeep files t name file effect → CanGoOn t → CanGoOn (after_effect effect t)
-keep_goes_on laws files t name file effect is_name (NameIsHeld held is) go = refused_goes_on t effect _ is go
-keep_goes_on laws files t name file effect is_name (QueriesAreFull new full is) go = refused_goes_on t effect _ is go
-keep_goes_on laws files t name file effect is_name (FileIsRefused free line refused is) go = refused_goes_on t effect line is go
-keep_goes_on laws files t name file effect is_name (TextsAreFull free query held none is) go = refused_goes_on t effect _ is go
-keep_goes_on laws files t name file effect is_name (Keeps free query held room is) go =
-    let row : QueryRow = record { number = greatest_number t.queries + 1; name = name; text = kept_text held.bytes } in
-    let size = kept_lines_are_short held.bytes in
-    let read = held.read.short in
-    changed_goes_on t effect (PutQuery row.number name row.text ∷ []) _ is (put_query_goes_on t row go (record {
-      place = record {
-        number = omega arith;
-        above = below_all (greatest_number t.queries) (greatest_number t.queries + 1) t.queries (omega arith) (none_above_greatest t.queries);
-        name = is_name;
-        new = free.new;
-        few = free.few;
-        bytes = room.bytes;
-        short = omega (arith, size, read);
-      };
-      text = (query, kept_is_meant laws.kept laws.same held.bytes query held.is);
-    }))
-
--- the saved searches are dropped, and then the query, which none has by then
-drops_go_on : (name : List ℕ) (drops : List CursorRow) (t : Tables) → InTurn IsInPlace (map drop_of drops ++ DropQuery name ∷ []) (kept_tables t.queries t.cursors t.next_cursor)
-    → CanGoOn t → CanGoOn (after_batch (map drop_of drops ++ DropQuery name ∷ []) t)
-drops_go_on name [] t places go = drop_query_goes_on t name go places.0
-drops_go_on name (drop ∷ drops) t places go = drops_go_on name drops (after_change (DropCursor drop.number) t) places.1 (drop_cursor_goes_on t drop.number go)
-
-forget_goes_on : (t : Tables) (name : List ℕ) (effect : Effect) → IsForget t name effect → CanGoOn t → CanGoOn (after_effect effect t)
-forget_goes_on t name effect (NoQueryForgotten none is) go = refused_goes_on t effect _ is go
-forget_goes_on t name effect (Forgets held is) go =
-    let drops = filter (λ (row : CursorRow). bytes_eq row.name name) t.cursors in
-    changed_goes_on t effect (forget_changes name t.cursors) _ is
-    (drops_go_on name drops t (forget_places name drops t.cursors t.queries t.next_cursor (among_all name t.cursors)) go)
-
--- a query that has a name is held
-named_is_held : (name text : List ℕ) (rows : List QueryRow) → text_named name rows ≡ Some text → is_named name rows ≡ true
-named_is_held name text [] found = absurd cc
-named_is_held name text (row ∷ rows) found =
-    cond_both (bytes_eq row.name name) (Some row.text) (text_named name rows) (λ (o : Option (List ℕ)). o ≡ Some text → is_named name (row ∷ rows) ≡ true)
-    (λ here. λ _. or_left_true (bytes_eq row.name name) (is_named name rows) here)
-    (λ other. λ later. rw other (named_is_held name text rows later))
-    found
-
--- a saved search that is found is among the rows
-search_is_held : (c : ℕ) (row : CursorRow) (rows : List CursorRow) → search_of c rows ≡ Some row → list_any (λ (x : CursorRow). nat_eq x.number c) rows ≡ true
-search_is_held c row [] found = absurd cc
-search_is_held c row (x ∷ rows) found =
-    cond_both (nat_eq x.number c) (Some x) (search_of c rows) (λ (o : Option CursorRow). o ≡ Some row → (nat_eq x.number c || list_any (λ (y : CursorRow). nat_eq y.number c) rows) ≡ true)
-    (λ here. λ _. or_left_true (nat_eq x.number c) (list_any (λ (y : CursorRow). nat_eq y.number c) rows) here)
-    (λ other. λ later. rw other (search_is_held c row rows later))
-    found
-
--- and its place is short
-place_is_kept : (c : ℕ) (row : CursorRow) (rows : List CursorRow) → AllByRecursion (λ (x : CursorRow). length x.place ≤ longest_place) rows → search_of c rows ≡ Some row → length row.place ≤ longest_place
-place_is_kept c row [] all found = absurd cc
-place_is_kept c row (x ∷ rows) all found =
-    cond_both (nat_eq x.number c) (Some x) (search_of c rows) (λ (o : Option CursorRow). o ≡ Some row → length row.place ≤ longest_place)
-    (λ here. λ same. let is : x ≡ row = cc in subst (λ (y : CursorRow). length y.place ≤ longest_place) is all.0)
-    (λ other. λ later. place_is_kept c row rows all.1 later)
-    found
-
--- what a text means keeps what every query keeps
-meant_fits : KeepingLaws → (text : List ℕ) (query : QueryView) → IsMeant text query → QueryFits query
-meant_fits laws text query meant = laws.fit meant.is.raw query (in_range meant.is.raw (query_keeps (lines_of text) meant.is.raw meant.is.file)) meant.is.means meant.is.passes
-
--- the place behind what is listed is short, where the one before it is
-listed_is_short : KeepingLaws → (t : Tables) (name : List ℕ) (query : QueryView) (place : List ℕ) (limit c : ℕ) (keys : List (List ℕ)) (text : List ℕ) → IsQueryNamed t.queries name query
-    → IsListing t.records query place limit c keys text → length place ≤ longest_place → length (place_behind place keys) ≤ longest_place
-listed_is_short laws t name query place limit c keys text named listing few =
-    place_has_few (IsMoleculeAt t.records) query place limit keys (meant_fits laws named.text query named.means) listing.first few
-
-search_goes_on : KeepingLaws → (t : Tables) (name : List ℕ) (limit : ℕ) (effect : Effect) → IsSearch t name limit effect → CanGoOn t → CanGoOn (after_effect effect t)
-search_goes_on laws t name limit effect (NoQuerySearched none is) go = refused_goes_on t effect _ is go
-search_goes_on laws t name limit effect (SearchesAreFull query named full is) go = refused_goes_on t effect _ is go
-search_goes_on laws t name limit effect (ListsAll query named room keys text listing fewer is) go = answered_goes_on t effect text is go
-search_goes_on laws t name limit effect (SavesPlace query named room keys text listing many is) go =
-    changed_goes_on t effect (PutCursor t.next_cursor name (place_behind [] keys) ∷ []) text is
-    (new_cursor_goes_on t name (place_behind [] keys) go room.number (named_is_held name named.text t.queries named.held) room.few
-    (listed_is_short laws t name query [] limit t.next_cursor keys text named listing (omega arith)))
-
-resume_goes_on : KeepingLaws → (t : Tables) (c limit : ℕ) (effect : Effect) → IsResume t c limit effect → CanGoOn t → CanGoOn (after_effect effect t)
-resume_goes_on laws t c limit effect (NoSearchResumed none is) go = refused_goes_on t effect _ is go
-resume_goes_on laws t c limit effect (ListsRest row held query named keys text listing fewer is) go = changed_goes_on t effect (DropCursor c ∷ []) text is (drop_cursor_goes_on t c go)
-resume_goes_on laws t c limit effect (MovesPlace row held query named keys text listing many is) go =
-    let all = all_of_each (ReadsCursor t.queries t.next_cursor) (λ (x : CursorRow). length x.place ≤ longest_place) (λ front before reads. reads.short) t.cursors go.reads.cursors in
-    changed_goes_on t effect (PutCursor c row.name (place_behind row.place keys) ∷ []) text is
-    (later_cursor_goes_on t c row.name (place_behind row.place keys) go (search_is_held c row t.cursors held) (named_is_held row.name named.text t.queries named.held)
-    (listed_is_short laws t row.name query row.place limit c keys text named listing (place_is_kept c row t.cursors all held)))
 
 command_goes_on : KeepingLaws → (files : Option Look) (t : Tables) (command : Command) (effect : Effect) → CanAsk command → Comes files t (Some command) effect → CanGoOn t → CanGoOn (after_effect effect t)
 command_goes_on laws files t (variant.Match query molecules) effect asks comes go = match_goes_on files t query molecules effect comes go

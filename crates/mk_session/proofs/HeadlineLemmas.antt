@@ -11,22 +11,23 @@ use Rattle.mk_session.specs.declared.status.Status.TheVariants as status
 use Rattle.mk_session.specs.declared.work.Given.{Given}
 use Rattle.mk_session.specs.declared.work.Given.TheVariants as given
 use Rattle.mk_session.specs.Commands.{kind_of_words}
-use Rattle.mk_session.specs.Effects.{ending_if, is_refusal, texts}
-use Rattle.mk_session.specs.Ends.{Unwritten, PutFailed, PutNoMemory, Stopped, FileUnread, Uncommitted, OrderNoMemory, Unanswered, Halts, StoppedAt, NextNoMemory, Goes, AllDone, Halted, Ends, LineWritten, LineUnwritten, Unloaded, FirstNoMemory}
-use Rattle.mk_session.specs.Ends.{Commands as EndsCommands}
+use Rattle.mk_session.specs.Run.{ending_if, texts, IsOneLine, IsRun, Misses, OneLine, Commands, NotUnderstood, ScriptLong, BadStore}
+use Rattle.mk_effects.specs.Effects.{is_refusal}
+use Rattle.mk_session.specs.Ends.{Unwritten, PutFailed, PutNoMemory, Stopped, FileUnread, Uncommitted, OrderNoMemory, Unanswered, Halts, StoppedAt, NextNoMemory, Goes, AllDone, Halted, Ends, LineWritten, LineUnwritten, Unloaded, FirstNoMemory, Commands as EndsCommands}
 use Rattle.mk_session.specs.Faults.{Faults, FilesFailed, OutputFailed, KeeperFailed}
-use Rattle.mk_session.specs.Files.{Look}
+use Rattle.mk_effects.specs.Files.{Look}
 use Rattle.mk_session.specs.Headline.{Headline}
-use Rattle.mk_session.specs.Outcomes.{World, WentSo, InputUnread, Ended, IsQuiet, IsReadOut, IsAllDone, IsInputSame, IsRestSame, IsTaken}
-use Rattle.mk_session.specs.Outcomes.{Done as ReadOutDone, Refused as ReadOutRefused, BadStore as ReadOutBadStore, AllCommandsDone, SomeRefused}
+use Rattle.mk_session.specs.Outcomes.{World, WentSo, InputUnread, Ended, IsQuiet, IsReadOut, IsAllDone, IsInputSame, IsRestSame, IsTaken, Done as ReadOutDone, Refused as ReadOutRefused, BadStore as ReadOutBadStore, AllCommandsDone, SomeRefused}
 use Rattle.mk_session.specs.Orders.{Asked, Nothing, Order, Orders, TooMuch, asked, asked_of, orders_asked}
-use Rattle.mk_session.specs.Run.{IsOneLine, IsRun, Misses, OneLine, Commands, NotUnderstood, ScriptLong, BadStore}
-use Rattle.mk_session.specs.Running.{IsDoneAll, IsHalted, IsGiven, IsHeld, IsLoaded, Leaves, Gives, asked_of_given}
+use Rattle.mk_session.specs.Turns.{IsDoneAll, IsHalted}
+use Rattle.mk_session.specs.Given.{IsGiven, Gives, asked_of_given}
+use Rattle.mk_session.specs.Opening.{IsHeld, IsLoaded}
+use Rattle.mk_session.specs.Running.{Leaves}
 use Rattle.mk_session.proofs.AnsweredLemmas.{answered_whole}
 use Rattle.mk_session.proofs.ReadingLemmas.{Held_input, held_input}
-use Rattle.mk_session.specs.StoredRows.{AllRead}
+use Rattle.mk_kept.specs.StoredRows.{AllRead}
 use Rattle.mk_session.proofs.RunningLemmas.{held_as, nothing_written}
-use Rattle.mk_session.proofs.StoredRowsLemmas.{reads_not_bad}
+use Rattle.mk_kept.proofs.ForCallers.{reads_not_bad}
 use Rattle.mk_session.proofs.TurnLemmas.{same_misses}
 
 -- ---- a run once the store is open

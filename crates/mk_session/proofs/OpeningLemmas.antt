@@ -2,12 +2,14 @@
 use Rattle.std.proofs.Common.{◌≡◌, false, Option, refl, sym, subst}
 use Rattle.std.specs.Prelude.{Result, Ok, Err}
 use Rattle.mk_outside.specs.declared.tables.Tables.{Tables}
-use Rattle.mk_session.specs.declared.stored_rows.BeginFail.{BeginFail}
-use Rattle.mk_session.specs.declared.stored_rows.BeginFail.TheVariants as begin
+use Rattle.mk_kept.specs.declared.stored_rows.BeginFail.{BeginFail}
+use Rattle.mk_kept.specs.declared.stored_rows.BeginFail.TheVariants as begin
 use Rattle.mk_library.specs.Library.{LibraryView}
-use Rattle.mk_session.specs.Saved.{SavedView}
-use Rattle.mk_session.specs.StoredRows.{AllRead, RecordsRead}
-use Rattle.mk_session.specs.Running.{Begins, IsLoaded, IsOpened, IsRestored, is_store, stands_for}
+use Rattle.mk_kept.specs.Saved.{SavedView}
+use Rattle.mk_kept.specs.StoredRows.{AllRead, RecordsRead}
+use Rattle.mk_session.specs.Opening.{Begins, IsLoaded, IsOpened, is_store}
+use Rattle.mk_kept.specs.Restored.{IsRestored}
+use Rattle.mk_effects.specs.Findings.{stands_for}
 
 -- tables that are opened are those that the keeper holds
 pub begins_by : (sound : Type 0) (told told' : Option Tables) (t : Tables) (r : Result Tables BeginFail) → IsLoaded sound told told' t → IsOpened t r → Begins sound told told' r

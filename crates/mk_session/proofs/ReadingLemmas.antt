@@ -11,7 +11,7 @@ use Rattle.mk_session.specs.declared.work.Work.TheVariants as work
 use Rattle.mk_session.specs.Commands.{kind_of_words}
 use Rattle.mk_session.specs.Orders.{asked_of}
 use Rattle.mk_session.specs.Outcomes.{Agrees, IsTaken}
-use Rattle.mk_session.specs.Running.{IsGiven}
+use Rattle.mk_session.specs.Given.{IsGiven}
 
 -- the input begins with what was read
 pub record Begins_with (old : Option (List ℕ)) (front : List ℕ) : Type 0 where

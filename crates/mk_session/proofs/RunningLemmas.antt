@@ -8,13 +8,13 @@ use Rattle.mk_outside.specs.declared.answers.PutFail.{PutFail}
 use Rattle.mk_outside.specs.declared.answers.PutFail.TheVariants as put
 use Rattle.mk_outside.specs.declared.tables.Tables.{Tables}
 use Rattle.mk_outside.specs.Told.{Puts, AppendsPrefix}
-use Rattle.mk_session.specs.declared.effect.Ended.{Ended}
-use Rattle.mk_session.specs.declared.effect.StepFail.{StepFail}
-use Rattle.mk_session.specs.declared.effect.StepFail.TheVariants as fail
+use Rattle.mk_session.specs.declared.status.Ended.{Ended}
+use Rattle.mk_effects.specs.declared.effect.StepFail.{StepFail}
+use Rattle.mk_effects.specs.declared.effect.StepFail.TheVariants as fail
 use Rattle.mk_session.specs.declared.command.Command.{Command}
 use Rattle.mk_session.specs.declared.command.WordsKind.{WordsKind}
 use Rattle.mk_session.specs.declared.command.WordsKind.TheVariants as words_kind
-use Rattle.mk_session.specs.declared.stored_rows.RowKind.{RowKind}
+use Rattle.mk_kept.specs.declared.stored_rows.RowKind.{RowKind}
 use Rattle.mk_session.specs.declared.work.Given.TheVariants as given
 use Rattle.mk_session.specs.declared.work.Work.{Work}
 use Rattle.mk_session.specs.declared.work.Work.TheVariants as work
@@ -22,14 +22,18 @@ use Rattle.mk_session.specs.Commands.{kind_of_words}
 use Rattle.mk_session.specs.Outcomes.{IsUntouched}
 use Rattle.mk_session.specs.declared.status.Status.{Status}
 use Rattle.mk_session.specs.declared.status.Status.TheVariants as status
-use Rattle.mk_session.specs.Effects.{Answers, Effect, Refuses, is_refusal, text_answered}
+use Rattle.mk_effects.specs.Effects.{Answers, Effect, Refuses, is_refusal, text_answered}
 use Rattle.mk_session.specs.Ends.{Ends, StoppedAt, FileUnread, Uncommitted, Unanswered, OrderNoMemory, NextNoMemory, PutFailed, PutNoMemory, LineWritten, LineUnwritten, FirstNoMemory, Unloaded}
-use Rattle.mk_session.specs.Fails.{IsStatusOf}
+use Rattle.mk_session.specs.Status.{IsStatusOf}
 use Rattle.mk_session.specs.Faults.{Faults}
-use Rattle.mk_session.specs.Files.{Look}
+use Rattle.mk_effects.specs.Files.{Look}
 use Rattle.mk_session.specs.Orders.{Asked, Order, Orders, orders_asked}
 use Rattle.mk_session.specs.Run.{After, IsOneLine, BadStore, bad_store_text}
-use Rattle.mk_session.specs.Running.{IsBad, IsDone, IsDoneAll, IsHalted, IsHeld, IsLoaded, IsGiven, IsSaid, IsUnreadGiven, IsUnreadStatus, IsUnreadWork, SaidWhole, SaidFailed, SaidNoMemory, Leaves, Says, StepCounts, ended_of, is_refused_end}
+use Rattle.mk_session.specs.Opening.{IsBad, IsHeld, IsLoaded}
+use Rattle.mk_session.specs.Stepping.{IsDone, StepCounts, ended_of, is_refused_end}
+use Rattle.mk_session.specs.Turns.{IsDoneAll, IsHalted}
+use Rattle.mk_session.specs.Given.{IsGiven}
+use Rattle.mk_session.specs.Running.{IsSaid, IsUnreadGiven, IsUnreadStatus, IsUnreadWork, SaidWhole, SaidFailed, SaidNoMemory, Leaves, Says}
 use Rattle.mk_session.proofs.TurnLemmas.{same_misses}
 
 -- ---- puts

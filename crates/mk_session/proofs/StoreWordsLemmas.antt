@@ -6,9 +6,7 @@ use Rattle.std.specs.Prelude.{bytes_eq}
 use Rattle.std.proofs.lemmas.Slice.Eq.{bytes_eq-Decides}
 use Rattle.mk_session.specs.declared.command.Command.{Command}
 use Rattle.mk_session.specs.declared.command.WordsKind.TheVariants as words_kind
-use Rattle.mk_session.specs.Commands.{AskFor, AskForScript, IsCommandOf, IsStoreWith, StoreIsRead, WordsAreRead, behind_store, command_in, kind_behind_store, kind_of_words, kind_of_words_order, store_flag, store_path}
-use Rattle.mk_session.specs.Commands.{CommandAlone, CommandBehindStore, NoWords, StoreAlone}
-use Rattle.mk_session.specs.Commands.{MatchRow, LoadRow, ReplaceRow, RemoveRow, QueryRow, ForgetRow, SearchRow, ResumeRow, ShowRow, ListRow, DrillRow}
+use Rattle.mk_session.specs.Commands.{AskFor, AskForScript, IsCommandOf, IsStoreWith, StoreIsRead, WordsAreRead, behind_store, command_in, kind_behind_store, kind_of_words, kind_of_words_order, store_flag, store_path, CommandAlone, CommandBehindStore, NoWords, StoreAlone, MatchRow, LoadRow, ReplaceRow, RemoveRow, QueryRow, ForgetRow, SearchRow, ResumeRow, ShowRow, ListRow, DrillRow}
 use Rattle.mk_session.proofs.CommandLemmas.{commands_are_read}
 
 -- a test of the first word

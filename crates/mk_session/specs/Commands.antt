@@ -9,9 +9,7 @@
 --     CommandsAreRead, OneReading, WordsAreRead   laws
 -- A line's words are its longest runs of bytes other than blanks. A byte of a longer character is
 -- no blank, so a line is UTF-8 exactly where each of its words is.
-use Rattle.std.specs.Prelude.{◌≡◌, ◌↔◌, ℕ, ◌≤◌, ◌&&◌, ◌||◌, ◌==◌, nat_le, Bool, true, false, List, [], ◌∷◌, length, Option, Some, None, codes, bytes_eq, if◌then◌else◌, ⊤}
-use Rattle.std.specs.List.{list_all}
-use Rattle.std.specs.Char.{is_ascii_alphanumeric}
+use Rattle.std.specs.Prelude.{◌≡◌, ◌↔◌, ℕ, ◌≤◌, ◌&&◌, nat_le, List, [], ◌∷◌, Option, Some, None, codes, bytes_eq, if◌then◌else◌, ⊤}
 use Rattle.std.specs.Str.{is_utf8}
 use Rattle.mk_text.specs.Columns.{are_blank}
 use Rattle.mk_text.specs.Fields.{digits_number}
@@ -22,20 +20,14 @@ use Rattle.mk_session.specs.declared.command.LineKind.{LineKind}
 use Rattle.mk_session.specs.declared.command.LineKind.TheVariants as line_kind
 use Rattle.mk_session.specs.declared.command.WordsKind.{WordsKind}
 use Rattle.mk_session.specs.declared.command.WordsKind.TheVariants as words_kind
+use Rattle.mk_kept.specs.Names.{is_name, IsHeldNumber, IsName}
+use Rattle.mk_effects.specs.Searching.{IsLimit}
 
 -- ---- single words
 
 -- a file's name is any UTF-8 text
 abbrev pub file_in : List ℕ → Option (List ℕ)
 file_in word = if is_utf8 word then Some word else None
-
--- an ASCII letter or digit, `_`, `-` or `.`
-abbrev pub is_name_byte : ℕ → Bool
-is_name_byte c = is_ascii_alphanumeric c || (c == 95 || (c == 45 || c == 46))
-
--- a name is 1 to 64 of these bytes
-abbrev pub is_name : List ℕ → Bool
-is_name word = nat_le 1 (length word) && (nat_le (length word) 64 && list_all is_name_byte word)
 
 -- the word as a name, where it is one
 abbrev pub name_in : List ℕ → Option (List ℕ)
@@ -182,18 +174,6 @@ pub data AskFor (words : List (List ℕ)) (command : Command) : Type 0 where
   CommandBehindStore : (path : List ℕ) (others : List (List ℕ)) → IsStoreWith words path others → IsCommandOf others command → AskFor words command
 
 -- ---- what a session can be asked
-
--- the number is one that a record or a saved search can have
-abbrev pub IsHeldNumber : ℕ → Type 0
-IsHeldNumber n = (1 ≤ n) × (n ≤ 999999999)
-
--- so many hits can be asked for, or molecules drilled
-abbrev pub IsLimit : ℕ → Type 0
-IsLimit n = (1 ≤ n) × (n ≤ 10000)
-
--- the bytes are a name
-abbrev pub IsName : List ℕ → Type 0
-IsName name = is_name name ≡ true
 
 -- the names of the command are names, and its numbers lie in their ranges
 abbrev pub CanAsk : Command → Type 0

@@ -9,7 +9,7 @@ use Rattle.mk_session.specs.Commands.{kind_of_words}
 use Rattle.mk_session.specs.Orders.{Order, Orders, asked, orders_asked}
 use Rattle.mk_session.specs.Outcomes.{World, Agrees, WentSo, IsAnswered, IsWholeRun, IsQuiet, IsReadOut, IsAllDone, IsInputSame, IsTaken, IsRestSame}
 use Rattle.mk_session.specs.Run.{IsRun, Misses}
-use Rattle.mk_session.specs.StoredRows.{AllRead}
+use Rattle.mk_kept.specs.StoredRows.{AllRead}
 
 -- What stands after each run: the bytes that it read and wrote and the tables that it left, that
 -- they are the run's where nothing failed, and what every status says of what was done.

@@ -8,15 +8,13 @@ use Rattle.std.specs.Prelude.{◌≡◌, ℕ, ◌≤◌, List, [], ◌∷◌, �
 use Rattle.mk_outside.specs.declared.tables.Tables.{Tables}
 use Rattle.mk_session.specs.declared.status.Status.{Status}
 use Rattle.mk_session.specs.declared.status.Status.TheVariants as status
-use Rattle.mk_session.specs.Effects.{Effect}
-use Rattle.mk_session.specs.Files.{Look}
+use Rattle.mk_effects.specs.Effects.{Effect}
+use Rattle.mk_effects.specs.Files.{Look}
 use Rattle.mk_session.specs.Outcomes.{IsAllDone}
-use Rattle.mk_session.specs.declared.query_text.QueryText.{QueryText}
-use Rattle.mk_session.specs.QueryText.{IsTextSaid}
 use Rattle.mk_session.specs.Orders.{Asked, Order, asked, asked_of_script, script_bytes}
 use Rattle.mk_session.specs.Run.{IsRun}
 use Rattle.mk_session.specs.Step.{Comes}
-use Rattle.mk_session.specs.StoredRows.{AllRead}
+use Rattle.mk_kept.specs.StoredRows.{AllRead, CanGoOn}
 
 -- how two runs end as one: refused where one of them was
 abbrev pub joined : Status → Status → Status
@@ -33,13 +31,6 @@ TwoScripts = (files : Option Look) (t t1 t2 : Tables) (first second a b : List �
     → length ((first ++ 10 ∷ []) ++ second) ≤ script_bytes
     → IsRun files t (asked_of_script ((first ++ 10 ∷ []) ++ second)) (a ++ b) t2 (joined ends1 ends2)
 
--- each row of the tables reads, and both next numbers are at least 1, so that rows that are put
--- under them read too
-pub record CanGoOn (t : Tables) : Type 0 where
-  pub reads : AllRead t
-  pub record_number : 1 ≤ t.next_record
-  pub cursor_number : 1 ≤ t.next_cursor
-
 -- A run leaves tables that read, where those before it did and both next numbers were at least 1;
 -- then these still are.
 abbrev pub RunsKeepReading : Type 0
@@ -54,8 +45,3 @@ OneEffect = (look : Look) (t : Tables) (order : Order) (a b : Effect) → Comes 
 abbrev pub OneRun : Type 0
 OneRun = (look : Look) (t : Tables) (asked : Asked) (a b : List ℕ) (left other : Tables) (ends ends' : Status)
     → IsRun (Some look) t asked a left ends → IsRun (Some look) t asked b other ends' → (a ≡ b) × (left ≡ other) × (ends ≡ ends')
-
--- one thing is said of a text as a query file: its query, its first bad line, or the first check
--- that it fails
-abbrev pub OneSaid : Type 0
-OneSaid = (text : List ℕ) (a b : QueryText) → IsTextSaid text a → IsTextSaid text b → a ≡ b

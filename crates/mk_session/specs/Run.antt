@@ -1,20 +1,41 @@
 -- Orders done in turn, and a whole run.
+--     texts effects, after_effects effects t       the answers of several effects, and the tables
+--                                                  after them
+--     status_behind effects               how a run ends with these
 --     Does files t orders effects         the orders, done in turn from t, come to these effects
 --     After files t orders left effects   the same of the first of them, where these are left
 --     IsRun files t asked added left ends     a run adds these bytes, leaves these tables and ends
 --                                             so
 --     HasItsFiles files t orders          each file is there whose turn comes
-use Rattle.std.specs.Prelude.{◌≡◌, ℕ, ◌≤◌, List, [], ◌∷◌, ◌++◌, Option, codes, decimal}
+use Rattle.std.specs.Prelude.{ℕ, Bool, List, [], ◌∷◌, if◌then◌else◌, ◌≡◌, ◌≤◌, ◌++◌, Option, codes, decimal}
+use Rattle.std.specs.List.{list_any, flat_map}
 use Rattle.mk_outside.specs.declared.tables.Tables.{Tables}
 use Rattle.mk_session.specs.declared.status.Status.{Status}
 use Rattle.mk_session.specs.declared.status.Status.TheVariants as status
-use Rattle.mk_session.specs.declared.stored_rows.RowKind.{RowKind}
-use Rattle.mk_session.specs.declared.stored_rows.RowKind.TheVariants.{Records, Queries, Cursors}
-use Rattle.mk_session.specs.Effects.{Effect, after_effect, after_effects, texts, status_behind}
-use Rattle.mk_session.specs.Files.{IsThere, Look}
+use Rattle.mk_effects.specs.Effects.{Effect, text_answered, after_effect, is_refusal}
+use Rattle.mk_kept.specs.declared.stored_rows.RowKind.{RowKind}
+use Rattle.mk_kept.specs.declared.stored_rows.RowKind.TheVariants.{Records, Queries, Cursors}
+use Rattle.mk_effects.specs.Files.{IsThere, Look}
 use Rattle.mk_session.specs.Orders.{Order, Asked, Nothing, TooMuch, Orders}
 use Rattle.mk_session.specs.Step.{Comes, Reaches}
-use Rattle.mk_session.specs.StoredRows.{AllRead, IsFirstBad}
+use Rattle.mk_kept.specs.StoredRows.{AllRead, IsFirstBad}
+
+-- the answers, one after the other
+abbrev pub texts : List Effect → List ℕ
+texts effects = flat_map text_answered effects
+
+-- the tables after all, each from those that the one before left
+abbrev pub after_effects : List Effect → Tables → Tables
+after_effects [] t = t
+after_effects (effect ∷ effects) t = after_effects effects (after_effect effect t)
+
+-- a run ends with 1 where some command was refused, else with 0
+abbrev pub ending_if : Bool → Status
+ending_if refused = if refused then status.Refused else status.Done
+
+-- how a run ends whose commands came to these
+abbrev pub status_behind : List Effect → Status
+status_behind effects = ending_if (list_any is_refusal effects)
 
 -- the orders, done in turn, come to these effects, each from the tables that the one before left
 abbrev pub Does : Option Look → Tables → List Order → List Effect → Type 0

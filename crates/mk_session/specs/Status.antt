@@ -1,8 +1,12 @@
 -- The statuses of a run.
---     code_of status     the exit status of the program
-use Rattle.std.specs.Prelude.{ℕ}
+--     code_of status             the exit status of the program
+--     IsStatusOf fail status     a run ends as its last command did
+use Rattle.std.specs.Prelude.{ℕ, ◌≡◌}
 use Rattle.mk_session.specs.declared.status.Status.{Status}
 use Rattle.mk_session.specs.declared.status.Status.TheVariants.{Done, Refused, Words, Read, Write, Store, Memory, BadStore, ScriptLong}
+use Rattle.mk_effects.specs.declared.effect.StepFail.{StepFail}
+use Rattle.mk_effects.specs.declared.effect.StepFail.TheVariants as step
+use Rattle.mk_session.specs.declared.status.Status.TheVariants as status
 
 -- the exit status of the program
 abbrev pub code_of : Status → ℕ
@@ -15,3 +19,9 @@ code_of Store = 5
 code_of Memory = 6
 code_of BadStore = 7
 code_of ScriptLong = 8
+
+-- a run ends as the command that came to no end
+abbrev pub IsStatusOf : StepFail → Status → Type 0
+IsStatusOf step.Read s = s ≡ status.Read
+IsStatusOf step.Store s = s ≡ status.Store
+IsStatusOf step.Memory s = s ≡ status.Memory

@@ -7,24 +7,18 @@
 use Rattle.std.specs.Prelude.{◌≡◌, ℕ, List, [], Option, Some, None, codes}
 use Rattle.mk_outside.specs.declared.tables.Tables.{Tables}
 use Rattle.mk_session.specs.declared.command.Command.TheVariants as variant
-use Rattle.mk_drill.specs.Drill.{IsDrill}
-use Rattle.mk_session.specs.Effects.{Answers, Effect, Refuses}
-use Rattle.mk_session.specs.Files.{Look}
-use Rattle.mk_session.specs.Loading.{IsLoad, IsReplace, IsTurnOfReplace}
-use Rattle.mk_session.specs.Match.{IsMatch, IsTurnOfMatch}
+use Rattle.mk_effects.specs.Effects.{Answers, Effect, Refuses}
+use Rattle.mk_effects.specs.Files.{Look}
+use Rattle.mk_effects.specs.Loading.{IsLoad, IsReplace, IsTurnOfReplace}
+use Rattle.mk_effects.specs.Match.{IsMatch, IsTurnOfMatch}
 use Rattle.mk_session.specs.Orders.{Order}
-use Rattle.mk_session.specs.Queries.{IsForget, IsKeep, IsTurnOfKeep}
-use Rattle.mk_session.specs.Records.{IsRemove, IsShow, list_text}
-use Rattle.mk_session.specs.Searching.{IsResume, IsSearch}
+use Rattle.mk_effects.specs.Queries.{IsForget, IsKeep, IsTurnOfKeep}
+use Rattle.mk_effects.specs.Records.{IsRemove, IsShow, list_text}
+use Rattle.mk_effects.specs.Searching.{IsResume, IsSearch}
+use Rattle.mk_effects.specs.Drilling.{IsDrillAnswer}
 
 abbrev pub no_command_text : List ℕ
 no_command_text = codes "refused 1 command\n"
-
--- the drill answers its line, and changes nothing
-pub record IsDrillAnswer (start count : ℕ) (effect : Effect) : Type 0 where
-  pub line : List ℕ
-  pub is : IsDrill start count line
-  pub whole : effect ≡ Answers [] line
 
 -- From the tables t the order comes to this effect. What is no command is refused.
 abbrev pub Comes : Option Look → Tables → Order → Effect → Type 0

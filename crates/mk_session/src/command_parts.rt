@@ -3,8 +3,10 @@ ghost use Rattle.std.specs.Prelude.{◌≡◌, IfOk, IfSome};
 ghost use Rattle.std.specs.List.{list_all};
 ghost use Rattle.std.specs.Char.{is_ascii_digit};
 ghost use Rattle.mk_text.specs.Fields.{digits_number};
-ghost use Rattle.mk_session.specs.Commands.{file_in, is_name, is_name_byte, name_in, number_in};
+ghost use Rattle.mk_session.specs.Commands.{file_in, name_in, number_in};
+ghost use Rattle.mk_kept.specs.Names.{is_name, is_name_byte};
 
+use mk_kept::is_name;
 use mk_outside::{Memory, Text};
 use mk_text::field;
 use std::alloc::Global;
@@ -28,33 +30,6 @@ pub fn name_in(alloc: Global, word: &[u8]) -> Result<Option<Text>, Memory>
         return Ok(None);
     }
     file_in(alloc, word)
-}
-
-/// Whether the word is the name of a query.
-pub fn is_name(word: &[u8]) -> bool
-    ensures { result ≡ is_name word.now }
-{
-    if word.is_empty() || word.len() > 64 {
-        return false;
-    }
-    are_name_bytes(word)
-}
-
-fn are_name_bytes(word: &[u8]) -> bool
-    ensures { result ≡ list_all is_name_byte word.now }
-{
-    for byte in word {
-        if !is_name_byte(*byte) {
-            return false;
-        }
-    }
-    true
-}
-
-fn is_name_byte(byte: u8) -> bool
-    ensures { result ≡ is_name_byte byte }
-{
-    byte.is_ascii_alphanumeric() || byte == b'_' || byte == b'-' || byte == b'.'
 }
 
 /// The word as a number of one to nine digits that lies in this range.

@@ -1,12 +1,12 @@
-// What a line of a script is, and what the words of the command line are.
+// What a line of a script is, what the words of the command line are, and the store in them.
 ghost use Rattle.std.specs.Prelude.{◌≡◌, IfOk, map};
+ghost use Rattle.std.specs.Option.{option_copied};
 ghost use Rattle.std.specs.String.{string_bytes};
 ghost use Rattle.mk_text.specs.Lines.{words_of};
 ghost use Rattle.mk_text.specs.Spans.{AreWithin, parts};
-ghost use Rattle.mk_session.specs.Commands.{CanAskLine, CanAskWords, kind_behind_store, kind_of_line, kind_of_words};
+ghost use Rattle.mk_session.specs.Commands.{CanAskLine, CanAskWords, behind_store, kind_behind_store, kind_of_line, kind_of_words, store_path};
 
 use crate::command_rows::command_of;
-use crate::store_words::behind_store;
 use crate::{Command, LineKind, WordsKind};
 use mk_outside::{Bytes, Memory};
 use mk_text::{Span, is_blank, words};
@@ -14,6 +14,9 @@ use std::alloc::Global;
 
 // A command has no more words.
 const MOST_WORDS: usize = 3;
+
+// The word in front of the path of a store.
+const STORE: &str = "--store";
 
 /// What a line of a script is.
 pub fn command_of_line(alloc: Global, line: &[u8]) -> Result<LineKind, Memory>
@@ -45,6 +48,26 @@ fn words_at(alloc: Global, line: &[u8], spans: &[Span]) -> Result<Vec<Bytes>, Me
         list.push(Bytes::of(Vec::from_slice(alloc, &line[span.from..span.to])?))?;
     }
     Ok(list)
+}
+
+/// The path of the store: the second word where the first is `--store` and a second is there.
+pub fn store_word(words: &[String]) -> Option<&str>
+    ensures { option_copied result ≡ store_path (map string_bytes words.now) }
+{
+    match words {
+        [flag, path, ..] if flag.as_str() == STORE => Some(path.as_str()),
+        _ => None,
+    }
+}
+
+// The words behind the store and its path, or all where there is none.
+fn behind_store(words: &[String]) -> &[String]
+    ensures { map string_bytes result.now ≡ behind_store (map string_bytes words.now) }
+{
+    match words {
+        [flag, _, others @ ..] if flag.as_str() == STORE => others,
+        _ => words,
+    }
 }
 
 /// What the words of the command line are.

@@ -1,22 +1,23 @@
 // What a command comes to. A further command is a further function and a further arm here.
 ghost use Rattle.std.specs.Prelude.{◌≡◌, IfOk, Some};
-ghost use Rattle.mk_session.specs.Commands.{CanAsk, IsLimit};
+ghost use Rattle.mk_session.specs.Commands.{CanAsk};
+ghost use Rattle.mk_effects.specs.Searching.{IsLimit};
 ghost use Rattle.mk_library.specs.Library.{IsSame};
-ghost use Rattle.mk_session.specs.Saved.{IsSameSaved};
-ghost use Rattle.mk_session.specs.Step.{IsDrillAnswer, Reaches};
-ghost use Rattle.mk_session.specs.Running.{FoundFits, MissesAt, Seeks, effect_of, stands_for};
+ghost use Rattle.mk_kept.specs.Saved.{IsSameSaved};
+ghost use Rattle.mk_effects.specs.Drilling.{IsDrillAnswer};
+ghost use Rattle.mk_session.specs.Step.{Reaches};
+ghost use Rattle.mk_effects.specs.Findings.{FoundFits, MissesAt, effect_of, stands_for};
+ghost use Rattle.mk_session.specs.Stepping.{Seeks};
 
-use crate::loading::{load_found, replace_found};
-use crate::matching::match_found;
-use crate::queries::{forget_found, keep_found};
-use crate::records::{list_found, remove_found, show_found};
-use crate::saved::Saved;
-use crate::searching::{resume_found, search_found};
-use crate::{Command, Edit, Found, StepFail};
-use mk_drill::drill;
+use crate::Command;
+use mk_effects::{
+    Found, StepFail, drill_found, forget_found, keep_found, list_found, load_found, match_found,
+    remove_found, replace_found, resume_found, search_found, show_found,
+};
+use mk_kept::Saved;
 use mk_library::Library;
 use mk_model::Steps;
-use mk_outside::{Bytes, Files, Memory};
+use mk_outside::Files;
 use std::alloc::Global;
 use std::sync::ledger::Ledger;
 
@@ -60,14 +61,4 @@ pub fn found_of<F: Files, L: Ledger>(
         }
         Command::Drill { start, count } => Ok(drill_found(alloc, *start, *count)?),
     }
-}
-
-// What the drill comes to.
-fn drill_found(alloc: Global, start: u32, count: u32) -> Result<Found, Memory>
-    requires count { IsLimit count }
-    ensures { IfOk result (λ found. IsDrillAnswer start count (effect_of found)) }
-{
-    let mut line = Vec::new(alloc);
-    drill(alloc, start, count, &mut line)?;
-    Ok(Found::Answered(Edit::Nothing, Bytes::of(line)))
 }

@@ -1,6 +1,7 @@
 // Laws over the definitions alone, each carried by a function that does nothing.
 ghost use Rattle.mk_session.specs.Commands.{CommandsAreRead, OneReading, StoreIsRead, WordsAreRead};
-ghost use Rattle.mk_session.specs.Laws.{OneEffect, OneRun, OneSaid, RunsKeepReading, TwoScripts};
+ghost use Rattle.mk_session.specs.Laws.{OneEffect, OneRun, RunsKeepReading, TwoScripts};
+ghost use Rattle.mk_kept.specs.QueryText.{OneSaid};
 
 use mk_drill::one_drill;
 use mk_library::{edits_keep_reading, records_change_alone};
@@ -40,16 +41,6 @@ pub fn runs_keep_reading()
     passed_queries_fit();
     edits_keep_reading();
     records_change_alone();
-}
-
-/// One thing is said of a text as a query file.
-pub(crate) fn one_said()
-    ensures { OneSaid }
-{
-    query_file_is_exact();
-    one_query();
-    one_first_query_fault();
-    fault_or_query();
 }
 
 /// Over told files a command comes to at most one effect, and a run has at most one outcome: the

@@ -4,53 +4,36 @@
 //! `specs/Headline.antt`. Where no object that it is handed fails and memory suffices, the bytes
 //! written, the tables kept and the status are those of the run (`IsRun` in `specs/Run.antt`);
 //! every other status comes with its cause and leaves what `specs/Ends.antt` says. Which words are
-//! a command stands in `specs/Commands.antt`, what a command comes to in `specs/Step.antt` and the
-//! files that it cites, and which stored rows read in `specs/StoredRows.antt`. What a hit is stands
-//! in mk_model, the records of an SDfile in mk_sdfile, and the molecule of a table in mk_mol.
+//! a command stands in `specs/Commands.antt`, and what a command comes to in `specs/Step.antt` and
+//! the files of mk_effects that it cites. Which stored rows read stands in mk_kept, what a hit is in
+//! mk_model, the records of an SDfile in mk_sdfile, and the molecule of a table in mk_mol.
 //!
 //! Only this crate knows what a command is. It reads no columns: see `mk_ctab`.
 #![tactic(auto)]
 
-mod answers;
 mod command;
 mod command_parts;
 mod command_reading;
 mod command_rows;
-mod effect;
-mod file_reading;
-mod files;
 mod finding;
-mod hit_lines;
-mod judgment;
 mod laws;
-mod listings;
-mod loading;
-mod matching;
 mod ordering;
-mod queries;
-mod query_text;
 mod reading;
-mod records;
 mod running;
-mod saved;
-mod saved_pending;
-mod searching;
 mod session;
 mod status;
 mod stepping;
-mod store_words;
-mod stored_rows;
+mod values;
 mod work;
 
 pub use command::{Command, LineKind, WordsKind};
-pub use command_reading::{command_of_line, command_of_words};
-pub use effect::{Ended, StepFail};
-pub(crate) use effect::{Edit, Found};
+pub use command_reading::{command_of_line, command_of_words, store_word};
 pub use laws::{commands_are_read, one_run, runs_keep_reading, two_scripts, words_are_read};
 pub use mk_drill::drill;
+pub use mk_effects::StepFail;
+pub use mk_kept::{BeginFail, RowKind};
 pub use mk_text::Memory;
 pub use running::top;
 pub use session::Session;
-pub use status::Status;
-pub use store_words::store_word;
-pub use stored_rows::{BeginFail, RowKind};
+pub use status::{Ended, Status};
+pub use values::orders_and_runs_have_values;

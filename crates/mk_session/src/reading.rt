@@ -2,7 +2,7 @@
 ghost use Rattle.std.specs.Prelude.{◌≡◌, ◌≤◌, map, IfOk};
 ghost use Rattle.std.specs.String.{string_bytes};
 ghost use Rattle.mk_session.specs.Outcomes.{IsTaken};
-ghost use Rattle.mk_session.specs.Running.{Gives, ReadsInput, CanAskGiven};
+ghost use Rattle.mk_session.specs.Given.{Gives, ReadsInput, CanAskGiven};
 
 use crate::work::{Given, Work};
 use crate::{Status, WordsKind, command_of_words};

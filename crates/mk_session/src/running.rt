@@ -3,13 +3,15 @@ ghost use Rattle.std.specs.Prelude.{◌≡◌, ◌<◌, ◌||◌, ℕ, List, Opt
 ghost use Rattle.std.specs.String.{string_bytes};
 ghost use Rattle.mk_text.specs.Spans.{parts, AreWithin};
 ghost use Rattle.mk_session.specs.Commands.{kind_of_words};
-ghost use Rattle.mk_session.specs.Effects.{ending_if};
-ghost use Rattle.mk_session.specs.Files.{Look};
+ghost use Rattle.mk_session.specs.Run.{ending_if};
+ghost use Rattle.mk_effects.specs.Files.{Look};
 ghost use Rattle.mk_session.specs.Headline.{Headline};
 ghost use Rattle.mk_session.specs.Outcomes.{IsUntouched};
 ghost use Rattle.mk_session.specs.Orders.{Order, Orders, orders_of, orders_of_line};
 ghost use Rattle.mk_session.specs.Run.{Misses, bad_store_text, kind_text};
-ghost use Rattle.mk_session.specs.Running.{CanAskWork, IsUnread, IsUnreadGiven, IsUnreadWork, Leaves, Opens, Says, Turns, orders_of_work};
+ghost use Rattle.mk_session.specs.Given.{CanAskWork, orders_of_work};
+ghost use Rattle.mk_session.specs.Running.{IsUnread, IsUnreadGiven, IsUnreadWork, Leaves, Opens, Says};
+ghost use Rattle.mk_session.specs.Turns.{Turns};
 
 use crate::command_reading::command_of_line;
 use crate::ordering::do_order;

@@ -1,11 +1,10 @@
 // A session: the tables that it stands for.
 ghost use Rattle.std.specs.Prelude.{◌≡◌};
 ghost use Rattle.mk_outside.specs.Counts.{Counts};
-ghost use Rattle.mk_session.specs.Running.{Begins, IsOpened, is_store};
+ghost use Rattle.mk_session.specs.Opening.{Begins, IsOpened, is_store};
 
-use crate::BeginFail;
-use crate::saved::Saved;
-use crate::stored_rows::{RowKind, saved_of};
+use crate::{BeginFail, RowKind};
+use mk_kept::{Saved, saved_of};
 use mk_library::{Library, RestoreFault};
 use mk_outside::{KeepFail, Keeper, Tables};
 use std::alloc::Global;
@@ -20,7 +19,7 @@ pub struct Session {
 
 impl Model for Session {
     ghost use Rattle.mk_outside.specs.declared.tables.Tables.{Tables};
-    ghost use Rattle.mk_session.specs.Running.{stands_for};
+    ghost use Rattle.mk_effects.specs.Findings.{stands_for};
 
     ghost Value = { Tables };
 

@@ -1,5 +1,14 @@
-// How a run ends.
+// How a command ends, and how a run does.
 use crate::StepFail;
+
+/// How a command ended.
+#[derive(Clone, Copy, Debug, PartialEq, Eq)]
+pub enum Ended {
+    /// It was done.
+    Done,
+    /// It was refused, and changed nothing.
+    Refused,
+}
 
 /// How a run ends.
 #[derive(Clone, Copy, Debug, PartialEq, Eq)]
@@ -47,7 +56,7 @@ impl Status {
 }
 
 impl From<StepFail> for Status {
-    ghost use Rattle.mk_session.specs.Fails.{IsStatusOf};
+    ghost use Rattle.mk_session.specs.Status.{IsStatusOf};
 
     ghost from_gives = { IsStatusOf };
 

@@ -1,6 +1,7 @@
 use Rattle.std.proofs.Common.{length, sym, arith, rules}
 use Rattle.std.specs.Str.Parse.{digits_value}
-use Rattle.mk_session.proofs.CommandPartsLemmas.{abs_is, digits_field, digits_field_none, some_bytes, some_number}
+use Rattle.mk_session.proofs.CommandPartsLemmas.{abs_is, digits_field, digits_field_none, some_number}
+use Rattle.mk_kept.proofs.ForCallers.{some_bytes}
 use mir.Syntax.{w32}
 use mir.Val.{SFits}
 use Rattle.mk_session.proofs.command_parts.digits_number.Goals as goal

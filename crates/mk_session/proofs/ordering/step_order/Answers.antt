@@ -1,6 +1,6 @@
 use Rattle.std.proofs.Common.{refl}
 use Rattle.std.specs.Prelude.{codes}
-use Rattle.mk_session.specs.Effects.{Refuses}
+use Rattle.mk_effects.specs.Effects.{Refuses}
 use Rattle.mk_session.proofs.ordering.step_order.Goals as goal
 
 pub returns-in_ok-extend_from_slice-in-None-clause-stepped : goal.returns-in_ok-extend_from_slice-in-None-clause-stepped

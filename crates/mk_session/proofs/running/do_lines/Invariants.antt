@@ -2,7 +2,7 @@ use Rattle.std.proofs.Common.{◌≡◌, take, Some}
 use Rattle.mk_text.specs.Spans.{parts}
 use Rattle.mk_session.specs.Orders.{orders_of}
 use Rattle.mk_session.specs.Run.{Misses}
-use Rattle.mk_session.specs.Running.{IsDoneAll}
+use Rattle.mk_session.specs.Turns.{IsDoneAll}
 use Rattle.mk_session.proofs.running.do_lines.Given as goal
 
 abbrev pub invariant-loop-span : goal.invariant-loop-span

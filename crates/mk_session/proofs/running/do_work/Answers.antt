@@ -1,5 +1,5 @@
 use Rattle.mk_session.proofs.HeadlineLemmas.{leaves_done, leaves_halted}
-use Rattle.mk_session.specs.Running.{orders_of_work}
+use Rattle.mk_session.specs.Given.{orders_of_work}
 use Rattle.mk_session.proofs.RunningLemmas.{unread_through}
 use Rattle.mk_session.proofs.running.do_work.Goals as goal
 

@@ -1,5 +1,5 @@
 use Rattle.std.proofs.Common.{refl}
-use Rattle.mk_session.specs.StoredRows.{BadRecord}
+use Rattle.mk_kept.specs.StoredRows.{BadRecord}
 use Rattle.mk_session.proofs.OpeningLemmas.{opened_fail, opened_tables}
 use Rattle.mk_session.proofs.session.opened.Goals as goal
 

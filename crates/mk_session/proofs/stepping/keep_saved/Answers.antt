@@ -1,6 +1,6 @@
 use Rattle.std.proofs.Common.{◌∙◌, Some, sym, ap}
 use Rattle.mk_outside.specs.declared.tables.Tables.{Tables}
-use Rattle.mk_session.proofs.SavedPendingLemmas.{saved_installed}
+use Rattle.mk_session.proofs.SteppingLemmas.{saved_installed}
 use Rattle.mk_session.proofs.stepping.keep_saved.Goals as goal
 
 pub returns-clause-tables : goal.returns-clause-tables

@@ -1,8 +1,8 @@
 use Rattle.std.proofs.Common.{Some, ◌∙◌, subst}
 use Rattle.mk_outside.specs.declared.tables.Tables.{Tables}
-use Rattle.mk_session.specs.Running.{MissesAt}
+use Rattle.mk_effects.specs.Findings.{MissesAt}
 use Rattle.mk_session.specs.Step.{Reaches}
-use Rattle.mk_session.proofs.LoadingLemmas.{same_tables, step_counted, stepped_err}
+use Rattle.mk_session.proofs.SteppingLemmas.{same_tables, step_counted, stepped_err}
 use Rattle.std.proofs.lemmas.Result.{err_from_is_err_and}
 use Rattle.mk_session.proofs.session.Session.step.Goals as goal
 

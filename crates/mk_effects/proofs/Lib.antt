@@ -1,0 +1,15 @@
+pub mod HitLinesLemmas
+pub mod ListingsLemmas
+pub mod QueryFilesLemmas
+pub mod MatchLemmas
+pub mod FindingsLemmas
+pub mod QueriesLemmas
+pub mod SearchingLemmas
+pub mod LoadingLemmas
+pub mod OneEditLemmas
+pub mod OneQueryFileLemmas
+pub mod OneKeepLemmas
+pub mod OneSearchLemmas
+pub mod OneMatchLemmas
+pub mod GoingOnLemmas
+pub mod ForCallers

@@ -1,0 +1,117 @@
+-- What `search` and `resume` come to.
+--     first_over_records, parts_over_records     the first keys over the molecules of a library, as those over its records
+--     put_fits, drop_fits                        the changes of a saved search fit
+--     refused_if                                 what is said of a refusal
+use Rattle.std.proofs.Common.{◌≡◌, ℕ, ◌≤◌, true, false, List, [], ◌∷◌, nat_eq, Some, refl, sym, ap, ◌∙◌, subst, arith}
+use Rattle.std.specs.Prelude.{Result, Ok, Err, IfOk}
+use Rattle.std.proofs.lemmas.Bool.{cond_both}
+use Rattle.mk_text.specs.Rising.{AreFirst}
+use Rattle.mk_rows.specs.declared.by_number.Numbered.{Numbered}
+use Rattle.mk_rows.specs.Rows.{item_at}
+use Rattle.mk_model.specs.Keys.{Remains}
+use Rattle.mk_model.specs.Molecules.{Molecule}
+use Rattle.mk_model.specs.Queries.{QueryView}
+use Rattle.mk_sdfile.specs.declared.raw_record.RawRecord.{RawRecord}
+use Rattle.mk_sdfile.specs.Sdfile.{HasOneValue}
+use Rattle.mk_mol.specs.Filled.{IsFilled}
+use Rattle.mk_mol.specs.Laws.{OneFilledMolecule}
+use Rattle.mk_outside.specs.declared.tables.Change.TheVariants.{PutCursor, DropCursor}
+use Rattle.mk_outside.specs.declared.tables.RecordRow.{RecordRow}
+use Rattle.mk_library.specs.Records.{AreHeld, IsMoleculeOf, text_of}
+use Rattle.mk_search.specs.Pages.{IsHeldIn}
+use Rattle.mk_effects.specs.declared.effect.Found.{Found}
+use Rattle.mk_effects.specs.declared.effect.Found.TheVariants as found
+use Rattle.mk_effects.specs.Effects.{Effect, Refuses}
+use Rattle.mk_effects.specs.Hits.{HaveParts}
+use Rattle.mk_effects.specs.Findings.{effect_of}
+use Rattle.mk_kept.specs.Saved.{SavedView, is_named}
+use Rattle.mk_kept.specs.SavedPending.{SavedFits, SavedPendingView}
+use Rattle.mk_effects.specs.Searching.{IsMoleculeAt}
+use Rattle.mk_effects.proofs.HitLinesLemmas.{have_parts}
+use Rattle.mk_effects.proofs.ListingsLemmas.{key_of}
+use Rattle.mk_kept.proofs.ForCallers.{some_same}
+
+-- ---- the molecules of records
+
+one_raw : (a b : RawRecord) → a ∷ [] ≡ b ∷ [] → a ≡ b
+one_raw a b is = cc
+
+-- a text has one molecule
+one_molecule : OneFilledMolecule → HasOneValue → (text : List ℕ) (a b : Molecule) → IsMoleculeOf text a → IsMoleculeOf text b → a ≡ b
+one_molecule filled sdfile text a b p q =
+    let same : q.is.raw ≡ p.is.raw = one_raw q.is.raw p.is.raw (sdfile _ (q.is.raw ∷ []) (p.is.raw ∷ []) q.is.read p.is.read) in
+    filled p.is.raw.table a b p.kept q.kept p.filled (subst (λ (raw : RawRecord). IsFilled raw.table b) same q.filled)
+
+-- what a row of molecules holds is the molecule of the record beside it
+item_is_at : (records : List RecordRow) (rows : List (Numbered Molecule)) (n : ℕ) (mol : Molecule) → AreHeld records rows → IsHeldIn rows n mol → IsMoleculeAt records n mol
+item_is_at [] [] n mol held is = cc
+item_is_at [] (x ∷ rows) n mol held is = absurd held
+item_is_at (r ∷ records) [] n mol held is = absurd held
+item_is_at (r ∷ records) (x ∷ rows) n mol held is =
+    cond_both (nat_eq x.number n) (Some x.item) (item_at n rows) (λ found. found ≡ Some mol → IsMoleculeAt (r ∷ records) n mol)
+    (λ here. λ this.
+    let there : nat_eq r.number n ≡ true = ap (λ k. nat_eq k n) held.0 ∙ here in
+    record { text = r.text; held = rw there refl; is = subst (IsMoleculeOf r.text) (some_same x.item mol this) held.1 })
+    (λ other. λ later.
+    let there : nat_eq r.number n ≡ false = ap (λ k. nat_eq k n) held.0 ∙ other in
+    let rest = item_is_at records rows n mol held.2 later in
+    record { text = rest.text; held = rw there rest.held; is = rest.is })
+    is
+
+-- and the molecule of a record stands beside it
+at_is_item : OneFilledMolecule → HasOneValue → (records : List RecordRow) (rows : List (Numbered Molecule)) (n : ℕ) (mol : Molecule) → AreHeld records rows → IsMoleculeAt records n mol → IsHeldIn rows n mol
+at_is_item filled sdfile [] [] n mol held at = let h = at.held in cc
+at_is_item filled sdfile [] (x ∷ rows) n mol held at = absurd held
+at_is_item filled sdfile (r ∷ records) [] n mol held at = absurd held
+at_is_item filled sdfile (r ∷ records) (x ∷ rows) n mol held at =
+    cond_both (nat_eq r.number n) (Some r.text) (text_of n records) (λ found. found ≡ Some at.text → IsHeldIn (x ∷ rows) n mol)
+    (λ here. λ this.
+    let there : nat_eq x.number n ≡ true = ap (λ k. nat_eq k n) (sym held.0) ∙ here in
+    let of_text : IsMoleculeOf r.text mol = subst (λ text. IsMoleculeOf text mol) (sym (some_same r.text at.text this)) at.is in
+    rw there (ap Some (one_molecule filled sdfile r.text x.item mol held.1 of_text)))
+    (λ other. λ later.
+    let there : nat_eq x.number n ≡ false = ap (λ k. nat_eq k n) (sym held.0) ∙ other in
+    rw there (at_is_item filled sdfile records rows n mol held.2 (record { text = at.text; held = later; is = at.is })))
+    at.held
+
+-- ---- the first keys
+
+-- the first keys over the molecules of a library are those over its records
+pub first_over_records : OneFilledMolecule → HasOneValue → (records : List RecordRow) (rows : List (Numbered Molecule)) (query : QueryView) (place : List ℕ) (limit : ℕ) (keys : List (List ℕ))
+    → AreHeld records rows → AreFirst limit (Remains (IsHeldIn rows) query place) keys → AreFirst limit (Remains (IsMoleculeAt records) query place) keys
+first_over_records filled sdfile records rows query place limit keys held first = record {
+  rises = first.rises;
+  each = λ key is. let remains = first.each key is in (key_of (IsHeldIn rows) (IsMoleculeAt records) query key (λ n mol h. item_is_at records rows n mol held h) remains.0, remains.1);
+  few = first.few;
+  others = λ key is. first.others key (key_of (IsMoleculeAt records) (IsHeldIn rows) query key (λ n mol h. at_is_item filled sdfile records rows n mol held h) is.0, is.1);
+}
+
+pub parts_over_records : (records : List RecordRow) (query : QueryView) (place : List ℕ) (limit : ℕ) (keys : List (List ℕ))
+    → AreFirst limit (Remains (IsMoleculeAt records) query place) keys → HaveParts query keys
+parts_over_records records query place limit keys first =
+    have_parts (Remains (IsMoleculeAt records) query place) (IsMoleculeAt records) query limit keys (λ key is. is.0) first
+
+-- ---- changes that fit
+
+pub put_fits : (saved : SavedView) (pending : SavedPendingView) (number : ℕ) (name place : List ℕ) → pending.changes ≡ PutCursor number name place ∷ []
+    → is_named name saved.queries ≡ true → 1 ≤ saved.cursor_room → SavedFits saved pending
+put_fits saved pending number name place is named spare = record {
+  places = rw is ((named, tt));
+  queries = rw is (omega arith);
+  cursors = rw is spare;
+}
+
+pub drop_fits : (saved : SavedView) (pending : SavedPendingView) (number : ℕ) → pending.changes ≡ DropCursor number ∷ [] → SavedFits saved pending
+drop_fits saved pending number is = record {
+  places = rw is ((tt, tt));
+  queries = rw is (omega arith);
+  cursors = rw is (omega arith);
+}
+
+-- ---- refusals
+
+-- what is said of a refusal
+pub refused_if : {E : Type 0} {P : Effect → Type 0} (line : List ℕ) (r : Result Found E) → IfOk r (λ f. f ≡ found.Refused line) → ((effect : Effect) → effect ≡ Refuses line → P effect)
+    → IfOk r (λ f. P (effect_of f))
+refused_if line (Ok f) is p = p (effect_of f) (ap effect_of is)
+refused_if line (Err e) is p = tt

@@ -1,0 +1,14 @@
+pub mod Effects
+pub mod Answers
+pub mod Files
+pub mod Fails
+pub mod QueryFiles
+pub mod Hits
+pub mod Match
+pub mod Matching
+pub mod Records
+pub mod Queries
+pub mod Searching
+pub mod Loading
+pub mod Drilling
+pub mod Findings

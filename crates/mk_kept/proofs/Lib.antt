@@ -1,0 +1,12 @@
+pub mod NamesLemmas
+pub mod QueryTextLemmas
+pub mod SavedLemmas
+pub mod SavedSearchLemmas
+pub mod RestoredLemmas
+pub mod NamedLemmas
+pub mod StoredRowsLemmas
+pub mod SavedPendingLemmas
+pub mod OneQueryLemmas
+pub mod KeptRowsLemmas
+pub mod SavedRowsLemmas
+pub mod ForCallers

@@ -1,0 +1,7 @@
+pub mod Names
+pub mod QueryText
+pub mod Saved
+pub mod Named
+pub mod SavedPending
+pub mod StoredRows
+pub mod Restored

@@ -1,0 +1,351 @@
+-- Each order comes to an effect, where its files are there and the queries of the tables mean something.
+--     some_text            keys have lines
+--     some_listing         the first keys that remain are listed
+--     some_effect          EachOrderHasEffect
+use Rattle.std.proofs.Common.{◌≡◌, ◌≢◌, ◌<◌, ◌≤◌, ◌+◌, ℕ, Bool, true, false, cond, eqb, List, [], ◌∷◌, ◌++◌, Option, Some, None, All, refl, sym, ap, subst, ◌∙◌, arith, inl, inr, length, map, take, ⊎_elim}
+use Rattle.std.specs.Prelude.{◌⊎◌, ◌↔◌, IsSome, bytes_eq, codes, nat_eq}
+use Rattle.std.specs.List.{AllByRecursion, list_any}
+use Rattle.std.proofs.lemmas.Bool.{cases_Bool, cases_lt, cond_both, eqb-true, eq-eqb, true≢false}
+use Rattle.std.proofs.lemmas.List.Elements.{All-head, All-tail}
+use Rattle.mk_text.specs.Lines.{lines_of}
+use Rattle.mk_text.specs.Rising.{AreFirst, IsBelow, IsFrom, IsRisingListOfAll, place_behind}
+use Rattle.mk_model.specs.Keys.{IsKey, Remains}
+use Rattle.mk_model.specs.Molecules.{Molecule}
+use Rattle.mk_model.specs.Queries.{QueryView}
+use Rattle.mk_model.specs.QueryFits.{QueryFits}
+use Rattle.mk_outside.specs.declared.tables.Change.{Change}
+use Rattle.mk_outside.specs.declared.tables.Change.TheVariants.{DropCursor, PutCursor, PutQuery, DropRecord}
+use Rattle.mk_outside.specs.declared.tables.CursorRow.{CursorRow}
+use Rattle.mk_outside.specs.declared.tables.QueryRow.{QueryRow}
+use Rattle.mk_outside.specs.declared.tables.RecordRow.{RecordRow}
+use Rattle.mk_outside.specs.declared.tables.Tables.{Tables}
+use Rattle.mk_ctab.specs.TableFacts.{IsRawTable}
+use Rattle.mk_sdfile.specs.declared.raw_record.RawRecord.{RawRecord}
+use Rattle.mk_sdfile.specs.Sdfile.{IsSdfile}
+use Rattle.mk_mol.specs.FirstFault.{IsFirstFault, PassesAll}
+use Rattle.mk_rows.specs.declared.by_number.Numbered.{Numbered}
+use Rattle.mk_rows.specs.Rows.{item_at}
+use Rattle.mk_library.specs.declared.refusal.LoadRefusal.{LoadRefusal}
+use Rattle.mk_library.specs.declared.refusal.LoadRefusal.TheVariants as refusal
+use Rattle.mk_library.specs.Edits.{Edit, Load, Replace}
+use Rattle.mk_library.specs.FirstRefusal.{Demand, Demands, IsFirstRefusal, Says, held_number, kept_limits, molecules as record_molecules, one_record, sdfile, short_file, text_of_edit}
+use Rattle.mk_library.specs.Records.{is_held, text_of}
+use Rattle.mk_query.proofs.ForCallers.{in_range}
+use Rattle.mk_query.proofs.KnownLemmas.{Known, known_as, known_both, known_most}
+use Rattle.mk_query.proofs.QueryLemmas.{fits_query}
+use Rattle.mk_query.proofs.TableWalkLemmas.{pass_nested}
+use Rattle.mk_rgfile.proofs.ForCallers.{query_keeps}
+use Rattle.mk_search.specs.Pages.{IsHeldIn}
+use Rattle.mk_search.proofs.AllKeysLemmas.{keys_listed}
+use Rattle.mk_search.proofs.ListingLemmas.{list_same}
+use Rattle.mk_values.specs.Laws.{IsMoleculeOfTable}
+use Rattle.mk_values.proofs.ForCallers.{IsAtNumber, IsStopOfSdfile, drill_has_line, edit_is_judged, filled_molecule, first_fault, list_by, read_keeps, rows_hold, rows_of, sdfile_or_bad, taken_first}
+use Rattle.mk_session.specs.declared.command.Command.TheVariants as variant
+use Rattle.mk_effects.specs.declared.files.HeldQuery.{HeldQuery}
+use Rattle.mk_effects.specs.declared.files.HeldQuery.TheVariants.{Query, Refused}
+use Rattle.mk_effects.specs.Answers.{bad_line_text, check_text, full_text, long_molecules_text, records_text, v3000_text}
+use Rattle.mk_effects.specs.Effects.{Answers, Refuses}
+use Rattle.mk_effects.specs.Effects.{Effect}
+use Rattle.mk_effects.specs.Files.{IsLong, IsShort, Look}
+use Rattle.mk_effects.specs.Hits.{AreHitLines, HasParts, HaveParts, IsHitsText, hit_line, last_line}
+use Rattle.mk_effects.specs.Loading.{EditRefused, EditTooLong, Edits, NoRecordReplaced, ReplacesHeld}
+use Rattle.mk_effects.specs.Loading.{IsEdited, IsFileLine, IsReplace, loaded_text, replaced_text}
+use Rattle.mk_effects.specs.Match.{BadLine, FailsCheck, Lists, MoleculesRefused, NotOne, QueryRefused, Searches, TooLong, TurnOfMolecules, TurnOfQuery, V3000}
+use Rattle.mk_effects.specs.Match.{IsMatch, IsRecord1, IsSearchOfFile, molecule_bytes}
+use Rattle.mk_session.specs.Orders.{Order}
+use Rattle.mk_effects.specs.Queries.{FileIsRefused, Forgets, Keeps, NameIsHeld, NoQueryForgotten, QueriesAreFull, TextsAreFull}
+use Rattle.mk_effects.specs.Queries.{IsForget, IsFree, IsKeep, forget_changes, full_queries_text, kept_text, name_held_text, named_line, no_query_text}
+use Rattle.mk_effects.specs.QueryFiles.{IsQueryHeld, IsQueryHeldBy}
+use Rattle.mk_kept.specs.QueryText.{IsQueryOfText}
+use Rattle.mk_effects.specs.Records.{IsRemove, IsShow, list_text, no_record_text, numbered_line, record_text}
+use Rattle.mk_effects.specs.Records.{NoRecordRemoved, NoRecordShown, Removes, Shows}
+use Rattle.mk_kept.specs.Saved.{HasMeaning, HasRoomFor, greatest_number, is_named, most_queries, most_query_number, most_search_number, most_searches, most_text_bytes, bytes_of_texts}
+use Rattle.mk_kept.specs.Saved.{HasSearchRoom}
+use Rattle.mk_effects.specs.Searching.{IsListing, IsMoleculeAt, IsResume, IsSearch, full_searches_text, no_search_text}
+use Rattle.mk_kept.specs.Named.{IsQueryNamed, search_of, text_named}
+use Rattle.mk_effects.specs.Searching.{ListsAll, ListsRest, MovesPlace, NoQuerySearched, NoSearchResumed, SavesPlace, SearchesAreFull}
+use Rattle.mk_session.specs.Step.{Comes, no_command_text}
+use Rattle.mk_session.specs.Values.{CanBeAsked, EachOrderHasEffect, HasItsFile}
+use Rattle.mk_effects.proofs.HitLinesLemmas.{have_parts}
+use Rattle.mk_session.proofs.TextValueLemmas.{cases_file, some_query_held}
+
+-- ---- lines of hits
+
+some_lines : (query : QueryView) (keys : List (List ℕ)) → HaveParts query keys → (lines : List ℕ) × AreHitLines query keys lines
+some_lines query [] have = ([], refl)
+some_lines query (key ∷ keys) have =
+    let parts = All-head (HasParts query) key keys have in
+    let others = some_lines query keys (All-tail (HasParts query) key keys have) in
+    let line = hit_line parts.number parts.code parts.hit in
+    (line ++ others.0, (line, others.0, record { parts = parts; spelt = refl }, others.1, refl))
+
+some_text : (query : QueryView) (keys : List (List ℕ)) (most c : ℕ) → HaveParts query keys → (text : List ℕ) × IsHitsText query keys most c text
+some_text query keys most c have =
+    let lines = some_lines query keys have in
+    (lines.0 ++ last_line (length keys) most c, record { lines = lines.0; are_lines = lines.1; whole = refl })
+
+-- ---- queries
+
+-- the query of a text fits
+text_fits : (text : List ℕ) (query : QueryView) → IsQueryOfText text query → QueryFits query
+text_fits text query is =
+    let range = in_range is.raw (query_keeps (lines_of text) is.raw is.file) in
+    fits_query is.raw range (pass_nested is.raw is.passes.in_tables) query.templates is.means.templates query.groups is.means.groups is.passes.across
+
+-- a query that is held under a name means something
+some_named : (name : List ℕ) (rows : List QueryRow) → AllByRecursion (λ (row : QueryRow). HasMeaning row.text) rows → is_named name rows ≡ true → (query : QueryView) × IsQueryNamed rows name query
+some_named name [] all named = absurd (true≢false (sym named))
+some_named name (row ∷ rows) all named = by_test (bytes_eq row.name name) refl (λ here. some_named name rows all.1 here)
+  where
+    by_test : (b : Bool) → bytes_eq row.name name ≡ b → (is_named name rows ≡ true → (query : QueryView) × IsQueryNamed rows name query) → (query : QueryView) × IsQueryNamed (row ∷ rows) name query
+    by_test true is others = (all.0.0, record { text = row.text; held = rw is refl; means = all.0.1 })
+    by_test false is others = (let later = others (rw is at named) in (later.0, record { text = later.1.text; held = rw is later.1.held; means = later.1.means }))
+
+-- ---- searches
+
+-- the first keys that remain over the records, with their lines
+some_listing : (records : List RecordRow) (query : QueryView) (place : List ℕ) (limit c : ℕ) → QueryFits query → (keys : List (List ℕ)) × ((text : List ℕ) × IsListing records query place limit c keys text)
+some_listing records query place limit c fits =
+    let all = keys_listed (rows_of records) query place fits in
+    let listed : IsRisingListOfAll (Remains (IsMoleculeAt records) query place) all.0 =
+    list_by (IsHeldIn (rows_of records)) (IsMoleculeAt records) query place all.0
+    (λ n mol. (
+      λ held. (let at = (rows_hold records n mol).0 held in record { text = at.text; held = at.held; is = at.is }),
+      λ at. (rows_hold records n mol).1 (record { text = at.text; held = at.held; is = at.is }),
+    )) all.1 in
+    let keys = take limit all.0 in
+    let first = taken_first limit (Remains (IsMoleculeAt records) query place) all.0 listed in
+    let text = some_text query keys limit c (have_parts (Remains (IsMoleculeAt records) query place) (IsMoleculeAt records) query limit keys (λ key is. is.0) first) in
+    (keys, (text.0, record { first = first; lines = text.1 }))
+
+known_room : (cursors : List CursorRow) (next : ℕ) → Known (HasSearchRoom cursors next)
+known_room cursors next =
+    known_as (known_both (known_most (length cursors + 1) most_searches) (known_most next most_search_number)) (λ both. record { few = omega (arith, both.0); number = both.1 }) (λ room. (omega (arith, room.few), room.number))
+
+some_search : (t : Tables) (name : List ℕ) (limit : ℕ) → CanBeAsked t → (effect : Effect) × IsSearch t name limit effect
+some_search t name limit can = by_name (cases_Bool (is_named name t.queries))
+  where
+    by_count : (query : QueryView) → IsQueryNamed t.queries name query → HasSearchRoom t.cursors t.next_cursor → (keys : List (List ℕ)) (text : List ℕ) → IsListing t.records query [] limit t.next_cursor keys text
+        → (length keys < limit) ⊎ (limit ≤ length keys) → (effect : Effect) × IsSearch t name limit effect
+    by_count query named room keys text listing (inl few) = (Answers [] text, ListsAll query named room keys text listing few refl)
+    by_count query named room keys text listing (inr full) =
+        (Answers (PutCursor t.next_cursor name (place_behind [] keys) ∷ []) text, SavesPlace query named room keys text listing (omega (arith, full, listing.first.few)) refl)
+
+    by_room : (query : QueryView) → IsQueryNamed t.queries name query → Known (HasSearchRoom t.cursors t.next_cursor) → (effect : Effect) × IsSearch t name limit effect
+    by_room query named (inr full) = (Refuses full_searches_text, SearchesAreFull query named full refl)
+    by_room query named (inl room) =
+        (let listing = some_listing t.records query [] limit t.next_cursor (text_fits named.text query named.means.is) in
+        by_count query named room listing.0 listing.1.0 listing.1.1 (cases_lt (length listing.0) limit))
+
+    by_name : (is_named name t.queries ≡ true) ⊎ (is_named name t.queries ≡ false) → (effect : Effect) × IsSearch t name limit effect
+    by_name (inl held) = (let named = some_named name t.queries can.queries held in by_room named.0 named.1 (known_room t.cursors t.next_cursor))
+    by_name (inr none) = (Refuses (no_query_text name), NoQuerySearched none refl)
+
+-- a saved search that is found has its query
+its_query : (c : ℕ) (P : CursorRow → Type 0) (row : CursorRow) (rows : List CursorRow) → AllByRecursion P rows → search_of c rows ≡ Some row → P row
+its_query c P row [] all found = absurd cc
+its_query c P row (x ∷ rows) all found =
+    cond_both (nat_eq x.number c) (Some x) (search_of c rows) (λ (o : Option CursorRow). o ≡ Some row → P row)
+    (λ here. λ same. let is : x ≡ row = cc in subst P is all.0)
+    (λ other. λ later. its_query c P row rows all.1 later)
+    found
+
+some_resume : (t : Tables) (c limit : ℕ) → CanBeAsked t → (effect : Effect) × IsResume t c limit effect
+some_resume t c limit can = by_search (search_of c t.cursors) refl
+  where
+    by_count : (row : CursorRow) → search_of c t.cursors ≡ Some row → (query : QueryView) → IsQueryNamed t.queries row.name query → (keys : List (List ℕ)) (text : List ℕ) → IsListing t.records query row.place limit c keys text
+        → (length keys < limit) ⊎ (limit ≤ length keys) → (effect : Effect) × IsResume t c limit effect
+    by_count row held query named keys text listing (inl few) = (Answers (DropCursor c ∷ []) text, ListsRest row held query named keys text listing few refl)
+    by_count row held query named keys text listing (inr full) =
+        (Answers (PutCursor c row.name (place_behind row.place keys) ∷ []) text, MovesPlace row held query named keys text listing (omega (arith, full, listing.first.few)) refl)
+
+    by_search : (found : Option CursorRow) → search_of c t.cursors ≡ found → (effect : Effect) × IsResume t c limit effect
+    by_search None is = (Refuses (no_search_text c), NoSearchResumed is refl)
+    by_search (Some row) is =
+        (let named = some_named row.name t.queries can.queries (its_query c (λ (r : CursorRow). is_named r.name t.queries ≡ true) row t.cursors can.cursors is) in
+        let listing = some_listing t.records named.0 row.place limit c (text_fits named.1.text named.0 named.1.means.is) in
+        by_count row is named.0 named.1 listing.0 listing.1.0 listing.1.1 (cases_lt (length listing.0) limit))
+
+-- ---- match
+
+-- the one molecule under the number 1
+one_row : Molecule → List (Numbered Molecule)
+one_row mol = record { number = 1; item = mol } ∷ []
+
+row_is : (mol : Molecule) (n : ℕ) (other : Molecule) → IsHeldIn (one_row mol) n other ↔ IsRecord1 mol n other
+unfolding one_row
+row_is mol n other = (
+  λ held. by_test (eqb 1 n) refl held,
+  λ is. rw (eq-eqb 1 n (sym is.0)) (ap Some (sym is.1)),
+)
+  where
+    by_test : (b : Bool) → eqb 1 n ≡ b → cond b (Some mol) None ≡ Some other → IsRecord1 mol n other
+    by_test true is held = (sym (eqb-true 1 n is), (let same : mol ≡ other = cc in sym same))
+    by_test false is held = absurd cc
+
+-- the first keys in one molecule
+some_hits : (mol : Molecule) (wanted : QueryView) → QueryFits wanted → (keys : List (List ℕ)) × AreFirst 10000 (IsKey (IsRecord1 mol) wanted) keys
+some_hits mol wanted fits =
+    let all = keys_listed (one_row mol) wanted [] fits in
+    let held = list_by (IsHeldIn (one_row mol)) (IsRecord1 mol) wanted [] all.0 (row_is mol) all.1 in
+    let listed : IsRisingListOfAll (IsKey (IsRecord1 mol) wanted) all.0 = list_same (Remains (IsRecord1 mol) wanted []) (IsKey (IsRecord1 mol) wanted) all.0 (λ xs is. is.0) (λ xs is. (is, λ below. below)) held in
+    (take 10000 all.0, taken_first 10000 (IsKey (IsRecord1 mol) wanted) all.0 listed)
+
+some_search_of_file : (look : Look) (name : List ℕ) (wanted : QueryView) → QueryFits wanted → IsSome (look name) → (effect : Effect) × IsSearchOfFile wanted (Some look) name effect
+some_search_of_file look name wanted fits there = by_file (cases_file look molecule_bytes name there)
+  where
+    of_only : (bytes : List ℕ) → IsShort (Some look) molecule_bytes name bytes → (only : RawRecord) → IsSdfile (lines_of bytes) (only ∷ [])
+        → PassesAll only.table ⊎ ((check : ℕ) × ((item : ℕ) × IsFirstFault only.table check item)) → (effect : Effect) × IsSearchOfFile wanted (Some look) name effect
+    of_only bytes read only is (inl passes) =
+        (let kept = All-head (λ (r : RawRecord). IsRawTable r.table) only [] (read_keeps (lines_of bytes) (only ∷ []) is) in
+        let made = filled_molecule only.table kept.few_atoms kept.few_bonds passes in
+        let keys = some_hits made.0 wanted fits in
+        let text = some_text wanted keys.0 10000 0 (have_parts (IsKey (IsRecord1 made.0) wanted) (IsRecord1 made.0) wanted 10000 keys.0 (λ key k. k) keys.1) in
+        (Answers [] text.0, Lists made.0 (record { bytes = bytes; read = read; only = only; sdfile = is; passes = passes; filled = made.1.filled; molecule = made.1.kept }) keys.0 keys.1 text.0 text.1 refl))
+    of_only bytes read only is (inr (check, (item, fault))) =
+        (Refuses (check_text 1 check item), MoleculesRefused (check_text 1 check item) (FailsCheck bytes read only is check item fault refl) refl)
+
+    by_records : (bytes : List ℕ) → IsShort (Some look) molecule_bytes name bytes → (records : List RawRecord) → IsSdfile (lines_of bytes) records → (effect : Effect) × IsSearchOfFile wanted (Some look) name effect
+    by_records bytes read [] is = (Refuses (records_text 0), MoleculesRefused (records_text 0) (NotOne bytes read [] is (λ one. absurd (omega (arith, one))) refl) refl)
+    by_records bytes read (only ∷ []) is = of_only bytes read only is (first_fault only.table)
+    by_records bytes read (first ∷ second ∷ others) is =
+        (Refuses (records_text (length (first ∷ second ∷ others))), MoleculesRefused (records_text (length (first ∷ second ∷ others))) (NotOne bytes read (first ∷ second ∷ others) is (λ one. absurd (omega (arith, one))) refl) refl)
+
+    by_lines : (bytes : List ℕ) → IsShort (Some look) molecule_bytes name bytes → ((records : List RawRecord) × IsSdfile (lines_of bytes) records) ⊎ IsStopOfSdfile (lines_of bytes) → (effect : Effect) × IsSearchOfFile wanted (Some look) name effect
+    by_lines bytes read (inl (records, is)) = by_records bytes read records is
+    by_lines bytes read (inr (k, (true, (bad, says)))) = (Refuses (v3000_text k), MoleculesRefused (v3000_text k) (V3000 bytes read k bad (says.0 refl) refl) refl)
+    by_lines bytes read (inr (k, (false, (bad, says)))) =
+        (Refuses (bad_line_text k), MoleculesRefused (bad_line_text k) (BadLine bytes read k bad (λ named. true≢false (sym (says.1 named))) refl) refl)
+
+    by_file : IsLong (Some look) molecule_bytes name ⊎ ((bytes : List ℕ) × IsShort (Some look) molecule_bytes name bytes) → (effect : Effect) × IsSearchOfFile wanted (Some look) name effect
+    by_file (inl long) = (Refuses long_molecules_text, MoleculesRefused long_molecules_text (TooLong long refl) refl)
+    by_file (inr (bytes, read)) = by_lines bytes read (sdfile_or_bad (lines_of bytes))
+
+some_match : (look : Look) (t : Tables) (query molecules : List ℕ) → HasItsFile look t (Some (variant.Match query molecules)) → (effect : Effect) × IsMatch (Some look) query molecules effect
+some_match look t query molecules there = by_held (some_query_held look query (there query (TurnOfQuery refl)))
+  where
+    by_held : (held : HeldQuery) × IsQueryHeldBy (Some look) query held → (effect : Effect) × IsMatch (Some look) query molecules effect
+    by_held (Refused line, is) = (Refuses line, QueryRefused line is refl)
+    by_held (Query wanted, is) =
+        (let searched = some_search_of_file look molecules wanted (text_fits is.bytes wanted is.is) (there molecules (TurnOfMolecules wanted is refl)) in
+        (searched.0, Searches wanted is searched.1))
+
+-- ---- edits
+
+-- want of memory is said of no demand, and of the number alone that it isn't held
+no_memory : (text : List ℕ) (demand : Demand) → Says text demand refusal.Memory → ⊥
+no_memory text held_number says = cc
+no_memory text short_file says = cc
+no_memory text sdfile says = (let is = says.2 in cc)
+no_memory text one_record says = (let is = says.2 in cc)
+no_memory text record_molecules says = (let is = says.5 in cc)
+no_memory text kept_limits says = cc
+
+number_alone : (text : List ℕ) (demand : Demand) → Says text demand refusal.NoRecord → demand ≡ held_number
+number_alone text held_number says = refl
+number_alone text short_file says = absurd cc
+number_alone text sdfile says = absurd (let is = says.2 in cc)
+number_alone text one_record says = absurd (let is = says.2 in cc)
+number_alone text record_molecules says = absurd (let is = says.5 in cc)
+number_alone text kept_limits says = absurd cc
+
+-- what is said of a file has its line
+some_line : (records : List RecordRow) (next : ℕ) (edit : Edit) (said : LoadRefusal) → Demands records next edit held_number → IsFirstRefusal records next edit said → (line : List ℕ) × IsFileLine said line
+some_line records next edit refusal.NoRecord held first =
+    absurd (first.fails (subst (Demands records next edit) (sym (number_alone (text_of_edit edit) first.demand first.says)) held))
+some_line records next edit refusal.FileLarge held first = (long_molecules_text, refl)
+some_line records next edit (refusal.Layout k v3000) held first = (cond v3000 (v3000_text k) (bad_line_text k), refl)
+some_line records next edit (refusal.NotOne count) held first = (records_text count, refl)
+some_line records next edit (refusal.Meaning number check item) held first = (check_text number check item, refl)
+some_line records next edit refusal.Full held first = (full_text, refl)
+some_line records next edit refusal.Memory held first = absurd (no_memory (text_of_edit edit) first.demand first.says)
+
+some_edit : (look : Look) (t : Tables) (name : List ℕ) (edit : List ℕ → Edit) (answer : List Change → List ℕ) → ((bytes : List ℕ) → Demands t.records t.next_record (edit bytes) held_number) → IsSome (look name)
+    → (effect : Effect) × IsEdited (Some look) t name edit answer effect
+some_edit look t name edit answer held there = by_file (cases_file look molecule_bytes name there)
+  where
+    by_file : IsLong (Some look) molecule_bytes name ⊎ ((bytes : List ℕ) × IsShort (Some look) molecule_bytes name bytes) → (effect : Effect) × IsEdited (Some look) t name edit answer effect
+    by_file (inl long) = (Refuses long_molecules_text, EditTooLong long refl)
+    by_file (inr (bytes, read)) =
+        elim (edit_is_judged t.records t.next_record (edit bytes)) [
+          | inl (said, first) ↦ (let line = some_line t.records t.next_record (edit bytes) said (held bytes) first in (Refuses line.0, EditRefused bytes read said first line.0 line.1 refl))
+          | inr (changes, allowed) ↦ (Answers changes (answer changes), Edits bytes read changes allowed refl)
+        ]
+
+some_replace : (look : Look) (t : Tables) (n : ℕ) (name : List ℕ) → HasItsFile look t (Some (variant.Replace n name)) → (effect : Effect) × IsReplace (Some look) t n name effect
+some_replace look t n name there =
+    elim (cases_Bool (is_held n t.records)) [
+      | inl held ↦ (let edited = some_edit look t name (Replace n) (λ changes. replaced_text n) (λ bytes. held) (there name (record { held = held; is = refl })) in (edited.0, ReplacesHeld held edited.1))
+      | inr none ↦ (Refuses (no_record_text n), NoRecordReplaced none refl)
+    ]
+
+-- ---- query and forget
+
+known_query_room : (rows : List QueryRow) (text : List ℕ) → Known (HasRoomFor rows text)
+known_query_room rows text =
+    known_as (known_both (known_most (bytes_of_texts rows + length text) most_text_bytes) (known_most (greatest_number rows + 1) most_query_number))
+    (λ both. record { bytes = both.0; number = omega (arith, both.1) }) (λ room. (room.bytes, omega (arith, room.number)))
+
+some_keep : (look : Look) (t : Tables) (name file : List ℕ) → HasItsFile look t (Some (variant.Query name file)) → (effect : Effect) × IsKeep (Some look) t name file effect
+some_keep look t name file there = by_name (cases_Bool (is_named name t.queries)) (cases_lt (length t.queries) most_queries)
+  where
+    by_held : IsFree t name → (held : HeldQuery) × IsQueryHeldBy (Some look) file held → (effect : Effect) × IsKeep (Some look) t name file effect
+    by_held free (Refused line, is) = (Refuses line, FileIsRefused free line is refl)
+    by_held free (Query query, is) =
+        elim (known_query_room t.queries (kept_text is.bytes)) [
+          | inl room ↦ (Answers (PutQuery (greatest_number t.queries + 1) name (kept_text is.bytes) ∷ []) (named_line (codes "kept ") name), Keeps free query is room refl)
+          | inr full ↦ (Refuses full_queries_text, TextsAreFull free query is full refl)
+        ]
+
+    by_name : (is_named name t.queries ≡ true) ⊎ (is_named name t.queries ≡ false) → (length t.queries < most_queries) ⊎ (most_queries ≤ length t.queries) → (effect : Effect) × IsKeep (Some look) t name file effect
+    by_name (inl held) size = (Refuses (name_held_text name), NameIsHeld held refl)
+    by_name (inr new) (inr full) = (Refuses full_queries_text, QueriesAreFull new full refl)
+    by_name (inr new) (inl few) = (let free : IsFree t name = record { new = new; few = few } in by_held free (some_query_held look file (there file (record { free = free; is = refl }))))
+
+some_forget : (t : Tables) (name : List ℕ) → (effect : Effect) × IsForget t name effect
+some_forget t name =
+    elim (cases_Bool (is_named name t.queries)) [
+      | inl held ↦ (Answers (forget_changes name t.cursors) (named_line (codes "forgot ") name), Forgets held refl)
+      | inr none ↦ (Refuses (no_query_text name), NoQueryForgotten none refl)
+    ]
+
+-- ---- show and remove
+
+-- a record that is held has a text
+held_text : (n : ℕ) (records : List RecordRow) → is_held n records ≡ true → (text : List ℕ) × (text_of n records ≡ Some text)
+held_text n [] held = absurd (true≢false (sym held))
+held_text n (row ∷ records) held = by_test (eqb row.number n) refl (λ here. held_text n records here)
+  where
+    by_test : (b : Bool) → eqb row.number n ≡ b → (is_held n records ≡ true → (text : List ℕ) × (text_of n records ≡ Some text)) → (text : List ℕ) × (text_of n (row ∷ records) ≡ Some text)
+    by_test true is others = (row.text, rw is refl)
+    by_test false is others = (let later = others (rw is at held) in (later.0, rw is later.1))
+
+some_show : (t : Tables) (n : ℕ) → (effect : Effect) × IsShow t n effect
+some_show t n =
+    elim (cases_Bool (is_held n t.records)) [
+      | inl held ↦ (let text = held_text n t.records held in (Answers [] (record_text n text.0), Shows text.0 text.1 refl))
+      | inr none ↦ (Refuses (no_record_text n), NoRecordShown none refl)
+    ]
+
+some_remove : (t : Tables) (n : ℕ) → (effect : Effect) × IsRemove t n effect
+some_remove t n =
+    elim (cases_Bool (is_held n t.records)) [
+      | inl held ↦ (Answers (DropRecord n ∷ []) (numbered_line (codes "removed ") n), Removes held refl)
+      | inr none ↦ (Refuses (no_record_text n), NoRecordRemoved none refl)
+    ]
+
+-- ---- all orders
+
+pub some_effect : EachOrderHasEffect
+some_effect look t None can there = (Refuses no_command_text, refl)
+some_effect look t (Some (variant.Match query molecules)) can there = some_match look t query molecules there
+some_effect look t (Some (variant.Load file)) can there = some_edit look t file Load (loaded_text t.next_record) (λ bytes. tt) (there file refl)
+some_effect look t (Some (variant.Replace number file)) can there = some_replace look t number file there
+some_effect look t (Some (variant.Remove number)) can there = some_remove t number
+some_effect look t (Some (variant.Query name file)) can there = some_keep look t name file there
+some_effect look t (Some (variant.Forget name)) can there = some_forget t name
+some_effect look t (Some (variant.Search name limit)) can there = some_search t name limit can
+some_effect look t (Some (variant.Resume cursor limit)) can there = some_resume t cursor limit can
+some_effect look t (Some (variant.Show number)) can there = some_show t number
+some_effect look t (Some variant.List) can there = (Answers [] (list_text t), refl)
+some_effect look t (Some (variant.Drill start count)) can there = (let line = drill_has_line start count in (Answers [] line.0, record { line = line.0; is = line.1; whole = refl }))
