@@ -12,12 +12,15 @@ ghost use Rattle.mk_outside.specs.Causes.{cause_of};
 ghost use Rattle.mk_session.specs.Status.{code_of};
 ghost use Rattle.markush.specs.Exits.{code_without_words};
 
+#[cfg(test)]
+mod disk_tests;
 mod running;
 #[cfg(test)]
 mod tests;
 
 use mk_outside::{Cause, DiskFiles, StdSink, StdSource, cause_of};
 use mk_session::Status;
+use sqlite::Unknown;
 use std::process::ExitCode;
 use std::{env, io};
 
@@ -42,7 +45,15 @@ fn real_run(rt: HostRuntime, words: &[String]) -> Status {
     let mut files = DiskFiles::new(rt);
     let mut input = StdSource::new(&rt);
     let mut output = StdSink::new(&rt);
-    running::run(&rt, rt.alloc(), words, &mut files, &mut input, &mut output)
+    running::run(
+        &rt,
+        rt.alloc(),
+        words,
+        &mut files,
+        &mut input,
+        &mut output,
+        Unknown,
+    )
 }
 
 // How the program ends after a run.

@@ -2,7 +2,7 @@
 use crate::running::run;
 use mk_outside::{Bytes, FileRow, FileRows, SureFiles, SureSink, SureSource, Text};
 use mk_session::{Memory, Status};
-use sqlite::Connection;
+use sqlite::{Connection, Unknown};
 use std::alloc::Global;
 use std::fs;
 use std::test::Fail;
@@ -54,7 +54,15 @@ fn is_run(rt: &HostRuntime, row: &Row) -> Result<bool, Memory> {
     let mut files = SureFiles::new(files(alloc)?);
     let mut input = SureSource::new(text(alloc, row.script)?);
     let mut output = SureSink::new(Bytes::new(alloc));
-    let ended = run(rt, alloc, &words, &mut files, &mut input, &mut output);
+    let ended = run(
+        rt,
+        alloc,
+        &words,
+        &mut files,
+        &mut input,
+        &mut output,
+        Unknown,
+    );
     if ended == Status::Memory {
         return Err(Memory);
     }
