@@ -105,36 +105,18 @@ fn covered_needs(rt: HostRuntime) -> Result<(), Fail> {
     let alloc = rt.alloc();
     let fifteen = screen_of(&mol_of_sketch(alloc, FIFTEEN)?);
     let sixteen = need_of(&graph_of_sketch(alloc, SIXTEEN)?);
-    assert!(rt; covers_on::<Brand>(&fifteen, &sixteen, Blank::new(1)));
+    assert!(rt; is_covered(&fifteen, &sixteen));
     let coc = screen_of(&mol_of_sketch(alloc, COC)?);
-    assert!(rt; !covers_on::<Brand>(&coc, &sixteen, Blank::new(1)));
-    assert!(rt; covers_on::<Brand>(&coc, &need_of(&graph_of_sketch(alloc, COC)?), Blank::new(1)));
-    assert!(rt;
-        !covers_on::<Brand>(
-            &fifteen,
-            &need_of(&graph_of_sketch(alloc, "C O | 1-2")?),
-            Blank::new(1)
-        )
-    );
-    assert!(rt;
-        !covers_on::<Brand>(
-            &coc,
-            &need_of(&graph_of_sketch(alloc, "C C C |")?),
-            Blank::new(1)
-        )
-    );
+    assert!(rt; !is_covered(&coc, &sixteen));
+    assert!(rt; is_covered(&coc, &need_of(&graph_of_sketch(alloc, COC)?)));
+    assert!(rt; !is_covered(&fifteen, &need_of(&graph_of_sketch(alloc, "C O | 1-2")?)));
+    assert!(rt; !is_covered(&coc, &need_of(&graph_of_sketch(alloc, "C C C |")?)));
     let hydrogens = screen_of(&mol_of_sketch(alloc, "H H | 1-2")?);
     let free = need_of(&one_carbon_in_a_list(alloc)?);
-    assert!(rt; covers_on::<Brand>(&hydrogens, &free, Blank::new(1)));
+    assert!(rt; is_covered(&hydrogens, &free));
     let any = need_of(&graph_of_sketch(alloc, "A Q * H | 1-2 2-3 3-4")?);
-    assert!(rt; covers_on::<Brand>(&hydrogens, &any, Blank::new(1)));
-    assert!(rt;
-        !covers_on::<Brand>(
-            &hydrogens,
-            &need_of(&graph_of_sketch(alloc, "C |")?),
-            Blank::new(1)
-        )
-    );
+    assert!(rt; is_covered(&hydrogens, &any));
+    assert!(rt; !is_covered(&hydrogens, &need_of(&graph_of_sketch(alloc, "C |")?)));
     Ok(())
 }
 
@@ -147,6 +129,11 @@ fn one_carbon_in_a_list(alloc: Global) -> Result<Graph, Fail> {
         free: 0,
     })?;
     graph_of(alloc, atoms, Vec::new(alloc))
+}
+
+// Whether the screen covers the need.
+fn is_covered(held: &Screen, need: &Screen) -> bool {
+    covers_on::<Brand>(held, need, Blank::new(1))
 }
 
 fn covers_on<L: Ledger>(held: &Screen, need: &Screen, blank: Blank) -> bool
