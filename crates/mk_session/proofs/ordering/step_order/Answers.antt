@@ -6,3 +6,6 @@ use Rattle.mk_session.proofs.ordering.step_order.Goals as goal
 pub returns-in_ok-extend_from_slice-in-None-clause-stepped : goal.returns-in_ok-extend_from_slice-in-None-clause-stepped
 returns-in_ok-extend_from_slice-in-None-clause-stepped g c =
     record { effect = Refuses (codes "refused 1 command\n"); comes = rw c.in-None.is refl; tables = refl; answer = c.in_ok-extend_from_slice-in-None.ensures.items; ends = refl }
+
+pub returns-in-Some-clause-missed : goal.returns-in-Some-clause-missed
+returns-in-Some-clause-missed g c = rw c.in-Some.is c.step.ensures.missed
