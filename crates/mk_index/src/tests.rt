@@ -81,7 +81,10 @@ fn postings_after_edits(rt: HostRuntime) -> Result<(), Fail> {
     }
     for bit in [137u32, 138, 139, 140, 300, 48, 511] {
         let want = numbers_with(alloc, &shelf, bit)?;
-        assert_eq!(rt; shelf.posting(alloc, bit)?.as_slice(), want.as_slice());
+        assert_eq!(rt;
+            shelf.posting(alloc, bit % 512)?.as_slice(),
+            want.as_slice()
+        );
     }
     for sketch in ["C O | 1-2", "N |", "F |", "S |"] {
         let need = need_of(&graph_of_sketch(alloc, sketch)?);
