@@ -89,7 +89,7 @@ fn stop_each(alloc: Global, stops_log: bool) -> Result<[usize; 3], Fail> {
             (u64::MAX, calls)
         };
         let (made, left) = stopped(alloc, log, db)?;
-        if !is_left(left.as_slice(), made) && !is_left(left.as_slice(), made + 1) {
+        if !is_left(left.as_slice(), made) && !is_left(left.as_slice(), made.saturating_add(1)) {
             return Err(Fail::new("the tables of no number of batches"));
         }
         if let Some(count) = seen.get_mut(made) {
