@@ -93,7 +93,7 @@ fn stop_each(alloc: Global, stops_log: bool) -> Result<[usize; 3], Fail> {
             return Err(Fail::new("the tables of no number of batches"));
         }
         if let Some(count) = seen.get_mut(made) {
-            *count += 1;
+            *count = count.saturating_add(1);
         }
         if made == 2 {
             return Ok(seen);
