@@ -81,7 +81,7 @@ fn is_left(left: &[u8], batches: usize) -> bool {
 // Stops the one file or the other at each call, until both batches are made. Says how often it was
 // stopped before one was made, before the other, and behind both.
 fn stop_each(alloc: Global, stops_log: bool) -> Result<[usize; 3], Fail> {
-    let mut seen = [0; 3];
+    let mut seen = [0usize; 3];
     for calls in 0..1000 {
         let (log, db) = if stops_log {
             (calls, u64::MAX)
