@@ -156,7 +156,15 @@ never lines d = elim d [ inl d ↦ d | inr d ↦ elim d.second [ inl d ↦ d | i
 -- molfiles of either kind are read exactly
 pub exact-molecule : Exact is_v3000 Anything molecule_file
 unfolding molecule_at
-exact-molecule = exact-in_words {p = molecule_part} (record { is_to = to_molecule; is_from = from_molecule; live_to = to_front; live_from = from_front; due_to = λ lines d. never lines d; due_from = λ lines d. absurd d; reads = λ lines. refl }) exact-molecule_part
+exact-molecule = exact-in_words {p = molecule_part} (record {
+  is_to = to_molecule;
+  is_from = from_molecule;
+  live_to = to_front;
+  live_from = from_front;
+  due_to = λ lines d. never lines d;
+  due_from = λ lines d. absurd d;
+  reads = λ lines. refl;
+}) exact-molecule_part
 
 -- ---- which of the two tables is read
 

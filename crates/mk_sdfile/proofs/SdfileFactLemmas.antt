@@ -17,7 +17,7 @@ use Rattle.mk_ctab.proofs.ForCallers as ctab
 use Rattle.mk_v3000.specs.V3000Table.{IsV3000Table}
 use Rattle.mk_v3000.proofs.ForCallers as v3000
 use Rattle.mk_sdfile.specs.declared.raw_record.RawRecord.{RawRecord}
-use Rattle.mk_sdfile.specs.Sdfile.{IsRecord, IsBlock, IsSdfile, IsV3000Line}
+use Rattle.mk_sdfile.specs.Sdfile.{IsRecord, IsRecordBlock, IsSdfile, IsNamedV3000}
 
 -- a fact of each record whose lines are no more than n and are all such that Q holds of them
 abbrev pub OfEach : ℕ → (Line → Type 0) → (RawRecord → Type 0) → Type 0
@@ -30,7 +30,9 @@ by_parts Q (l ∷ front) back h = let others = by_parts Q front back h.1 in ((h.
 
 module _ (n : ℕ) (Q : Line → Type 0) (P : RawRecord → Type 0) (each : OfEach n Q P) where
   -- holds of those in blocks
-  of_blocks : (blocks : List RawRecord) (lines : List Line) → Series IsBlock lines blocks → length lines ≤ n → AllByRecursion Q lines → (others : List RawRecord) → AllByRecursion P others → AllByRecursion P (blocks ++ others)
+  of_blocks : (blocks : List RawRecord) (lines : List Line) → Series IsRecordBlock lines blocks → length lines ≤ n
+      → AllByRecursion Q lines → (others : List RawRecord) → AllByRecursion P others
+      → AllByRecursion P (blocks ++ others)
   of_blocks [] lines series few q others h = h
   of_blocks (r ∷ blocks) lines series few q others h =
       let block = series.3 in
@@ -43,7 +45,9 @@ module _ (n : ℕ) (Q : Line → Type 0) (P : RawRecord → Type 0) (each : OfEa
       )
 
   -- and of the last one
-  of_last : (last : Option RawRecord) (lines : List Line) → MatchOption last (EachIs are_blank true lines) (IsRecord lines) → length lines ≤ n → AllByRecursion Q lines → AllByRecursion P (option_to_list last)
+  of_last : (last : Option RawRecord) (lines : List Line)
+      → MatchOption last (EachIs are_blank true lines) (IsRecord lines) → length lines ≤ n → AllByRecursion Q lines
+      → AllByRecursion P (option_to_list last)
   of_last None lines ended few q = tt
   of_last (Some r) lines ended few q = (each lines r ended few q, tt)
 
@@ -90,7 +94,7 @@ fewer_by lines (Ok records) h = of_all AnyLine (λ r. length r.table.props < max
 fewer_by lines (Err e) h = tt
 
 -- no line is named
-pub never_named : {T : Type 0} (lines : List Line) (answer : Result T TableFault) → IfV3000 answer (IsV3000Line lines) → IfV3000 answer (λ k. ⊥)
+pub never_named : {T : Type 0} (lines : List Line) (answer : Result T TableFault) → IfV3000 answer (IsNamedV3000 lines) → IfV3000 answer (λ k. ⊥)
 never_named lines (Ok v) h = tt
 never_named lines (Err (Bad k)) h = tt
 never_named lines (Err (V3000 k)) h = h.due

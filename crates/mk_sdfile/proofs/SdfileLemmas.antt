@@ -31,7 +31,7 @@ use Rattle.mk_ctab.proofs.ForCallers.{blank_is_no_counts_line}
 use Rattle.mk_v3000.specs.V3000Table.{IsV3000Table}
 use Rattle.mk_sdfile.specs.declared.raw_record.RawRecord.{RawRecord}
 use Rattle.mk_sdfile.specs.MoleculeFile.{IsMoleculeFile, EndInTable, IsMoleculeFront, molecule_file}
-use Rattle.mk_sdfile.specs.Sdfile.{is_separator, IsRecord, IsBlock, IsSdfile, EndsInsideLine, IsSdfileFront, HasOneValue, HasBadLine, HasOneBadLine}
+use Rattle.mk_sdfile.specs.Sdfile.{is_separator, IsRecord, IsRecordBlock, IsSdfile, EndsInsideLine, IsSdfileFront, HasOneValue, HasBadLine, HasOneBadLine}
 use Rattle.mk_sdfile.proofs.MoleculeFileLemmas.{exact-molecule}
 use Rattle.mk_sdfile.specs.SdfileReading.{blanks_part, record_of, records_of, after_molfile, block_part, file_part, steps, sdfile_part, sdfile_at}
 
@@ -102,10 +102,14 @@ below-next zero = below-first (block_part blanks_part) never-blanks
 below-next (suc n) = below-either blanks_part (below-sequence (with_lines molecule_file) (λ m. below-seen_as (records_of m) (below-up_to is_separator (below-next n))))
 
 -- what stands behind a block is shorter, so that two readers of it which agree on shorter lines are one
-pub same_block : (p q : Part Line (List RawRecord)) (lines : List Line) → ((rest : List Line) → length rest < length lines → p.read rest ≡ q.read rest) → (block_part p).read lines ≡ (block_part q).read lines
+pub same_block : (p q : Part Line (List RawRecord)) (lines : List Line)
+    → ((rest : List Line) → length rest < length lines → p.read rest ≡ q.read rest)
+    → (block_part p).read lines ≡ (block_part q).read lines
 same_block p q lines same = same_behind ((with_lines molecule_file).read lines) (λ m. (after_molfile p m).read) (λ m. (after_molfile q m).read) (λ m rest took.
     let text = (exact-with_lines exact-molecule).took lines rest m took in
-    let same_data : read_up_to is_separator p.read rest ≡ read_up_to is_separator q.read rest = same_up_to is_separator p.read q.read rest (λ left lt. same left (omega (arith, lt, ap length text.whole, length-append text.front rest))) in
+    let same_data : read_up_to is_separator p.read rest ≡ read_up_to is_separator q.read rest =
+    same_up_to is_separator p.read q.read rest (λ left lt. same left
+    (omega (arith, lt, ap length text.whole, length-append text.front rest))) in
     ap (λ (x : Reading Line (List Line × Option (List RawRecord))). and_then x (λ d. Took (records_of m d))) same_data)
 
 -- as many steps as there are lines read alike
@@ -130,12 +134,16 @@ pub sdfile_is : (lines : List Line) → sdfile_at lines ≡ (file_part sdfile_pa
 unfolding sdfile_at
 sdfile_is [] = refl
 sdfile_is (l ∷ lines) =
-    ap (farther (blanks_part.read (l ∷ lines))) (same_block (steps (length lines)) sdfile_part (l ∷ lines) (λ rest lt. let few : length rest < suc (length lines) = lt in steps-limit.reads (length lines) rest (omega arith)))
+    ap (farther (blanks_part.read (l ∷ lines))) (same_block (steps (length lines)) sdfile_part (l ∷ lines)
+    (λ rest lt. let few : length rest < suc (length lines) = lt
+    in steps-limit.reads (length lines) rest (omega arith)))
 
 -- ---- in the words of the definition
 
 -- a molfile and the data lines behind it are a record
-record_is : (lines front taken data_lines : List Line) (t : RawTable) → lines ≡ front ++ data_lines → IsMoleculeFile front t → taken ≡ front → EachIs is_separator false data_lines → IsRecord lines (record_of t (taken ++ data_lines))
+record_is : (lines front taken data_lines : List Line) (t : RawTable) → lines ≡ front ++ data_lines
+    → IsMoleculeFile front t → taken ≡ front → EachIs is_separator false data_lines
+    → IsRecord lines (record_of t (taken ++ data_lines))
 record_is lines front taken data_lines t whole is same none =
     record { molfile_lines = front; data_lines = data_lines; whole = whole; molfile = is; no_separator = none; text = ap kept_lines (ap (λ (x : List Line). x ++ data_lines) same ∙ sym whole) }
 
@@ -144,7 +152,9 @@ blanks_are : (lines : List Line) (records : List RawRecord) → EachIs are_blank
 blanks_are lines records blank none = record { blocks = []; block_lines = []; last = None; last_lines = lines; whole = refl; each = refl; ended = blank; all = none }
 
 -- one more block in front of an SDfile
-one_more : (lines record_lines back : List Line) (separator : Line) (r : RawRecord) (records : List RawRecord) → lines ≡ record_lines ++ separator ∷ back → is_separator separator ≡ true → IsRecord record_lines r → IsSdfile back records → IsSdfile lines (r ∷ records)
+one_more : (lines record_lines back : List Line) (separator : Line) (r : RawRecord) (records : List RawRecord)
+    → lines ≡ record_lines ++ separator ∷ back → is_separator separator ≡ true → IsRecord record_lines r
+    → IsSdfile back records → IsSdfile lines (r ∷ records)
 one_more lines record_lines back separator r records whole separates is h =
     let block = record_lines ++ separator ∷ [] in
     let regrouped : lines ≡ block ++ back = whole ∙ sym (append_assoc record_lines (separator ∷ []) back) in
@@ -160,15 +170,30 @@ one_more lines record_lines back separator r records whole separates is h =
     }
 
 -- what a block and the lines behind it make up, by how its data lines end
-block_is : (behind : Part Line (List RawRecord)) (lines front back taken : List Line) (t : RawTable) (data_lines : List Line) (o : Option (List RawRecord)) (records : List RawRecord) → lines ≡ front ++ back → IsMoleculeFile front t → taken ≡ front
-    → UpTo is_separator behind.is back (data_lines, o) → ((ls : List Line) (rs : List RawRecord) → behind.is ls rs → IsSdfile ls rs) → records ≡ records_of (t, taken) (data_lines, o) → IsSdfile lines records
+block_is : (behind : Part Line (List RawRecord)) (lines front back taken : List Line) (t : RawTable)
+    (data_lines : List Line) (o : Option (List RawRecord)) (records : List RawRecord) → lines ≡ front ++ back
+    → IsMoleculeFile front t → taken ≡ front
+    → UpTo is_separator behind.is back (data_lines, o) →
+    ((ls : List Line) (rs : List RawRecord) → behind.is ls rs → IsSdfile ls rs)
+    → records ≡ records_of (t, taken) (data_lines, o) → IsSdfile lines records
 block_is behind lines front back taken t data_lines None records whole is same d on seen =
     let all : lines ≡ front ++ data_lines = whole ∙ ap (λ (x : List Line). front ++ x) d.rest in
-    record { blocks = []; block_lines = []; last = Some (record_of t (taken ++ data_lines)); last_lines = lines; whole = refl; each = refl; ended = record_is lines front taken data_lines t all is same d.none; all = seen }
+    record {
+      blocks = [];
+      block_lines = [];
+      last = Some (record_of t (taken ++ data_lines));
+      last_lines = lines;
+      whole = refl;
+      each = refl;
+      ended = record_is lines front taken data_lines t all is same d.none;
+      all = seen;
+    }
 block_is behind lines front back taken t data_lines (Some others) records whole is same d on seen =
     let s = d.rest in
     let all : lines ≡ (front ++ data_lines) ++ s.separator ∷ s.back = whole ∙ ap (λ (x : List Line). front ++ x) s.whole ∙ sym (append_assoc front data_lines (s.separator ∷ s.back)) in
-    subst (IsSdfile lines) (sym seen) (one_more lines (front ++ data_lines) s.back s.separator (record_of t (taken ++ data_lines)) others all s.separates (record_is (front ++ data_lines) front taken data_lines t refl is same d.none) (on s.back others s.after))
+    subst (IsSdfile lines) (sym seen) (one_more lines (front ++ data_lines) s.back s.separator
+    (record_of t (taken ++ data_lines)) others all s.separates
+    (record_is (front ++ data_lines) front taken data_lines t refl is same d.none) (on s.back others s.after))
 
 -- what the parts make up is an SDfile
 to_words : (n : ℕ) (lines : List Line) (records : List RawRecord) → (steps n).is lines records → IsSdfile lines records
@@ -192,15 +217,24 @@ last_is lines r h = inr (record {
   middle = (r.table, h.molfile_lines);
   whole = h.whole;
   first = record { is = h.molfile; lines_are = refl };
-  second = record { first = (h.data_lines, None); is = record { none = h.no_separator; rest = refl }; seen = ap (λ (x : RawRecord). x ∷ []) (record_same r (h.molfile_lines ++ h.data_lines) (h.text ∙ ap kept_lines h.whole)) };
+  second = record {
+    first = (h.data_lines, None);
+    is = record { none = h.no_separator; rest = refl };
+    seen = ap (λ (x : RawRecord). x ∷ []) (record_same r (h.molfile_lines ++ h.data_lines)
+        (h.text ∙ ap kept_lines h.whole));
+  };
 })
 
 -- and so is a block with what stands behind it
-next_is : (n : ℕ) (lines block_lines back : List Line) (r : RawRecord) (records : List RawRecord) → lines ≡ block_lines ++ back → IsBlock block_lines r → (steps n).is back records → (steps (suc n)).is lines (r ∷ records)
+next_is : (n : ℕ) (lines block_lines back : List Line) (r : RawRecord) (records : List RawRecord)
+    → lines ≡ block_lines ++ back → IsRecordBlock block_lines r → (steps n).is back records
+    → (steps (suc n)).is lines (r ∷ records)
 next_is n lines block_lines back r records whole block h =
     let is = block.is in
     let one : lines ≡ block.record_lines ++ block.separator ∷ back = whole ∙ ap (λ (x : List Line). x ++ back) block.whole ∙ append_assoc block.record_lines (block.separator ∷ []) back in
-    let two : lines ≡ is.molfile_lines ++ (is.data_lines ++ block.separator ∷ back) = one ∙ ap (λ (x : List Line). x ++ block.separator ∷ back) is.whole ∙ append_assoc is.molfile_lines is.data_lines (block.separator ∷ back) in
+    let two : lines ≡ is.molfile_lines ++ (is.data_lines ++ block.separator ∷ back) = one
+    ∙ ap (λ (x : List Line). x ++ block.separator ∷ back) is.whole
+    ∙ append_assoc is.molfile_lines is.data_lines (block.separator ∷ back) in
     inr (record {
       front = is.molfile_lines;
       back = is.data_lines ++ block.separator ∷ back;
@@ -220,7 +254,9 @@ end_is None lines ended = (0, record { first = tt; is = ended; seen = refl })
 end_is (Some r) lines ended = (1, last_is lines r ended)
 
 -- with the blocks before them
-from_blocks : (blocks : List RawRecord) (lines block_lines last_lines : List Line) (last : Option RawRecord) → lines ≡ block_lines ++ last_lines → Series IsBlock block_lines blocks → MatchOption last (EachIs are_blank true last_lines) (IsRecord last_lines)
+from_blocks : (blocks : List RawRecord) (lines block_lines last_lines : List Line) (last : Option RawRecord)
+    → lines ≡ block_lines ++ last_lines → Series IsRecordBlock block_lines blocks
+    → MatchOption last (EachIs are_blank true last_lines) (IsRecord last_lines)
     → (n : ℕ) × (steps n).is lines (blocks ++ option_to_list last)
 from_blocks [] lines block_lines last_lines last whole each ended =
     let all : last_lines ≡ lines = sym (whole ∙ ap (λ (x : List Line). x ++ last_lines) each) in
@@ -241,7 +277,7 @@ from_words lines records h =
 -- ---- what is live is a front
 
 -- a block in front of lines that end inside a logical line
-block_inside : (block back : List Line) (r : RawRecord) → IsBlock block r → EndsInsideLine back → EndsInsideLine (block ++ back)
+block_inside : (block back : List Line) (r : RawRecord) → IsRecordBlock block r → EndsInsideLine back → EndsInsideLine (block ++ back)
 block_inside block back r is h = record {
   blocks = r ∷ h.blocks;
   block_lines = block ++ h.block_lines;
@@ -258,12 +294,28 @@ molfile_front : (lines : List Line) → IsMoleculeFront lines → IsSdfileFront 
 molfile_front lines h = elim h [
   | inl h ↦
       let r = record_of h.1 ((lines ++ h.0) ++ []) in
-      inl (h.0, r ∷ [], record { blocks = []; block_lines = []; last = Some r; last_lines = lines ++ h.0; whole = refl; each = refl; ended = record_is (lines ++ h.0) (lines ++ h.0) (lines ++ h.0) [] h.1 (sym (append-nil (lines ++ h.0))) h.2 refl tt; all = refl })
+      inl (
+        h.0,
+        r ∷ [],
+        record {
+          blocks = [];
+          block_lines = [];
+          last = Some r;
+          last_lines = lines ++ h.0;
+          whole = refl;
+          each = refl;
+          ended = record_is (lines ++ h.0) (lines ++ h.0) (lines ++ h.0) [] h.1
+              (sym (append-nil (lines ++ h.0))) h.2 refl tt;
+          all = refl;
+        },
+      )
   | inr h ↦ inr (record { blocks = []; block_lines = []; header_lines = h.header_lines; table_lines = h.table_lines; whole = h.whole; each = refl; three = h.three; inside = h.inside })
 ]
 
 -- a block in front of a front
-block_front : (lines record_lines back : List Line) (separator : Line) (r : RawRecord) → lines ≡ record_lines ++ separator ∷ back → is_separator separator ≡ true → IsRecord record_lines r → IsSdfileFront back → IsSdfileFront lines
+block_front : (lines record_lines back : List Line) (separator : Line) (r : RawRecord)
+    → lines ≡ record_lines ++ separator ∷ back → is_separator separator ≡ true → IsRecord record_lines r
+    → IsSdfileFront back → IsSdfileFront lines
 block_front lines record_lines back separator r whole separates is h = elim h [
   | inl h ↦
       let all : lines ++ h.0 ≡ record_lines ++ separator ∷ (back ++ h.0) = ap (λ (x : List Line). x ++ h.0) whole ∙ append_assoc record_lines (separator ∷ back) h.0 in
@@ -287,11 +339,27 @@ to_front (suc n) lines h = elim h [
     | inr h ↦ elim h.second [
       | inl none ↦
           let r = record_of h.middle.0 (h.middle.1 ++ h.back) in
-          inl ([], r ∷ [], subst (λ (x : List Line). IsSdfile x (r ∷ [])) (sym (append-nil lines)) (record { blocks = []; block_lines = []; last = Some r; last_lines = lines; whole = refl; each = refl; ended = record_is lines h.front h.middle.1 h.back h.middle.0 h.whole h.first.is h.first.lines_are none; all = refl }))
+          inl (
+            [],
+            r ∷ [],
+            subst (λ (x : List Line). IsSdfile x (r ∷ [])) (sym (append-nil lines))
+                (record {
+                  blocks = [];
+                  block_lines = [];
+                  last = Some r;
+                  last_lines = lines;
+                  whole = refl;
+                  each = refl;
+                  ended = record_is lines h.front h.middle.1 h.back h.middle.0 h.whole h.first.is h.first.lines_are none;
+                  all = refl;
+                }),
+          )
       | inr s ↦
           let record_lines = h.front ++ s.before in
           let all : lines ≡ record_lines ++ s.separator ∷ s.back = h.whole ∙ ap (λ (x : List Line). h.front ++ x) s.whole ∙ sym (append_assoc h.front s.before (s.separator ∷ s.back)) in
-          block_front lines record_lines s.back s.separator (record_of h.middle.0 (h.middle.1 ++ s.before)) all s.separates (record_is record_lines h.front h.middle.1 s.before h.middle.0 refl h.first.is h.first.lines_are s.none) (to_front n s.back s.here)
+          block_front lines record_lines s.back s.separator (record_of h.middle.0 (h.middle.1 ++ s.before)) all
+          s.separates (record_is record_lines h.front h.middle.1 s.before h.middle.0 refl h.first.is
+          h.first.lines_are s.none) (to_front n s.back s.here)
     ]
   ]
 ]
@@ -299,7 +367,8 @@ to_front (suc n) lines h = elim h [
 -- ---- a front is live
 
 -- behind some blocks and three header lines
-inside_from : (blocks : List RawRecord) (lines block_lines behind : List Line) → lines ≡ block_lines ++ behind → Series IsBlock block_lines blocks → EndInTable behind → (n : ℕ) × (steps n).live lines
+inside_from : (blocks : List RawRecord) (lines block_lines behind : List Line) → lines ≡ block_lines ++ behind
+    → Series IsRecordBlock block_lines blocks → EndInTable behind → (n : ℕ) × (steps n).live lines
 inside_from [] lines block_lines behind whole each end =
     let all : behind ≡ lines = sym (whole ∙ ap (λ (x : List Line). x ++ behind) each) in
     (1, subst (steps 1).live all (inr (inl (inr end))))
@@ -309,7 +378,9 @@ inside_from (b ∷ bs) lines block_lines behind whole each end =
     let back = each.1 ++ behind in
     let one : lines ≡ each.0 ++ back = whole ∙ ap (λ (x : List Line). x ++ behind) each.2 ∙ append_assoc each.0 each.1 behind in
     let two : lines ≡ block.record_lines ++ block.separator ∷ back = one ∙ ap (λ (x : List Line). x ++ back) block.whole ∙ append_assoc block.record_lines (block.separator ∷ []) back in
-    let all : lines ≡ is.molfile_lines ++ (is.data_lines ++ block.separator ∷ back) = two ∙ ap (λ (x : List Line). x ++ block.separator ∷ back) is.whole ∙ append_assoc is.molfile_lines is.data_lines (block.separator ∷ back) in
+    let all : lines ≡ is.molfile_lines ++ (is.data_lines ++ block.separator ∷ back) = two
+    ∙ ap (λ (x : List Line). x ++ block.separator ∷ back) is.whole
+    ∙ append_assoc is.molfile_lines is.data_lines (block.separator ∷ back) in
     let others = inside_from bs back each.1 behind refl each.4 end in (
       suc others.0,
       inr (inr (record {
@@ -325,7 +396,14 @@ inside_from (b ∷ bs) lines block_lines behind whole each end =
 from_front : (lines : List Line) → IsSdfileFront lines → sdfile_part.live lines
 from_front lines h = elim h [
   | inl h ↦ front_is_live exact-sdfile_part lines (h.0, h.1, from_words (lines ++ h.0) h.1 h.2)
-  | inr h ↦ inside_from h.blocks lines h.block_lines (h.header_lines ++ h.table_lines) h.whole h.each (record { header_lines = h.header_lines; table_lines = h.table_lines; whole = refl; three = h.three; inside = h.inside })
+  | inr h ↦ inside_from h.blocks lines h.block_lines (h.header_lines ++ h.table_lines) h.whole h.each
+      (record {
+        header_lines = h.header_lines;
+        table_lines = h.table_lines;
+        whole = refl;
+        three = h.three;
+        inside = h.inside;
+      })
 ]
 
 -- ---- no line is named
@@ -342,7 +420,15 @@ sdfile = record { is = IsSdfile; live = IsSdfileFront; due = Never; read = sdfil
 pub exact-sdfile : Exact is_v3000 NoLines sdfile
 unfolding sdfile_at
 exact-sdfile = exact-in_words {p = sdfile_part}
-    (record { is_to = λ lines records h. to_words h.0 lines records h.1; is_from = from_words; live_to = λ lines h. to_front h.0 lines h.1; live_from = from_front; due_to = λ lines d. never d.0 lines d.1; due_from = λ lines d. absurd d; reads = λ lines. refl })
+    (record {
+      is_to = λ lines records h. to_words h.0 lines records h.1;
+      is_from = from_words;
+      live_to = λ lines h. to_front h.0 lines h.1;
+      live_from = from_front;
+      due_to = λ lines d. never d.0 lines d.1;
+      due_from = λ lines d. absurd d;
+      reads = λ lines. refl;
+    })
     exact-sdfile_part
 
 -- ---- the laws

@@ -55,12 +55,18 @@ range_split lines i j order within =
 -- ---- data lines
 
 -- one more data line
-pub data_more : (lines : List Line) (from at : ℕ) → from ≤ at → at < length lines → EachIs is_separator false (slice_range lines from at) → is_separator (get_or lines at []) ≡ false → EachIs is_separator false (slice_range lines from (at + 1))
-data_more lines from at order lt none goes = subst (EachIs is_separator false) (sym (range_item_more lines from at [] order lt)) (each-push is_separator false (slice_range lines from at) (get_or lines at []) none goes)
+pub data_more : (lines : List Line) (from at : ℕ) → from ≤ at → at < length lines
+    → EachIs is_separator false (slice_range lines from at) → is_separator (get_or lines at []) ≡ false
+    → EachIs is_separator false (slice_range lines from (at + 1))
+data_more lines from at order lt none goes = subst (EachIs is_separator false)
+    (sym (range_item_more lines from at [] order lt)) (each-push is_separator false (slice_range lines from at)
+    (get_or lines at []) none goes)
 
 -- ---- a block
 
-module _ (behind : Part Line (List RawRecord)) (lines : List Line) (at m end : ℕ) (t : RawTable) (first : at ≤ m) (second : m ≤ end) (takes : TakesLines lines m t (molecule_at (drop at lines))) (none : EachIs is_separator false (slice_range lines m end)) where
+module _ (behind : Part Line (List RawRecord)) (lines : List Line) (at m end : ℕ) (t : RawTable) (first : at ≤ m)
+    (second : m ≤ end) (takes : TakesLines lines m t (molecule_at (drop at lines)))
+    (none : EachIs is_separator false (slice_range lines m end)) where
   -- the molfile is read with its lines
   molfile_read : (with_lines molecule_file).read (drop at lines) ≡ Took (t, slice_range lines at m) (drop m lines)
   molfile_read =
@@ -81,38 +87,62 @@ module _ (behind : Part Line (List RawRecord)) (lines : List Line) (at m end : �
   pub block_ends : end ≡ length lines → (block_part behind).read (drop at lines) ≡ Took (record_of t (slice_range lines at end) ∷ []) []
   block_ends last =
       let rest : drop m lines ≡ slice_range lines m end = sym (take_all (end - m) (drop m lines) (omega (arith, length-drop m lines))) in
-      let data_lines : read_up_to is_separator behind.read (drop m lines) ≡ Took (slice_range lines m end, None) [] = ap (read_up_to is_separator behind.read) rest ∙ up_to_end is_separator behind.read (slice_range lines m end) none in
+      let data_lines : read_up_to is_separator behind.read (drop m lines) ≡ Took (slice_range lines m end, None) [] =
+      ap (read_up_to is_separator behind.read) rest
+      ∙ up_to_end is_separator behind.read (slice_range lines m end) none in
       after_read
       ∙ ap (λ (x : Reading Line (List Line × Option (List RawRecord))). and_then x (λ d. Took (records_of (t, slice_range lines at m) d))) data_lines
       ∙ ap (λ (r : RawRecord). let w : Reading Line (List RawRecord) = Took (r ∷ []) [] in w) made
 
   -- a separator stands behind them
-  pub block_next : end < length lines → is_separator (get_or lines end []) ≡ true → (block_part behind).read (drop at lines) ≡ and_then (behind.read (drop (end + 1) lines)) (λ rs. Took (record_of t (slice_range lines at end) ∷ rs))
+  pub block_next : end < length lines → is_separator (get_or lines end []) ≡ true
+      → (block_part behind).read (drop at lines) ≡ and_then (behind.read (drop (end + 1) lines))
+      (λ rs. Took (record_of t (slice_range lines at end) ∷ rs))
   block_next lt separates =
-      let rest : drop m lines ≡ slice_range lines m end ++ get_or lines end [] ∷ drop (end + 1) lines = range_split lines m end second (omega arith) ∙ ap (λ (x : List Line). slice_range lines m end ++ x) (drop_more lines end [] lt) in
-      let data_lines : read_up_to is_separator behind.read (drop m lines) ≡ and_then (behind.read (drop (end + 1) lines)) (λ v. Took (slice_range lines m end, Some v)) = ap (read_up_to is_separator behind.read) rest ∙ up_to_separator is_separator behind.read (slice_range lines m end) (drop (end + 1) lines) (get_or lines end []) none separates in
+      let rest : drop m lines ≡ slice_range lines m end ++ get_or lines end [] ∷ drop (end + 1) lines =
+      range_split lines m end second (omega arith) ∙ ap (λ (x : List Line). slice_range lines m end ++ x)
+      (drop_more lines end [] lt) in
+      let data_lines : read_up_to is_separator behind.read (drop m lines) ≡ and_then
+      (behind.read (drop (end + 1) lines)) (λ v. Took (slice_range lines m end, Some v)) =
+      ap (read_up_to is_separator behind.read) rest
+      ∙ up_to_separator is_separator behind.read (slice_range lines m end) (drop (end + 1) lines)
+      (get_or lines end []) none separates in
       after_read
       ∙ ap (λ (x : Reading Line (List Line × Option (List RawRecord))). and_then x (λ d. Took (records_of (t, slice_range lines at m) d))) data_lines
       ∙ put_twice (behind.read (drop (end + 1) lines)) (λ v. (slice_range lines m end, Some v)) (records_of (t, slice_range lines at m))
       ∙ ap (λ (r : RawRecord). and_then (behind.read (drop (end + 1) lines)) (λ rs. Took (r ∷ rs))) made
 
 -- where the molfile fails, the block does
-pub block_fails : (behind : Part Line (List RawRecord)) (lines : List Line) (at : ℕ) (fault : TableFault) → Fails lines fault (molecule_at (drop at lines)) → Fails lines fault ((block_part behind).read (drop at lines))
+pub block_fails : (behind : Part Line (List RawRecord)) (lines : List Line) (at : ℕ) (fault : TableFault)
+    → Fails lines fault (molecule_at (drop at lines)) → Fails lines fault ((block_part behind).read (drop at lines))
 block_fails behind lines at fault h =
-    fails_first lines fault ((with_lines molecule_file).read (drop at lines)) (λ x. (after_molfile behind x).read) (fails_first lines fault (molecule_at (drop at lines)) (with_taken (drop at lines)) h)
+    fails_first lines fault ((with_lines molecule_file).read (drop at lines)) (λ x. (after_molfile behind x).read)
+    (fails_first lines fault (molecule_at (drop at lines)) (with_taken (drop at lines)) h)
 
 -- the first line that isn't blank stands no farther on than behind the molfile
-pub blanks_before : (lines : List Line) (at m k : ℕ) (t : RawTable) → at ≤ length lines → at ≤ m → TakesLines lines m t (molecule_at (drop at lines)) → StopsAtLine lines false k (read_all are_blank (drop at lines)) → k ≤ m
+pub blanks_before : (lines : List Line) (at m k : ℕ) (t : RawTable) → at ≤ length lines → at ≤ m
+    → TakesLines lines m t (molecule_at (drop at lines))
+    → StopsAtLine lines false k (read_all are_blank (drop at lines)) → k ≤ m
 blanks_before lines at m k t inside order takes stops = elim (cases_lt m k) [
   | inr le ↦ le
   | inl lt ↦
       let counted = stops.counted in
       let is = (part_found exact-molecule at lines m t inside takes).part.is in
       let blank = (exact-lines_to_end {says = is_v3000} are_blank).fits (drop at lines) (drop (k - 1) lines) false stops.stop in
-      let size : length blank.front ≡ (k - 1) - at = omega (arith, counted.0, counted.1, ap length blank.whole, length-append blank.front (drop (k - 1) lines), length-drop at lines, length-drop (k - 1) lines) in
+      let size : length blank.front ≡ (k - 1) - at = omega (
+        arith,
+        counted.0,
+        counted.1,
+        ap length blank.whole,
+        length-append blank.front (drop (k - 1) lines),
+        length-drop at lines,
+        length-drop (k - 1) lines,
+      ) in
       let cut : take ((k - 1) - at) (drop at lines) ≡ blank.front = ap (take ((k - 1) - at)) blank.whole ∙ take_at blank.front (drop (k - 1) lines) ((k - 1) - at) size in
       let through : (m - at) + ((k - 1) - m) ≡ (k - 1) - at = omega arith in
-      let two : blank.front ≡ take (m - at) (drop at lines) ++ take ((k - 1) - m) (drop (m - at) (drop at lines)) = sym cut ∙ ap (λ (n : ℕ). take n (drop at lines)) (sym through) ∙ take-add (m - at) ((k - 1) - m) (drop at lines) in
+      let two : blank.front ≡ take (m - at) (drop at lines) ++ take ((k - 1) - m) (drop (m - at) (drop at lines)) =
+      sym cut ∙ ap (λ (n : ℕ). take n (drop at lines)) (sym through)
+      ∙ take-add (m - at) ((k - 1) - m) (drop at lines) in
       absurd (not_blank (take (m - at) (drop at lines)) (take ((k - 1) - m) (drop (m - at) (drop at lines))) t is (subst (EachIs are_blank true) two blank.live))
 ]
 
@@ -124,8 +154,10 @@ none_first lines at (Some k) h none = absurd (none k refl)
 -- ---- an SDfile
 
 -- by what blank lines give
-by_blanks : (lines : List Line) (reading : Reading Line (Unit {0})) → read_all are_blank lines ≡ reading → sdfile_at lines ≡ farther (and_then reading (λ _. Took [])) ((block_part sdfile_part).read lines)
-by_blanks lines reading e = sdfile_is lines ∙ ap (λ (r : Reading Line (Unit {0})). let w : Reading Line (List RawRecord) = farther (and_then r (λ _. Took [])) ((block_part sdfile_part).read lines) in w) e
+by_blanks : (lines : List Line) (reading : Reading Line (Unit {0})) → read_all are_blank lines ≡ reading
+    → sdfile_at lines ≡ farther (and_then reading (λ _. Took [])) ((block_part sdfile_part).read lines)
+by_blanks lines reading e = sdfile_is lines ∙ ap (λ (r : Reading Line (Unit {0})). let w : Reading Line
+    (List RawRecord) = farther (and_then r (λ _. Took [])) ((block_part sdfile_part).read lines) in w) e
 
 -- blank lines alone
 pub file_blank : (lines : List Line) → read_all are_blank lines ≡ Took tt [] → sdfile_at lines ≡ Took [] []
@@ -137,16 +169,30 @@ module _ (lines : List Line) (at k : ℕ) (stops : StopsAtLine lines false k (re
   file_last r took = by_blanks (drop at lines) (Stop false (drop (k - 1) lines)) stops.stop ∙ ap (farther (Stop false (drop (k - 1) lines))) took
 
   -- what stands behind a block stops behind it
-  behind_farther : (next : ℕ) (r : RawRecord) (reading : Reading Line (List RawRecord)) → k ≤ next → sdfile_at (drop next lines) ≡ reading → farther (Stop false (drop (k - 1) lines)) (and_then reading (λ rs. Took (r ∷ rs))) ≡ and_then reading (λ rs. Took (r ∷ rs))
+  behind_farther : (next : ℕ) (r : RawRecord) (reading : Reading Line (List RawRecord)) → k ≤ next
+      → sdfile_at (drop next lines) ≡ reading → farther (Stop false (drop (k - 1) lines))
+      (and_then reading (λ rs. Took (r ∷ rs))) ≡ and_then reading (λ rs. Took (r ∷ rs))
   behind_farther next r (Took rs rest) le e = refl
   behind_farther next r (Stop n rest) le e =
       let text = exact-sdfile.fits (drop next lines) rest n e in
-      let test : ltb (length (drop (k - 1) lines)) (length rest) ≡ false = le-ltb (length (drop (k - 1) lines)) (length rest) (omega (arith, ap length text.whole, length-append text.front rest, length-drop next lines, length-drop (k - 1) lines)) in
+      let test : ltb (length (drop (k - 1) lines)) (length rest) ≡ false =
+      le-ltb (length (drop (k - 1) lines)) (length rest)
+      (omega (
+        arith,
+        ap length text.whole,
+        length-append text.front rest,
+        length-drop next lines,
+        length-drop (k - 1) lines,
+      )) in
       rw test refl
 
   -- a block, and an SDfile behind it
-  pub file_next : (next : ℕ) (r : RawRecord) → k ≤ next → (block_part sdfile_part).read (drop at lines) ≡ and_then (sdfile_at (drop next lines)) (λ rs. Took (r ∷ rs)) → sdfile_at (drop at lines) ≡ and_then (sdfile_at (drop next lines)) (λ rs. Took (r ∷ rs))
-  file_next next r le took = by_blanks (drop at lines) (Stop false (drop (k - 1) lines)) stops.stop ∙ ap (farther (Stop false (drop (k - 1) lines))) took ∙ behind_farther next r (sdfile_at (drop next lines)) le refl
+  pub file_next : (next : ℕ) (r : RawRecord) → k ≤ next
+      → (block_part sdfile_part).read (drop at lines) ≡ and_then (sdfile_at (drop next lines)) (λ rs. Took (r ∷ rs))
+      → sdfile_at (drop at lines) ≡ and_then (sdfile_at (drop next lines)) (λ rs. Took (r ∷ rs))
+  file_next next r le took = by_blanks (drop at lines) (Stop false (drop (k - 1) lines)) stops.stop
+      ∙ ap (farther (Stop false (drop (k - 1) lines))) took
+      ∙ behind_farther next r (sdfile_at (drop next lines)) le refl
 
   -- a block that stops: the farther of the two stops
   bad_file : (j : ℕ) → StopsAtLine lines false j ((block_part sdfile_part).read (drop at lines)) → StopsAtLine lines false (max j k) (sdfile_at (drop at lines))
@@ -155,10 +201,20 @@ module _ (lines : List Line) (at k : ℕ) (stops : StopsAtLine lines false k (re
       elim (cases_lt j k) [
         | inl near ↦
             let same : k ≡ max j k = omega arith in
-            subst (λ (n : ℕ). StopsAtLine lines false n (sdfile_at (drop at lines))) same (record { counted = stops.counted; stop = whole ∙ farther_first lines k j false false stops.counted h.counted near })
+            subst (λ (n : ℕ). StopsAtLine lines false n (sdfile_at (drop at lines))) same
+            (record {
+              counted = stops.counted;
+              stop = whole
+                  ∙ farther_first lines k j false false stops.counted h.counted near;
+            })
         | inr far ↦
             let same : j ≡ max j k = omega arith in
-            subst (λ (n : ℕ). StopsAtLine lines false n (sdfile_at (drop at lines))) same (record { counted = h.counted; stop = whole ∙ farther_second lines k j false false stops.counted h.counted far })
+            subst (λ (n : ℕ). StopsAtLine lines false n (sdfile_at (drop at lines))) same
+            (record {
+              counted = h.counted;
+              stop = whole
+                  ∙ farther_second lines k j false false stops.counted h.counted far;
+            })
       ]
 
   -- a line that is named in a block is named in the file
@@ -186,11 +242,18 @@ molfile_ahead lines at m t inside takes =
     let from = part.from in
     omega (arith, is.three, ap length is.whole, length-append is.header_lines is.table_lines, length-take-le (m - at) (drop at lines) within)
 
-module _ (text : List ℕ) (at : ℕ) (behind : LineStart) (t : RawTable) (inside : at ≤ length (lines_of text)) (takes : TakesTo text behind t (molecule_at (drop at (lines_of text)))) (end : LineStart) (order : behind.line ≤ end.line) (none : EachIs is_separator false (slice_range (lines_of text) behind.line end.line)) where
+module _ (text : List ℕ) (at : ℕ) (behind : LineStart) (t : RawTable) (inside : at ≤ length (lines_of text))
+    (takes : TakesTo text behind t (molecule_at (drop at (lines_of text)))) (end : LineStart)
+    (order : behind.line ≤ end.line) (none : EachIs is_separator false
+    (slice_range (lines_of text) behind.line end.line)) where
   -- by whether a separator stands behind the block
-  answer_by : (next : Option LineStart) → MatchOption next (end.line ≡ length (lines_of text)) (IsSeparatorAt text end.line) → AnswersBlock text at (Ok (record_of t (slice_range (lines_of text) at end.line), next))
+  answer_by : (next : Option LineStart) → MatchOption next (end.line ≡ length (lines_of text))
+      (IsSeparatorAt text end.line) → AnswersBlock text at
+      (Ok (record_of t (slice_range (lines_of text) at end.line), next))
   unfolding sdfile_at
-  answer_by None last = block_ends sdfile_part (lines_of text) at behind.line end.line t (let lt = molfile_ahead (lines_of text) at behind.line t inside takes.takes in omega arith) order takes.takes none last
+  answer_by None last = block_ends sdfile_part (lines_of text) at behind.line end.line t
+      (let lt = molfile_ahead (lines_of text) at behind.line t inside takes.takes in omega arith) order takes.takes none
+      last
   answer_by (Some next) at_separator =
       let lines = lines_of text in
       let lt = molfile_ahead lines at behind.line t inside takes.takes in
@@ -203,7 +266,9 @@ module _ (text : List ℕ) (at : ℕ) (behind : LineStart) (t : RawTable) (insid
       }
 
 -- what was read is the answer
-pub block_answer : (text : List ℕ) (at : ℕ) (behind : LineStart) (t : RawTable) (found : DataEnd) (kept : List ℕ) → at ≤ length (lines_of text) → TakesTo text behind t (molecule_at (drop at (lines_of text))) → IsDataEnd text behind.line found → kept ≡ kept_lines (slice_range (lines_of text) at found.end.line)
+pub block_answer : (text : List ℕ) (at : ℕ) (behind : LineStart) (t : RawTable) (found : DataEnd) (kept : List ℕ)
+    → at ≤ length (lines_of text) → TakesTo text behind t (molecule_at (drop at (lines_of text)))
+    → IsDataEnd text behind.line found → kept ≡ kept_lines (slice_range (lines_of text) at found.end.line)
     → AnswersBlock text at (Ok (record { table = t; text = kept }, found.next))
 block_answer text at behind t found kept inside takes is same =
     rw same (answer_by text at behind t inside takes found.end is.order is.no_separator found.next is.next)
@@ -220,7 +285,8 @@ module _ (lines : List Line) (front : List RawRecord) (at : ℕ) (so_far : with_
   last_read r e = sym so_far ∙ ap (with_front front) e
 
   -- one record, and more
-  pub next_read : (next : ℕ) (r : RawRecord) → sdfile_at (drop at lines) ≡ and_then (sdfile_at (drop next lines)) (λ rs. Took (r ∷ rs)) → with_front (front ++ r ∷ []) (sdfile_at (drop next lines)) ≡ sdfile_at lines
+  pub next_read : (next : ℕ) (r : RawRecord) → sdfile_at (drop at lines) ≡ and_then (sdfile_at (drop next lines))
+      (λ rs. Took (r ∷ rs)) → with_front (front ++ r ∷ []) (sdfile_at (drop next lines)) ≡ sdfile_at lines
   next_read next r e = sym (front_more front r (sdfile_at (drop next lines))) ∙ ap (with_front front) (sym e) ∙ so_far
 
   -- a fault

@@ -75,9 +75,20 @@ text_is : (lines : List Line) (r : RawRecord) → IsRecord lines r → AllByRecu
 text_is lines r h none keeps =
     let no_lf = All-from_recursion NoLf lines none in
     let same : lines_of r.text ≡ map without_crs lines = ap lines_of h.text ∙ kept_lines_are_read lines no_lf in
-    record { blocks = []; block_lines = []; last = Some r; last_lines = lines_of r.text; whole = refl; each = refl; ended = subst (λ (ls : List Line). IsRecord ls r) (sym same) (kept_record lines r h no_lf keeps); all = refl }
+    record {
+      blocks = [];
+      block_lines = [];
+      last = Some r;
+      last_lines = lines_of r.text;
+      whole = refl;
+      each = refl;
+      ended = subst (λ (ls : List Line). IsRecord ls r) (sym same) (kept_record lines r h no_lf keeps);
+      all = refl;
+    }
 
 -- and so are those of all records
 pub text_is_its_record : TextIsItsRecord
 text_is_its_record text records h =
-    of_all NoLf (λ r. KeepsItsText r.table → IsSdfile (lines_of r.text) (r ∷ [])) (lines_of text) records (recursion_from_All NoLf (lines_of text) (lines_hold_no_lf text)) (λ lines r is few none keeps. text_is lines r is none keeps) h
+    of_all NoLf (λ r. KeepsItsText r.table → IsSdfile (lines_of r.text) (r ∷ [])) (lines_of text) records
+    (recursion_from_All NoLf (lines_of text) (lines_hold_no_lf text))
+    (λ lines r is few none keeps. text_is lines r is none keeps) h

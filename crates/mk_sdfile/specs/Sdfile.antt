@@ -1,11 +1,11 @@
 -- SDfiles: a relation between a whole list of lines and records.
---     IsSdfile lines records        the lines are the records of an SDfile, in order
---     IsSdfileFront lines           they are a front of an SDfile, or end inside a logical line of a
---                                   V3000 table
---     IsBadSdfileLine lines k       line k is the first with which they are no such front
---     IsV3000Line lines k           line k is named V3000, which no line of an SDfile is
---     HasOneValue, HasBadLine, HasOneBadLine     three laws of it
---     TextIsItsRecord               and one of the texts of records
+--     IsSdfile lines records                  the lines are the records of an SDfile, in order
+--     IsSdfileFront lines                     they are a front of an SDfile, or end inside a
+--                                             logical line of a V3000 table
+--     IsBadSdfileLine lines k                 line k is the first with which they are no such front
+--     IsNamedV3000 lines k                    line k is named V3000, which no line of an SDfile is
+--     HasOneValue, HasBadLine, HasOneBadLine  three laws of it
+--     TextIsItsRecord                         and one of the texts of records
 -- What a molfile is, is said in MoleculeFile.antt, and what is kept of lines in mk_text.
 use Rattle.std.specs.Prelude.{◌≡◌, ◌↔◌, ℕ, Bool, true, false, nat_eq, codes, List, [], ◌∷◌, ◌++◌, length, All, Option, MatchOption, option_to_list, ◌⊎◌}
 use Rattle.std.specs.List.{starts_with}
@@ -39,7 +39,7 @@ pub record IsRecord (lines : List Line) (of : RawRecord) : Type 0 where
   pub text : of.text ≡ kept_lines lines
 
 -- a record and its separator
-pub record IsBlock (lines : List Line) (of : RawRecord) : Type 0 where
+pub record IsRecordBlock (lines : List Line) (of : RawRecord) : Type 0 where
   pub record_lines : List Line
   pub separator : Line
   pub whole : lines ≡ record_lines ++ separator ∷ []
@@ -53,7 +53,7 @@ pub record IsSdfile (lines : List Line) (records : List RawRecord) : Type 0 wher
   pub last : Option RawRecord
   pub last_lines : List Line
   pub whole : lines ≡ block_lines ++ last_lines
-  pub each : Series IsBlock block_lines blocks
+  pub each : Series IsRecordBlock block_lines blocks
   pub ended : MatchOption last (EachIs are_blank true last_lines) (IsRecord last_lines)
   pub all : records ≡ blocks ++ option_to_list last
 
@@ -66,7 +66,7 @@ pub record EndsInsideLine (lines : List Line) : Type 0 where
   pub header_lines : List Line
   pub table_lines : List Line
   pub whole : lines ≡ block_lines ++ (header_lines ++ table_lines)
-  pub each : Series IsBlock block_lines blocks
+  pub each : Series IsRecordBlock block_lines blocks
   pub three : length header_lines ≡ 3
   pub inside : EndInside table_lines
 
@@ -81,8 +81,8 @@ IsBadSdfileLine lines k = IsBadLineWhere IsSdfileFront IsSdfile lines k
 
 -- No line of an SDfile is named V3000: where a counts line says so, the table is read. The word
 -- stands for the statements above, which tell both kinds of files alike.
-abbrev pub IsV3000Line : List Line → ℕ → Type 0
-IsV3000Line lines k = IsNamed Never is_v3000 lines k
+abbrev pub IsNamedV3000 : List Line → ℕ → Type 0
+IsNamedV3000 lines k = IsNamed Never is_v3000 lines k
 
 -- ---- laws
 

@@ -8,7 +8,7 @@ ghost use Rattle.mk_text.specs.Lines.{lines_of};
 ghost use Rattle.mk_ctab.specs.TableFacts.{IsRawTable};
 ghost use Rattle.mk_ctab.specs.TableFaults.{IfBad, IfV3000};
 ghost use Rattle.mk_ctab.specs.TableReading.{AnswersText};
-ghost use Rattle.mk_sdfile.specs.Sdfile.{is_separator, IsSdfile, IsBadSdfileLine, IsV3000Line};
+ghost use Rattle.mk_sdfile.specs.Sdfile.{is_separator, IsSdfile, IsBadSdfileLine, IsNamedV3000};
 ghost use Rattle.mk_sdfile.specs.SdfileReading.{sdfile_at, farther_fault};
 ghost use Rattle.mk_sdfile.specs.SdfileSteps.{IsDataEnd, AnswersFirst, AnswersBlock};
 
@@ -127,9 +127,9 @@ fn records_from(alloc: Global, text: &[u8]) -> Result<RawRecords, TableFault>
 pub fn read_sdfile(alloc: Global, text: &[u8]) -> Result<RawRecords, TableFault>
     ensures sdfile { IfOk result (IsSdfile (lines_of text.now)) }
     ensures bad { IfBad result (IsBadSdfileLine (lines_of text.now)) }
-    ensures unnamed { IfBad result (λ k. ¬ (IsV3000Line (lines_of text.now) k)) }
+    ensures unnamed { IfBad result (λ k. ¬ (IsNamedV3000 (lines_of text.now) k)) }
     ensures v3000 { IfV3000 result (IsBadSdfileLine (lines_of text.now)) }
-    ensures named { IfV3000 result (IsV3000Line (lines_of text.now)) }
+    ensures named { IfV3000 result (IsNamedV3000 (lines_of text.now)) }
     ensures never { IfV3000 result (λ k. ⊥) }
 
     ensures keeps { IfOk result (All (λ r. IsRawTable r.table)) }

@@ -2,6 +2,7 @@
 use crate::raw_record::RawRecords;
 use crate::sdfile::read_sdfile;
 use mk_ctab::TableFault;
+use std::alloc::Global;
 use std::test::Fail;
 
 // The number of records, or the line that is named.
@@ -193,7 +194,7 @@ fn texts_have_records_or_a_bad_line(rt: HostRuntime) -> Result<(), Fail> {
 }
 
 // A text of one record or two, and their texts.
-static TEXTS: [(&str, &str, &[&str]); 8] = [
+static TEXTS: [(&str, &str, &[&str]); 9] = [
     (
         "a block",
         "a\n\n\n  0\nM  END\n$$$$\n",
@@ -228,6 +229,13 @@ static TEXTS: [(&str, &str, &[&str]); 8] = [
         "CR bytes inside a line stay",
         "a\r b\n\r\rc\n\n  0\nM  END\n",
         &["a\r b\n\r\rc\n\n  0\nM  END\n"],
+    ),
+    (
+        "a V3000 record",
+        "a\r\n\n\n  0  0  0     0  0            999 V3000\r\nM  V30 BEGIN - \r\nM  V30 CTAB\r\nM  V30 COUNTS 0 0\nM  V30 BEGIN ATOM\nM  V30 END ATOM\nM  V30 END CTAB\r\r\nM  END\r\n> <b>\r\n-\r\n$$$$\r\n",
+        &[
+            "a\n\n\n  0  0  0     0  0            999 V3000\nM  V30 BEGIN - \nM  V30 CTAB\nM  V30 COUNTS 0 0\nM  V30 BEGIN ATOM\nM  V30 END ATOM\nM  V30 END CTAB\nM  END\n> <b>\n-\n",
+        ],
     ),
     (
         "each record has its own",
@@ -330,40 +338,91 @@ static LINES: [&str; 77] = [
     "$$$$",
 ];
 
+// How many records are read of so few to so many of the first lines. Any other cut is bad behind its
+// last line.
+static READ: [(usize, usize, usize); 4] = [(0, 0, 0), (21, 28, 1), (46, 53, 2), (73, 77, 3)];
+
+// Records of both formats with data items: the first and the third have V2000 tables, and a blank
+// header.
+static MIXED: [&str; 37] = [
+    "",
+    "",
+    "",
+    "  1  0",
+    "                               N",
+    "M  END",
+    "> <name>",
+    "ammonia",
+    "",
+    "$$$$",
+    "methanamine",
+    "  example",
+    "",
+    "  0  0  0     0  0            999 V3000",
+    "M  V30 BEGIN CTAB",
+    "M  V30 COUNTS 2 1 0 0 0",
+    "M  V30 BEGIN ATOM",
+    "M  V30 1 C 0 0 0 0",
+    "M  V30 2 N 1.5 0 0 -",
+    "M  V30 0 CHG=1",
+    "M  V30 END ATOM",
+    "M  V30 BEGIN BOND",
+    "M  V30 1 1 1 2",
+    "M  V30 END BOND",
+    "M  V30 END CTAB",
+    "M  END",
+    "> <name>",
+    "M  V30 methanaminium",
+    "",
+    "$$$$",
+    "",
+    "",
+    "",
+    "  1  0",
+    "                               O",
+    "M  END",
+    "$$$$",
+];
+
+static MIXED_READ: [(usize, usize, usize); 4] = [(0, 3, 0), (6, 10, 1), (26, 33, 2), (36, 37, 3)];
+
 // What is read of the first so many lines.
-fn of_first(lines: usize) -> Want {
-    if lines == 0 {
-        Want::Records(0)
-    } else if lines >= 73 {
-        Want::Records(3)
-    } else if lines >= 46 && lines <= 53 {
-        Want::Records(2)
-    } else if lines >= 21 && lines <= 28 {
-        Want::Records(1)
-    } else {
-        Want::Bad(lines.saturating_add(1))
+fn of_first(lines: usize, read: &[(usize, usize, usize)]) -> Want {
+    for (least, most, records) in read {
+        if *least <= lines && lines <= *most {
+            return Want::Records(*records);
+        }
     }
+    Want::Bad(lines.saturating_add(1))
 }
 
-#[test]
-fn a_file_is_cut_behind_each_of_its_lines(rt: HostRuntime) -> Result<(), Fail> {
-    let mut text = Vec::new(rt.alloc());
+// The number of the first lines, each ended by CR and LF, of which something else is read; one more
+// than there are lines where there is none.
+fn first_other(
+    alloc: Global,
+    lines: &[&str],
+    read: &[(usize, usize, usize)],
+) -> Result<usize, Fail> {
+    let mut text = Vec::new(alloc);
     let mut count = 0usize;
-    assert_eq!(rt;
-        answered(read_sdfile(rt.alloc(), text.as_slice())),
-        of_first(0)
-    );
-    for line in LINES.iter() {
+    if answered(read_sdfile(alloc, text.as_slice())) != of_first(0, read) {
+        return Ok(0);
+    }
+    for line in lines {
         text.extend_from_slice(line.as_bytes())?;
         text.extend_from_slice(b"\r\n")?;
         count = count.saturating_add(1);
-        assert_eq!(rt;
-            answered(read_sdfile(rt.alloc(), text.as_slice())),
-            of_first(count),
-            "{count}"
-        );
+        if answered(read_sdfile(alloc, text.as_slice())) != of_first(count, read) {
+            return Ok(count);
+        }
     }
-    assert_eq!(rt; count, 77);
+    Ok(count.saturating_add(1))
+}
+
+#[test]
+fn files_are_cut_behind_each_of_their_lines(rt: HostRuntime) -> Result<(), Fail> {
+    assert_eq!(rt; first_other(rt.alloc(), &LINES, &READ)?, 78);
+    assert_eq!(rt; first_other(rt.alloc(), &MIXED, &MIXED_READ)?, 38);
     Ok(())
 }
 

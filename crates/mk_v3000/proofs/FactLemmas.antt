@@ -26,7 +26,9 @@ all_both : (P : Property → Type 0) (xs ys : List Property) → AllByRecursion 
 all_both P [] ys h k = k
 all_both P (x ∷ xs) ys h k = (h.0, all_both P xs ys h.1 k)
 
-module _ (P : Property → Type 0) (charge : (pairs : List Pair) → P (kinds.Charge pairs)) (radical : (pairs : List Pair) → P (kinds.Radical pairs)) (isotope : (pairs : List Pair) → P (kinds.Isotope pairs)) where
+module _ (P : Property → Type 0) (charge : (pairs : List Pair) → P (kinds.Charge pairs))
+    (radical : (pairs : List Pair) → P (kinds.Radical pairs))
+    (isotope : (pairs : List Pair) → P (kinds.Isotope pairs)) where
   -- of one value
   of_value : (b : Bool) (kind : List Pair → Property) → ((pairs : List Pair) → P (kind pairs)) → (pairs : List Pair) → AllByRecursion P (cond b [] (kind pairs ∷ []))
   of_value true kind each pairs = tt
@@ -35,8 +37,12 @@ module _ (P : Property → Type 0) (charge : (pairs : List Pair) → P (kinds.Ch
   -- of one atom
   of_atom : (place : ℕ) (a : AtomLine) → AllByRecursion P (props_of place a)
   of_atom place a =
-      all_both P (value_prop kinds.Charge place a.charge) (value_prop kinds.Radical place a.radical ++ value_prop kinds.Isotope place a.mass) (of_value (same_number a.charge (pos 0)) kinds.Charge charge _)
-      (all_both P (value_prop kinds.Radical place a.radical) (value_prop kinds.Isotope place a.mass) (of_value (same_number a.radical (pos 0)) kinds.Radical radical _) (of_value (same_number a.mass (pos 0)) kinds.Isotope isotope _))
+      all_both P (value_prop kinds.Charge place a.charge)
+      (value_prop kinds.Radical place a.radical ++ value_prop kinds.Isotope place a.mass)
+      (of_value (same_number a.charge (pos 0)) kinds.Charge charge _)
+      (all_both P (value_prop kinds.Radical place a.radical) (value_prop kinds.Isotope place a.mass)
+      (of_value (same_number a.radical (pos 0)) kinds.Radical radical _)
+      (of_value (same_number a.mass (pos 0)) kinds.Isotope isotope _))
 
   -- of all
   of_atoms : (atoms : List AtomLine) (place : ℕ) → AllByRecursion P (props_from place atoms)

@@ -13,7 +13,7 @@ use Rattle.mk_v3000.specs.LogicalLines.{Word}
 use Rattle.mk_v3000.specs.Twin.{twin_atom, twin_bond}
 use Rattle.mk_v3000.specs.V3000Table.{ends_table}
 use Rattle.mk_v3000.specs.Walk.{first_walk, moved, counted, with_atom, with_bond, behind_atoms, step_at, step, IsFew}
-use Rattle.mk_v3000.specs.WordLines.{with_first, number_of, count_of, counts_of}
+use Rattle.mk_v3000.specs.WordLines.{with_first, number_of, count_of, counts_of_words}
 use Rattle.mk_v3000.proofs.RunLemmas.{zero_test, some_test, atoms_end, atoms_one, bonds_end, bonds_one, rest_end, rest_more}
 use Rattle.mk_v3000.proofs.TableLemmas.{table_begin, counts_read, atoms_begin, bonds_begin}
 
@@ -36,8 +36,8 @@ first_read [] f v e = absurd cc
 first_read (w ∷ others) f v e = (w, others, e)
 
 -- counts are no more than 999
-pub counts_few : (words : List Word) (n : PartCounts) → counts_of words ≡ Some n → (n.atoms ≤ 999) × (n.bonds ≤ 999)
-unfolding counts_of
+pub counts_few : (words : List Word) (n : PartCounts) → counts_of_words words ≡ Some n → (n.atoms ≤ 999) × (n.bonds ≤ 999)
+unfolding counts_of_words
 counts_few words n read =
     let name = first_read words _ n read in
     let passed = test_passed (bytes_eq name.0 (codes "COUNTS")) _ n name.2 in

@@ -30,7 +30,9 @@ without-le n [] = omega arith
 without-le n (x ∷ xs) = without-le_by n x xs (without-le n xs) (same_number x (pos n)) refl
 
 -- and shorter where the number is in it, by whether it is the first
-without-lt_by : (n : ℕ) (x : ℤ) (xs : List ℤ) → (has_index xs (pos n) ≡ true → length (without n xs) < length xs) → (b : Bool) → same_number x (pos n) ≡ b → cond b true (has_index xs (pos n)) ≡ true → length (without n (x ∷ xs)) < length (x ∷ xs)
+without-lt_by : (n : ℕ) (x : ℤ) (xs : List ℤ) → (has_index xs (pos n) ≡ true → length (without n xs) < length xs)
+    → (b : Bool) → same_number x (pos n) ≡ b → cond b true (has_index xs (pos n)) ≡ true
+    → length (without n (x ∷ xs)) < length (x ∷ xs)
 without-lt_by n x xs less true e h = rw e (let k : length (x ∷ xs) ≡ suc (length xs) = refl in omega (arith, without-le n xs))
 without-lt_by n x xs less false e h = rw e (let k : length (x ∷ xs) ≡ suc (length xs) = refl in let j : length (x ∷ without n xs) ≡ suc (length (without n xs)) = refl in omega (arith, less h))
 
@@ -49,7 +51,9 @@ not_two : (x : ℤ) (i n : ℕ) → i < n → x ≡ pos n → x ≡ pos i → �
 not_two x i n lt a b = let same : n ≡ i = (let e = sym a ∙ b in cc) in omega (arith, same)
 
 -- a smaller number that isn't in it isn't in the list, by what the first number is
-still_none_by : (n i : ℕ) (x : ℤ) (xs : List ℤ) → i < n → (has_index (without n xs) (pos i) ≡ false → has_index xs (pos i) ≡ false) → (b : Bool) → same_number x (pos n) ≡ b → (c : Bool) → same_number x (pos i) ≡ c
+still_none_by : (n i : ℕ) (x : ℤ) (xs : List ℤ) → i < n
+    → (has_index (without n xs) (pos i) ≡ false → has_index xs (pos i) ≡ false) → (b : Bool) → same_number x (pos n) ≡ b
+    → (c : Bool) → same_number x (pos i) ≡ c
     → has_index (cond b (without n xs) (x ∷ without n xs)) (pos i) ≡ false → has_index (x ∷ xs) (pos i) ≡ false
 still_none_by n i x xs lt others true e true f h = absurd (not_two x i n lt (same_pos x n e) (same_pos x i f))
 still_none_by n i x xs lt others true e false f h = rw f (others h)

@@ -28,7 +28,7 @@ use Rattle.mk_v3000.specs.Twin.{has_index}
 use Rattle.mk_v3000.specs.V3000Table.{two, IsV3000Table, EndInside, IsV3000Front, ends_table, is_end_line}
 use Rattle.mk_v3000.specs.Walk.{first_walk, moved, counted, with_atom, with_bond, behind_atoms, step_at, step, is_done, IsFew}
 use Rattle.mk_v3000.specs.Walking.{one_step, no_step, unless_done, walks, walk_part, behind_counts, v3000_part}
-use Rattle.mk_v3000.specs.WordLines.{number_of, count_of, counts_of, atom_with, atom_of, bond_of}
+use Rattle.mk_v3000.specs.WordLines.{number_of, count_of, counts_of_words, atom_with, atom_of, bond_of}
 use Rattle.mk_v3000.proofs.FreshLemmas.{Free, free, Spells, spelt}
 use Rattle.mk_v3000.proofs.RunLemmas.{Runs, walks_from, zero_test, some_test}
 use Rattle.mk_v3000.proofs.TableLemmas.{to_table, from_table}
@@ -98,7 +98,10 @@ atom_text word =
 atom_no_dash : (word : Word) → ends_with_dash (word ++ tail) ≡ false
 unfolding ends_with_dash
 atom_no_dash word =
-    let last : get_or (word ++ tail) (length (word ++ tail) - 1) 0 ≡ get_or tail ((length (word ++ tail) - 1) - length word) 0 = get_or-append_right word tail (length word) (length (word ++ tail) - 1) 0 refl (omega (arith, length-append word tail)) in
+    let last : get_or (word ++ tail) (length (word ++ tail) - 1) 0 ≡ get_or tail
+    ((length (word ++ tail) - 1) - length word) 0 =
+    get_or-append_right word tail (length word) (length (word ++ tail) - 1) 0 refl
+    (omega (arith, length-append word tail)) in
     let nine : (length (word ++ tail) - 1) - length word ≡ 9 = omega (arith, length-append word tail) in
     rw (last, nine) refl
 
@@ -124,8 +127,8 @@ an_atom_line n word s =
 
 -- ---- what the lines spell
 
-no_counts : counts_of (codes "COUNTS" ∷ codes "0" ∷ codes "0" ∷ []) ≡ Some (record { atoms = 0; bonds = 0 })
-unfolding counts_of count_of number_of field_of digits_number columns
+no_counts : counts_of_words (codes "COUNTS" ∷ codes "0" ∷ codes "0" ∷ []) ≡ Some (record { atoms = 0; bonds = 0 })
+unfolding counts_of_words count_of number_of field_of digits_number columns
 no_counts = refl
 
 abbrev some_bond : BondLine
@@ -154,7 +157,13 @@ pub record Completed (w : Walk) : Type 0 where
 
 -- one more line before them
 with_line : (w x : Walk) (line : Line) (words : List Word) → is_done w.phase ≡ false → step w words ≡ Some x → IsLogicalLine (line ∷ []) words → Completed x → Completed w
-with_line w x line words goes is logical c = record { lines = line ∷ c.lines; words = words ∷ c.words; table = c.table; each = (line ∷ [], c.lines, refl, logical, c.each); runs = (goes, x, is, c.runs) }
+with_line w x line words goes is logical c = record {
+  lines = line ∷ c.lines;
+  words = words ∷ c.words;
+  table = c.table;
+  each = (line ∷ [], c.lines, refl, logical, c.each);
+  runs = (goes, x, is, c.runs);
+}
 
 complete_done : (w : Walk) → Completed (moved phase.Done w)
 complete_done w = record { lines = []; words = []; table = w.table; each = refl; runs = (refl, refl) }
@@ -174,10 +183,13 @@ complete_behind : (k : ℕ) (w : Walk) → w.bonds ≡ k → Completed (behind_a
 unfolding step_at
 complete_behind zero w n = subst Completed (let e : moved phase.InRest w ≡ behind_atoms w = rw (zero_test w.bonds n) refl in e) (complete_rest w)
 complete_behind (suc k) w n =
-    subst Completed (let e : moved phase.AtBonds w ≡ behind_atoms w = rw (some_test w.bonds k n) refl in e) (with_line (moved phase.AtBonds w) (moved phase.InBonds w) _ _ refl refl begin_bonds (complete_bonds (suc k) w n))
+    subst Completed (let e : moved phase.AtBonds w ≡ behind_atoms w = rw (some_test w.bonds k n) refl in e)
+    (with_line (moved phase.AtBonds w) (moved phase.InBonds w) _ _ refl refl begin_bonds
+    (complete_bonds (suc k) w n))
 
 -- one atom, with the index that is free
-complete_atom : (n : ℕ) (w : Walk) (k : ℕ) → w.atoms ≡ suc k → has_index w.indexes (pos (suc n)) ≡ false → suc n < 10 ^ 9 → Completed (with_atom w (some_atom (suc n))) → Completed (moved phase.InAtoms w)
+complete_atom : (n : ℕ) (w : Walk) (k : ℕ) → w.atoms ≡ suc k → has_index w.indexes (pos (suc n)) ≡ false
+    → suc n < 10 ^ 9 → Completed (with_atom w (some_atom (suc n))) → Completed (moved phase.InAtoms w)
 unfolding step_at
 complete_atom n w k some none small c =
     let s = spelt (suc n) small in
@@ -185,7 +197,9 @@ complete_atom n w k some none small c =
     (rw (some_test w.atoms k some, an_atom n (decimal (suc n)) s.number, none) refl) (an_atom_line (suc n) (decimal (suc n)) s) c
 
 -- so many atoms, with a free index each
-complete_some : (k : ℕ) (w : Walk) → ((x : Walk) → x.atoms ≡ k → length x.indexes + k ≤ 999 → Completed (moved phase.InAtoms x)) → w.atoms ≡ suc k → length w.indexes + suc k ≤ 999 → (m : ℕ) → 1 ≤ m → m ≤ 999 + 1 → has_index w.indexes (pos m) ≡ false
+complete_some : (k : ℕ) (w : Walk) → ((x : Walk) → x.atoms ≡ k → length x.indexes + k ≤ 999
+    → Completed (moved phase.InAtoms x)) → w.atoms ≡ suc k → length w.indexes + suc k ≤ 999 → (m : ℕ) → 1 ≤ m
+    → m ≤ 999 + 1 → has_index w.indexes (pos m) ≡ false
     → Completed (moved phase.InAtoms w)
 complete_some k w others n few zero some le none = absurd (omega arith)
 complete_some k w others n few (suc m) some le none =

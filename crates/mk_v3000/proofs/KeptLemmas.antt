@@ -147,7 +147,8 @@ line_kept lines words j = record {
   go_on = each_on j.firsts j.go_on;
   ends = ends_kept j.last j.closed;
   closed = close_kept j.last j.closed;
-  spells = ap (λ (t : List ℕ). Some (words_of t)) (ap (λ (ls : List Line). joined_text (map without_crs ls)) j.whole ∙ joined_kept j.firsts j.last j.go_on j.closed ∙ ap joined_text (sym j.whole)) ∙ j.spells;
+  spells = ap (λ (t : List ℕ). Some (words_of t)) (ap (λ (ls : List Line). joined_text (map without_crs ls)) j.whole
+      ∙ joined_kept j.firsts j.last j.go_on j.closed ∙ ap joined_text (sym j.whole)) ∙ j.spells;
 }
 
 series_kept : (words : List (List Word)) (lines : List Line) → Series IsLogicalLine lines words → Series IsLogicalLine (map without_crs lines) words

@@ -1,6 +1,7 @@
 pub mod WalkingLemmas
 pub mod WordLemmas
 pub mod PushLemmas
+pub mod IndexLemmas
 pub mod RunLemmas
 pub mod TableLemmas
 pub mod FreshLemmas

@@ -125,16 +125,38 @@ unfolding is_end_line
 ends = refl
 
 -- a table of these lines
-table_of : (l : Line) (logical : List Line) (last : Line) (words : List (List Word)) (t : RawTable) → is_v3000 l ≡ true → Series IsLogicalLine logical words → Runs first_walk words t → is_end_line last ≡ true → IsV3000Table (l ∷ (logical ++ last ∷ [])) t
+table_of : (l : Line) (logical : List Line) (last : Line) (words : List (List Word)) (t : RawTable) → is_v3000 l ≡ true
+    → Series IsLogicalLine logical words → Runs first_walk words t → is_end_line last ≡ true
+    → IsV3000Table (l ∷ (logical ++ last ∷ [])) t
 table_of l logical last words t version each runs ended =
     let run = table_to words t runs in
-    record { counts_line = l; logical_lines = logical; last_line = last; whole = refl; version = version; words = words; each = each; atoms = run.atoms; bonds = run.bonds; are = run.are; ended = ended; twin = run.twin }
+    record {
+      counts_line = l;
+      logical_lines = logical;
+      last_line = last;
+      whole = refl;
+      version = version;
+      words = words;
+      each = each;
+      atoms = run.atoms;
+      bonds = run.bonds;
+      are = run.are;
+      ended = ended;
+      twin = run.twin;
+    }
 
 -- logical lines that have got somewhere are a front
-whole_front : (l : Line) (front : List Line) (words : List (List Word)) (x : Walk) → is_v3000 l ≡ true → Series IsLogicalLine front words → Steps first_walk words x → Completed x → IsFront IsV3000Table (l ∷ front)
+whole_front : (l : Line) (front : List Line) (words : List (List Word)) (x : Walk) → is_v3000 l ≡ true
+    → Series IsLogicalLine front words → Steps first_walk words x → Completed x → IsFront IsV3000Table (l ∷ front)
 whole_front l front words x version each steps c =
-    let lines : (l ∷ front) ++ (c.lines ++ end_line ∷ []) ≡ l ∷ ((front ++ c.lines) ++ end_line ∷ []) = ap (λ (ls : List Line). l ∷ ls) (sym (append_assoc front c.lines (end_line ∷ []))) in
-    (c.lines ++ end_line ∷ [], c.table, subst (λ (ls : List Line). IsV3000Table ls c.table) (sym lines) (table_of l (front ++ c.lines) end_line (words ++ c.words) c.table version (series_both words c.words front c.lines each c.each) (steps_run words first_walk x c.words c.table steps c.runs) ends))
+    let lines : (l ∷ front) ++ (c.lines ++ end_line ∷ []) ≡ l ∷ ((front ++ c.lines) ++ end_line ∷ []) = ap (λ (ls : List Line). l ∷ ls) (sym (append_assoc front c.lines (end_line ∷ []))) in (
+      c.lines ++ end_line ∷ [],
+      c.table,
+      subst (λ (ls : List Line). IsV3000Table ls c.table) (sym lines)
+          (table_of l (front ++ c.lines) end_line (words ++ c.words) c.table version
+          (series_both words c.words front c.lines each c.each)
+          (steps_run words first_walk x c.words c.table steps c.runs) ends),
+    )
 
 -- a logical line has a first line, which begins `M  V30 `
 record FirstLine (lines : List Line) : Type 0 where
@@ -156,7 +178,9 @@ next_line x lines (ws ∷ words) t goes each runs =
     record { first = f.first; others = f.others ++ each.1; whole = each.2 ∙ ap (λ (ls : List Line). ls ++ each.1) f.whole; logical = f.logical }
 
 -- with the next line they are a front, too
-inside : (l : Line) (r : List Line) (words : List (List Word)) (x : Walk) (begun : List Line) → is_v3000 l ≡ true → Series IsLogicalLine r words → Steps first_walk words x → Completed x → is_done x.phase ≡ false → EachIs goes_on true begun → EndInside (l ∷ (r ++ begun))
+inside : (l : Line) (r : List Line) (words : List (List Word)) (x : Walk) (begun : List Line) → is_v3000 l ≡ true
+    → Series IsLogicalLine r words → Steps first_walk words x → Completed x → is_done x.phase ≡ false
+    → EachIs goes_on true begun → EndInside (l ∷ (r ++ begun))
 inside l r words x begun version each steps c goes go_on =
     let f = next_line x c.lines c.words c.table goes c.each c.runs in
     let more = f.others ++ end_line ∷ [] in
@@ -171,7 +195,14 @@ inside l r words x begun version each steps c goes go_on =
       whole = refl;
       go_on = go_on;
       logical = f.logical;
-      front = (more, c.table, subst (λ (ls : List Line). IsV3000Table ls c.table) (sym lines) (table_of l (r ++ c.lines) end_line (words ++ c.words) c.table version (series_both words c.words r c.lines each c.each) (steps_run words first_walk x c.words c.table steps c.runs) ends));
+      front = (
+        more,
+        c.table,
+        subst (λ (ls : List Line). IsV3000Table ls c.table) (sym lines)
+            (table_of l (r ++ c.lines) end_line (words ++ c.words) c.table version
+            (series_both words c.words r c.lines each c.each) (steps_run words first_walk x c.words c.table steps c.runs)
+            ends),
+      );
     }
 
 -- so what has been reached is a front or ends inside a logical line
@@ -192,7 +223,9 @@ end_front l front back n x version is h =
     let run = walks_to n first_walk front x is in
     elim h [
       | inl none ↦
-          let lines : (l ∷ (front ++ back)) ++ (end_line ∷ []) ≡ l ∷ (front ++ end_line ∷ []) = ap (λ (ls : List Line). l ∷ (ls ++ end_line ∷ [])) (ap (λ (b : List Line). front ++ b) none ∙ append-nil front) in
+          let lines : (l ∷ (front ++ back)) ++ (end_line ∷ []) ≡ l ∷ (front ++ end_line ∷ []) =
+          ap (λ (ls : List Line). l ∷ (ls ++ end_line ∷ []))
+          (ap (λ (b : List Line). front ++ b) none ∙ append-nil front) in
           inl (end_line ∷ [], x.table, subst (λ (ls : List Line). IsV3000Table ls x.table) (sym lines) (table_of l front end_line run.words x.table version run.each run.runs ends))
       | inr one ↦
           let ended = passes is_end_line one.1.line one.0 one.1.spells in
@@ -291,13 +324,31 @@ module _ (next : Line) (logical : is_logical next ≡ true) (begun : List Line) 
       by_back back front x whole first second = elim (split_two before (next ∷ []) front back whole) [
         | inl s ↦ by_between s.between front back x s.front_is s.back_is first second
         | inr s ↦
-            inr (record { front = front; back = s.between ++ begun; middle = x; whole = ap (λ (ls : List Line). ls ++ begun) s.front_is ∙ append_assoc front s.between begun; first = first; second = others x s.between (subst (q x).live s.back_is second) })
+            inr (record {
+              front = front;
+              back = s.between ++ begun;
+              middle = x;
+              whole = ap (λ (ls : List Line). ls ++ begun) s.front_is ∙ append_assoc front s.between begun;
+              first =
+                  first;
+              second = others x s.between (subst (q x).live s.back_is second);
+            })
       ]
         where
-          by_between : (between front back : List Line) (x : Walk) → front ≡ before ++ between → next ∷ [] ≡ between ++ back → (one_step w).is front x → (q x).live back → (sequence (one_step w) q).live (before ++ begun)
+          by_between : (between front back : List Line) (x : Walk) → front ≡ before ++ between
+              → next ∷ [] ≡ between ++ back → (one_step w).is front x → (q x).live back
+              → (sequence (one_step w) q).live (before ++ begun)
           by_between [] front back x f_is b_is first second =
               let same : front ≡ before = f_is ∙ append-nil before in
-              inr (record { front = front; back = begun; middle = x; whole = ap (λ (ls : List Line). ls ++ begun) (sym same); first = first; second = others x [] (subst (q x).live (sym b_is) second) })
+              inr (record {
+                front = front;
+                back = begun;
+                middle = x;
+                whole = ap (λ (ls : List Line). ls ++ begun) (sym same);
+                first = first;
+                second =
+                    others x [] (subst (q x).live (sym b_is) second);
+              })
           by_between (y ∷ ys) front back x f_is b_is first second =
               let none : ys ≡ [] = no_front ys back (let k : ys ++ back ≡ [] = cc in k) in
               let same : y ≡ next = cc in
@@ -340,7 +391,14 @@ module _ (next : Line) (logical : is_logical next ≡ true) (begun : List Line) 
         let whole : l ∷ (before ++ next ∷ []) ≡ one.line ∷ h.back = h.whole ∙ ap (λ (f : List Line). f ++ h.back) one.whole in
         let back : before ++ next ∷ [] ≡ h.back = cc in
         let same : l ≡ one.line = cc in
-        inr (record { front = h.front; back = before ++ begun; middle = h.middle; whole = rw (same, one.whole) refl; first = one; second = bend_behind before (subst behind_counts.live (sym back) h.second) })
+        inr (record {
+          front = h.front;
+          back = before ++ begun;
+          middle = h.middle;
+          whole = rw (same, one.whole) refl;
+          first = one;
+          second = bend_behind before (subst behind_counts.live (sym back) h.second);
+        })
   ]
 
 pub from_front : (lines : List Line) → IsV3000Front lines → v3000_part.live lines
@@ -370,4 +428,13 @@ never lines d = elim d [
 -- V3000 tables are read exactly
 pub exact-v3000 : Exact is_v3000 Anything v3000_form
 unfolding v3000_at
-exact-v3000 = exact-in_words {p = v3000_part} (record { is_to = to_table; is_from = from_table; live_to = to_front; live_from = from_front; due_to = λ lines d. never lines d; due_from = λ lines d. absurd d; reads = λ lines. refl }) exact-v3000_part
+exact-v3000 = exact-in_words {p = v3000_part} (record {
+  is_to = to_table;
+  is_from = from_table;
+  live_to = to_front;
+  live_from = from_front;
+  due_to = λ lines d. never lines d;
+  due_from = λ lines d. absurd d;
+  reads = λ lines. refl;
+})
+    exact-v3000_part

@@ -1,5 +1,5 @@
 -- What the readers know that go from one line to the next.
-use Rattle.std.proofs.Common.{◌≡◌, ℕ, zero, suc, ◌+◌, ◌-◌, ◌≤◌, ◌<◌, Bool, true, false, not, ◌&&◌, cond, Option, Some, None, List, [], ◌∷◌, ◌++◌, length, get_or, drop, refl, sym, ap, subst, ◌∙◌, append_assoc, append-nil, arith, drop-drop}
+use Rattle.std.proofs.Common.{◌≡◌, ℕ, suc, ◌+◌, ◌-◌, ◌≤◌, ◌<◌, Bool, true, false, cond, Option, Some, None, List, [], ◌∷◌, ◌++◌, length, get_or, drop, refl, sym, ap, subst, ◌∙◌, append_assoc, append-nil, arith, drop-drop}
 use Rattle.std.proofs.lemmas.List.{length-append, length-drop, drop_more, drop_all, drop_at}
 use Rattle.mk_form.specs.Exact.{Anything, TakesText}
 use Rattle.mk_form.specs.Joined.{Joined, read_joined}
@@ -8,15 +8,12 @@ use Rattle.mk_form.specs.Reading.{Reading, Took, Stop, TakesLines, StopsAtLine, 
 use Rattle.mk_form.specs.Sequence.{sequence}
 use Rattle.mk_form.specs.ToEnd.{EachIs}
 use Rattle.mk_form.proofs.Joined.{exact-joined}
-use Rattle.mk_text.specs.declared.line_start.LineStart.{LineStart}
-use Rattle.mk_text.specs.LineStart.{IsLineStart}
-use Rattle.mk_text.specs.Lines.{lines_of, words_of}
+use Rattle.mk_text.specs.Lines.{words_of}
 use Rattle.mk_ctab.specs.declared.fault.TableFault.{TableFault}
 use Rattle.mk_ctab.specs.declared.fault.TableFault.TheVariants.{Bad, V3000, Memory}
 use Rattle.mk_ctab.specs.declared.raw.RawTable.{RawTable}
 use Rattle.mk_ctab.specs.TableLines.{Line, is_v3000}
 use Rattle.mk_ctab.specs.TableReading.{Fails}
-use Rattle.mk_ctab.specs.TableWalk.{TakesTo}
 use Rattle.mk_ctab.proofs.ForCallers.{fails_first, block_read}
 use Rattle.mk_v3000.specs.declared.walk.Walk.{Walk}
 use Rattle.mk_v3000.specs.LogicalLines.{is_logical, text_behind, ends_with_dash, piece_of, goes_on, closes, joined_text, words_in}
@@ -32,7 +29,9 @@ abbrev pub read_behind : List ℕ → List Line → Reading Line (List ℕ)
 read_behind joint lines = read_joined goes_on closes (λ ls. Some (joint ++ joined_text ls)) lines
 
 -- texts that agree on all lines are read alike, by what the first line is
-same_texts_by : (f g : List Line → List ℕ) (l : Line) (lines : List Line) → f (l ∷ []) ≡ g (l ∷ []) → read_joined goes_on closes (λ ls. Some (f (l ∷ ls))) lines ≡ read_joined goes_on closes (λ ls. Some (g (l ∷ ls))) lines → (b c : Bool)
+same_texts_by : (f g : List Line → List ℕ) (l : Line) (lines : List Line) → f (l ∷ []) ≡ g (l ∷ [])
+    → read_joined goes_on closes (λ ls. Some (f (l ∷ ls))) lines ≡ read_joined goes_on closes (λ ls. Some (g (l ∷ ls)))
+    lines → (b c : Bool)
     → cond b (read_joined goes_on closes (λ ls. Some (f (l ∷ ls))) lines) (cond c (line_of (Some (f (l ∷ []))) false l lines) (Stop false (l ∷ lines)))
     ≡ cond b (read_joined goes_on closes (λ ls. Some (g (l ∷ ls))) lines) (cond c (line_of (Some (g (l ∷ []))) false l lines) (Stop false (l ∷ lines)))
 same_texts_by f g l lines here others true c = others
@@ -40,7 +39,8 @@ same_texts_by f g l lines here others false true = ap (λ (t : List ℕ). let r 
 same_texts_by f g l lines here others false false = refl
 
 -- texts that agree on all lines are read alike
-same_texts : (lines : List Line) (f g : List Line → List ℕ) → ((ls : List Line) → f ls ≡ g ls) → read_joined goes_on closes (λ ls. Some (f ls)) lines ≡ read_joined goes_on closes (λ ls. Some (g ls)) lines
+same_texts : (lines : List Line) (f g : List Line → List ℕ) → ((ls : List Line) → f ls ≡ g ls)
+    → read_joined goes_on closes (λ ls. Some (f ls)) lines ≡ read_joined goes_on closes (λ ls. Some (g ls)) lines
 same_texts [] f g same = refl
 same_texts (l ∷ lines) f g same = same_texts_by f g l lines (same (l ∷ [])) (same_texts lines (λ ls. f (l ∷ ls)) (λ ls. g (l ∷ ls)) (λ ls. same (l ∷ ls))) (goes_on l) (closes l)
 
@@ -54,14 +54,17 @@ piece line = piece_of (text_behind line)
 
 module _ (joint : List ℕ) (lines : List Line) (at : ℕ) (d : Line) (lt : at < length lines) where
   -- a line that goes on
-  pub texts_more : is_logical (get_or lines at d) ≡ true → ends_with_dash (text_behind (get_or lines at d)) ≡ true → read_behind joint (drop at lines) ≡ read_behind (joint ++ piece (get_or lines at d)) (drop (at + 1) lines)
+  pub texts_more : is_logical (get_or lines at d) ≡ true → ends_with_dash (text_behind (get_or lines at d)) ≡ true
+      → read_behind joint (drop at lines) ≡ read_behind (joint ++ piece (get_or lines at d)) (drop (at + 1) lines)
   texts_more logical dash =
       let l = get_or lines at d in
       ap (read_behind joint) (drop_more lines at d lt)
-      ∙ rw (logical, dash) (same_texts (drop (at + 1) lines) (λ ls. joint ++ joined_text (l ∷ ls)) (λ ls. (joint ++ piece l) ++ joined_text ls) (λ ls. sym (append_assoc joint (piece l) (joined_text ls))))
+      ∙ rw (logical, dash) (same_texts (drop (at + 1) lines) (λ ls. joint ++ joined_text (l ∷ ls))
+      (λ ls. (joint ++ piece l) ++ joined_text ls) (λ ls. sym (append_assoc joint (piece l) (joined_text ls))))
 
   -- a line that closes
-  pub texts_end : is_logical (get_or lines at d) ≡ true → ends_with_dash (text_behind (get_or lines at d)) ≡ false → TakesLines lines (at + 1) (joint ++ piece (get_or lines at d)) (read_behind joint (drop at lines))
+  pub texts_end : is_logical (get_or lines at d) ≡ true → ends_with_dash (text_behind (get_or lines at d)) ≡ false
+      → TakesLines lines (at + 1) (joint ++ piece (get_or lines at d)) (read_behind joint (drop at lines))
   texts_end logical dash =
       let l = get_or lines at d in
       record {
@@ -75,6 +78,17 @@ module _ (joint : List ℕ) (lines : List Line) (at : ℕ) (d : Line) (lt : at <
       let split = drop_more lines at d lt in
       let here : (at + 1) - 1 ≡ at = omega arith in
       record { counted = (omega arith, omega arith); stop = ap (read_behind joint) split ∙ rw logical (ap (Stop false) (sym (ap (λ (k : ℕ). drop k lines) here ∙ split))) }
+
+-- a text that doesn't end with `-` is its own piece
+whole_piece : (text : List ℕ) → ends_with_dash text ≡ false → piece_of text ≡ text
+unfolding piece_of
+whole_piece text dash = rw dash refl
+
+-- a line that is a logical line of its own
+pub one_line : (lines : List Line) (at : ℕ) (d : Line) → at < length lines → is_logical (get_or lines at d) ≡ true → ends_with_dash (text_behind (get_or lines at d)) ≡ false
+    → TakesLines lines (at + 1) (text_behind (get_or lines at d)) (texts.read (drop at lines))
+one_line lines at d lt logical dash =
+    subst (λ (text : List ℕ). TakesLines lines (at + 1) text (texts.read (drop at lines))) (whole_piece (text_behind (get_or lines at d)) dash) (texts_end [] lines at d lt logical dash)
 
 -- no line is left
 pub texts_past : (joint : List ℕ) (lines : List Line) (at : ℕ) → at ≡ length lines → StopsAtLine lines false (at + 1) (read_behind joint (drop at lines))
@@ -95,7 +109,9 @@ stops_alike_by h f l lines rest n others false true e = absurd cc
 stops_alike_by h f l lines rest n others false false e = cc
 
 -- where no text is read, no step is made, at the same line
-stops_alike : (lines : List Line) (h : List Line → List ℕ) (f : List Line → Option Walk) (rest : List Line) (n : Bool) → read_joined goes_on closes (λ ls. Some (h ls)) lines ≡ Stop n rest → read_joined goes_on closes f lines ≡ Stop n rest
+stops_alike : (lines : List Line) (h : List Line → List ℕ) (f : List Line → Option Walk) (rest : List Line) (n : Bool)
+    → read_joined goes_on closes (λ ls. Some (h ls)) lines ≡ Stop n rest
+    → read_joined goes_on closes f lines ≡ Stop n rest
 stops_alike [] h f rest n e = cc
 stops_alike (l ∷ lines) h f rest n e = stops_alike_by h f l lines rest n (stops_alike lines (λ ls. h (l ∷ ls)) (λ ls. f (l ∷ ls)) rest n) (goes_on l) (closes l) e
 
@@ -105,7 +121,8 @@ step_fails w lines at (V3000 k) h = record { counted = h.counted; stop = stops_a
 step_fails w lines at Memory h = tt
 
 -- lines of which the last closes, and that spell nothing, stop at the last
-joined_stops : (f : List Line → Option Walk) (firsts : List Line) (last : Line) (rest : List Line) → EachIs goes_on true firsts → goes_on last ≡ false → closes last ≡ true → f (firsts ++ last ∷ []) ≡ None
+joined_stops : (f : List Line → Option Walk) (firsts : List Line) (last : Line) (rest : List Line)
+    → EachIs goes_on true firsts → goes_on last ≡ false → closes last ≡ true → f (firsts ++ last ∷ []) ≡ None
     → read_joined goes_on closes f (firsts ++ last ∷ rest) ≡ Stop false (last ∷ rest)
 joined_stops f [] last rest go_on ends closed none = rw (ends, closed, none) refl
 joined_stops f (y ∷ firsts) last rest go_on ends closed none = rw (go_on.0) (joined_stops (λ ls. f (y ∷ ls)) firsts last rest go_on.1 ends closed none)
@@ -125,7 +142,16 @@ module _ (w : Walk) (lines : List Line) (at next : ℕ) (joint : List ℕ) (insi
       let j = read.is in
       record {
         within = takes.within;
-        took = ap (one_step w).read read.whole ∙ (exact-step w).again read.front (drop next lines) x (record { firsts = j.firsts; last = j.last; whole = j.whole; go_on = j.go_on; ends = j.ends; closed = j.closed; spells = ap (λ (t : List ℕ). step w (words_of t)) text_is ∙ e }) tt;
+        took = ap (one_step w).read read.whole ∙ (exact-step w).again read.front (drop next lines) x
+            (record {
+              firsts = j.firsts;
+              last = j.last;
+              whole = j.whole;
+              go_on = j.go_on;
+              ends = j.ends;
+              closed = j.closed;
+              spells = ap (λ (t : List ℕ). step w (words_of t)) text_is ∙ e;
+            }) tt;
       }
 
   -- the text isn't due
@@ -151,7 +177,9 @@ module _ (w : Walk) (lines : List Line) (at next : ℕ) (joint : List ℕ) (insi
 
 module _ (lines : List Line) (from at : ℕ) (w : Walk) (left : (walk_part first_walk).read (drop from lines) ≡ (walk_part w).read (drop at lines)) where
   -- one more step
-  pub walk_more : (next : ℕ) (x : Walk) → is_done w.phase ≡ false → TakesLines lines next x ((one_step w).read (drop at lines)) → (walk_part first_walk).read (drop from lines) ≡ (walk_part x).read (drop next lines)
+  pub walk_more : (next : ℕ) (x : Walk) → is_done w.phase ≡ false
+      → TakesLines lines next x ((one_step w).read (drop at lines))
+      → (walk_part first_walk).read (drop from lines) ≡ (walk_part x).read (drop next lines)
   walk_more next x goes takes = left ∙ walk_goes w (drop at lines) goes ∙ ap (λ (r : Reading Line Walk). and_then r (λ y. (walk_part y).read)) takes.took
 
   -- a step fails

@@ -25,7 +25,7 @@ use Rattle.mk_v3000.specs.Twin.{has_index, twin_atom, twin_bond, props_of, props
 use Rattle.mk_v3000.specs.V3000Table.{two, IsBondPart, HasNoBondPart, AreTable, AreNew, ends_table}
 use Rattle.mk_v3000.specs.Walk.{no_table, first_walk, moved, counted, with_atom, with_bond, behind_atoms, step_at, step, is_done}
 use Rattle.mk_v3000.specs.Walking.{one_step, no_step, unless_done, walks}
-use Rattle.mk_v3000.specs.WordLines.{is_pair, counts_of, atom_of, bond_of}
+use Rattle.mk_v3000.specs.WordLines.{is_pair, counts_of_words, atom_of, bond_of}
 
 -- logical lines, by their words, take what has been read to the end of this table
 abbrev pub Runs : Walk → List (List Word) → RawTable → Type 0
@@ -51,7 +51,16 @@ to_more : (w : Walk) (q : Walk → Part Line Walk) (others : (x : Walk) (lines :
 to_more w q others lines v true e h = record { words = []; each = h.0; runs = (e, ap (λ (x : Walk). x.table) (sym h.1)) }
 to_more w q others lines v false e h =
     let first = h.first in
-    let logical : IsLogicalLine h.front (words_in h.front) = record { firsts = first.firsts; last = first.last; whole = first.whole; go_on = first.go_on; ends = first.ends; closed = first.closed; spells = refl } in
+    let logical : IsLogicalLine h.front (words_in h.front) =
+    record {
+      firsts = first.firsts;
+      last = first.last;
+      whole = first.whole;
+      go_on = first.go_on;
+      ends = first.ends;
+      closed = first.closed;
+      spells = refl;
+    } in
     let more = others h.middle h.back v h.second in
     record { words = words_in h.front ∷ more.words; each = (h.front, h.back, h.whole, logical, more.each); runs = (e, h.middle, first.spells, more.runs) }
 
@@ -81,7 +90,15 @@ walks_from (ws ∷ words) w lines t s r =
             back = s.1;
             middle = r.1;
             whole = s.2;
-            first = record { firsts = logical.firsts; last = logical.last; whole = logical.whole; go_on = logical.go_on; ends = logical.ends; closed = logical.closed; spells = ap (step w) same ∙ r.2 };
+            first = record {
+              firsts = logical.firsts;
+              last = logical.last;
+              whole = logical.whole;
+              go_on = logical.go_on;
+              ends = logical.ends;
+              closed = logical.closed;
+              spells = ap (step w) same ∙ r.2;
+            };
             second = more.is;
           });
       table = more.table;
@@ -116,7 +133,9 @@ after_bonds w [] = w
 after_bonds w (b ∷ bonds) = after_bonds (with_bond w b) bonds
 
 -- tables with the same parts
-same_table : (t : RawTable) {a b : List RawAtom} {c d : List Property} → a ≡ b → c ≡ d → (let x : RawTable = record { atoms = a; bonds = t.bonds; lists = t.lists; props = c } in x) ≡ record { atoms = b; bonds = t.bonds; lists = t.lists; props = d }
+same_table : (t : RawTable) {a b : List RawAtom} {c d : List Property} → a ≡ b → c ≡ d
+    → (let x : RawTable = record { atoms = a; bonds = t.bonds; lists = t.lists; props = c } in x) ≡ record
+    { atoms = b; bonds = t.bonds; lists = t.lists; props = d }
 same_table t e f = rw (e, f) refl
 
 -- the atoms leave the number of bonds
@@ -140,7 +159,9 @@ after_atoms-table (a ∷ atoms) w =
     let place : length (w.indexes ++ a.index ∷ []) ≡ length w.indexes + 1 = length-append w.indexes (a.index ∷ []) in
     after_atoms-table atoms (with_atom w a)
     ∙ same_table w.table (append_assoc w.table.atoms (twin_atom a ∷ []) (map twin_atom atoms))
-    (ap (λ (k : ℕ). (w.table.props ++ props_of (length w.indexes + 1) a) ++ props_from (k + 1) atoms) place ∙ append_assoc w.table.props (props_of (length w.indexes + 1) a) (props_from ((length w.indexes + 1) + 1) atoms))
+    (ap (λ (k : ℕ). (w.table.props ++ props_of (length w.indexes + 1) a) ++ props_from (k + 1) atoms) place
+    ∙ append_assoc w.table.props (props_of (length w.indexes + 1) a)
+    (props_from ((length w.indexes + 1) + 1) atoms))
 
 -- a table with bonds behind it
 abbrev pub joined_by : RawTable → List RawBond → RawTable
@@ -183,7 +204,8 @@ in_atoms : (w : Walk) (words : List Word) → w.phase ≡ phase.InAtoms → step
 in_atoms w words e = ap (λ (p : Phase). step_at p w words) e
 
 -- behind the last atom
-pub atoms_end : (w : Walk) (words : List Word) (x : Walk) → w.atoms ≡ 0 → step_at phase.InAtoms w words ≡ Some x → (is_pair words (codes "END") (codes "ATOM") ≡ true) × (Some (behind_atoms w) ≡ Some x)
+pub atoms_end : (w : Walk) (words : List Word) (x : Walk) → w.atoms ≡ 0 → step_at phase.InAtoms w words ≡ Some x
+    → (is_pair words (codes "END") (codes "ATOM") ≡ true) × (Some (behind_atoms w) ≡ Some x)
 unfolding step_at
 atoms_end w words x none h = test_passed (is_pair words (codes "END") (codes "ATOM")) (Some (behind_atoms w)) x (rw (zero_test w.atoms none) at h)
 
@@ -206,7 +228,17 @@ atoms_to [] k w t e n r = absurd (let d = ap is_done (sym e) ∙ r.0 in cc)
 atoms_to (words ∷ lines) zero w t e n r =
     let h = atoms_end w words r.1 n (sym (in_atoms w words e) ∙ r.2) in
     let next : behind_atoms w ≡ r.1 = (let i = h.1 in cc) in
-    record { atom_lines = []; others = lines; atoms = []; whole = ap (λ (x : List Word). x ∷ lines) (pair_is words (codes "END") (codes "ATOM") h.0); each = refl; count = refl; new = tt; runs = subst (λ (x : Walk). Runs x lines t) (sym next) r.3 }
+    record {
+      atom_lines = [];
+      others = lines;
+      atoms = [];
+      whole = ap (λ (x : List Word). x ∷ lines) (pair_is words (codes "END") (codes "ATOM") h.0);
+      each = refl;
+      count =
+          refl;
+      new = tt;
+      runs = subst (λ (x : Walk). Runs x lines t) (sym next) r.3;
+    }
 atoms_to (words ∷ lines) (suc k) w t e n r =
     let h = atoms_one k w words r.1 n (sym (in_atoms w words e) ∙ r.2) in
     let left : w.atoms - 1 ≡ k = omega (arith, n) in
@@ -232,7 +264,9 @@ atom_due : (k : ℕ) (w : Walk) (words : List Word) (a : AtomLine) → w.atoms �
 unfolding step_at
 atom_due k w words a some is new = rw (some_test w.atoms k some, is, new) refl
 
-pub atoms_from : (atoms : List AtomLine) (w : Walk) (atom_lines others : List (List Word)) (t : RawTable) → w.phase ≡ phase.InAtoms → w.atoms ≡ length atoms → map atom_of atom_lines ≡ map Some atoms → AreNew w.indexes atoms
+pub atoms_from : (atoms : List AtomLine) (w : Walk) (atom_lines others : List (List Word)) (t : RawTable)
+    → w.phase ≡ phase.InAtoms → w.atoms ≡ length atoms → map atom_of atom_lines ≡ map Some atoms
+    → AreNew w.indexes atoms
     → Runs (behind_atoms (after_atoms w atoms)) others t → Runs w (atom_lines ++ two (codes "END") (codes "ATOM") ∷ others) t
 atoms_from [] w [] others t e n each new r = (ap is_done e, behind_atoms w, in_atoms w _ e ∙ end_due w n, r)
 atoms_from [] w (l ∷ atom_lines) others t e n each new r = absurd cc
@@ -258,11 +292,14 @@ pub record BondsRun (k : ℕ) (w : Walk) (lines : List (List Word)) (t : RawTabl
 in_bonds : (w : Walk) (words : List Word) → w.phase ≡ phase.InBonds → step w words ≡ step_at phase.InBonds w words
 in_bonds w words e = ap (λ (p : Phase). step_at p w words) e
 
-pub bonds_end : (w : Walk) (words : List Word) (x : Walk) → w.bonds ≡ 0 → step_at phase.InBonds w words ≡ Some x → (is_pair words (codes "END") (codes "BOND") ≡ true) × (Some (moved phase.InRest w) ≡ Some x)
+pub bonds_end : (w : Walk) (words : List Word) (x : Walk) → w.bonds ≡ 0 → step_at phase.InBonds w words ≡ Some x
+    → (is_pair words (codes "END") (codes "BOND") ≡ true) × (Some (moved phase.InRest w) ≡ Some x)
 unfolding step_at
 bonds_end w words x none h = test_passed (is_pair words (codes "END") (codes "BOND")) (Some (moved phase.InRest w)) x (rw (zero_test w.bonds none) at h)
 
-pub bonds_one : (k : ℕ) (w : Walk) (words : List Word) (x : Walk) → w.bonds ≡ suc k → step_at phase.InBonds w words ≡ Some x → (b : BondLine) × (bond_of words ≡ Some b) × (Some (with_bond w b) ≡ Some x)
+pub bonds_one : (k : ℕ) (w : Walk) (words : List Word) (x : Walk) → w.bonds ≡ suc k
+    → step_at phase.InBonds w words ≡ Some x → (b : BondLine) × (bond_of words ≡ Some b)
+    × (Some (with_bond w b) ≡ Some x)
 unfolding step_at
 bonds_one k w words x some h = both_read (bond_of words) (λ b. Some (with_bond w b)) x (rw (some_test w.bonds k some) at h)
 
@@ -271,7 +308,16 @@ bonds_to [] k w t e n r = absurd (let d = ap is_done (sym e) ∙ r.0 in cc)
 bonds_to (words ∷ lines) zero w t e n r =
     let h = bonds_end w words r.1 n (sym (in_bonds w words e) ∙ r.2) in
     let next : moved phase.InRest w ≡ r.1 = (let i = h.1 in cc) in
-    record { bond_lines = []; others = lines; bonds = []; whole = ap (λ (x : List Word). x ∷ lines) (pair_is words (codes "END") (codes "BOND") h.0); each = refl; count = refl; runs = subst (λ (x : Walk). Runs x lines t) (sym next) r.3 }
+    record {
+      bond_lines = [];
+      others = lines;
+      bonds = [];
+      whole = ap (λ (x : List Word). x ∷ lines) (pair_is words (codes "END") (codes "BOND") h.0);
+      each = refl;
+      count =
+          refl;
+      runs = subst (λ (x : Walk). Runs x lines t) (sym next) r.3;
+    }
 bonds_to (words ∷ lines) (suc k) w t e n r =
     let h = bonds_one k w words r.1 n (sym (in_bonds w words e) ∙ r.2) in
     let next : with_bond w h.0 ≡ r.1 = (let i = h.2 in cc) in
@@ -335,7 +381,9 @@ last_line w [] t r = (refl, r.1)
 last_line w (words ∷ lines) t r = absurd (let d = r.0 in cc)
 
 -- by whether the first of the lines ends the table
-rest_by : (words : List Word) (lines : List (List Word)) (w : Walk) (t : RawTable) → w.phase ≡ phase.InRest → (Runs (moved phase.InRest w) lines t → RestRun (moved phase.InRest w) lines t) → (b : Bool) → ends_table words ≡ b → Runs w (words ∷ lines) t
+rest_by : (words : List Word) (lines : List (List Word)) (w : Walk) (t : RawTable) → w.phase ≡ phase.InRest
+    → (Runs (moved phase.InRest w) lines t → RestRun (moved phase.InRest w) lines t) → (b : Bool) → ends_table words ≡ b
+    → Runs w (words ∷ lines) t
     → RestRun w (words ∷ lines) t
 rest_by words lines w t e others true h r =
     let next : moved phase.Done w ≡ r.1 = (let i = sym (rest_end w words h) ∙ sym (in_rest w words e) ∙ r.2 in cc) in
@@ -350,6 +398,7 @@ pub rest_to : (lines : List (List Word)) (w : Walk) (t : RawTable) → w.phase �
 rest_to [] w t e r = absurd (let d = ap is_done (sym e) ∙ r.0 in cc)
 rest_to (words ∷ lines) w t e r = rest_by words lines w t e (rest_to lines (moved phase.InRest w) t refl) (ends_table words) refl r
 
-pub rest_from : (others : List (List Word)) (w : Walk) (t : RawTable) → w.phase ≡ phase.InRest → EachIs ends_table false others → w.table ≡ t → Runs w (others ++ two (codes "END") (codes "CTAB") ∷ []) t
+pub rest_from : (others : List (List Word)) (w : Walk) (t : RawTable) → w.phase ≡ phase.InRest
+    → EachIs ends_table false others → w.table ≡ t → Runs w (others ++ two (codes "END") (codes "CTAB") ∷ []) t
 rest_from [] w t e passed is = (ap is_done e, moved phase.Done w, in_rest w _ e ∙ rest_end w _ refl, (refl, is))
 rest_from (words ∷ others) w t e passed is = (ap is_done e, moved phase.InRest w, in_rest w words e ∙ rest_more w words passed.0, rest_from others (moved phase.InRest w) t refl passed.1 is)

@@ -17,7 +17,7 @@ use Rattle.mk_v3000.specs.Twin.{twin_bond, indexes_of, twin_of}
 use Rattle.mk_v3000.specs.V3000Table.{two, IsBondPart, HasNoBondPart, AreTable, IsV3000Table, ends_table, is_end_line}
 use Rattle.mk_v3000.specs.Walk.{first_walk, moved, counted, behind_atoms, step_at}
 use Rattle.mk_v3000.specs.Walking.{v3000_part}
-use Rattle.mk_v3000.specs.WordLines.{is_pair, counts_of, atom_of, bond_of}
+use Rattle.mk_v3000.specs.WordLines.{is_pair, counts_of_words, atom_of, bond_of}
 use Rattle.mk_v3000.proofs.RunLemmas.{Runs, zero_test, some_test, walks_to, walks_from, pair_is, after_atoms, after_atoms-bonds, after_atoms-indexes, after_atoms-table, after_bonds, after_bonds-table, joined_by, atoms_to, atoms_from, bonds_to, bonds_from, rest_to, rest_from}
 
 -- ---- behind the atoms
@@ -53,7 +53,17 @@ pub record TailRun (w : Walk) (lines : List (List Word)) (t : RawTable) : Type 0
 pub tail_to : (k : ℕ) (w : Walk) (lines : List (List Word)) (t : RawTable) → w.bonds ≡ k → Runs (behind_atoms w) lines t → TailRun w lines t
 tail_to zero w lines t n r =
     let rest = rest_to lines (moved phase.InRest w) t refl (subst (λ (x : Walk). Runs x lines t) (none_due w n) r) in
-    record { bonds = []; bond_part = []; others = rest.others; whole = rest.whole; count = sym n; of_bonds = inr (record { no_lines = refl; no_bonds = refl }); passed = rest.passed; table = sym (after_bonds-table [] w) ∙ rest.table }
+    record {
+      bonds = [];
+      bond_part = [];
+      others = rest.others;
+      whole = rest.whole;
+      count = sym n;
+      of_bonds = inr (record { no_lines = refl; no_bonds = refl });
+      passed = rest.passed;
+      table =
+          sym (after_bonds-table [] w) ∙ rest.table;
+    }
 tail_to (suc k) w lines t n r = by_lines lines (subst (λ (x : Walk). Runs x lines t) (bonds_due k w n) r)
   where
     by_lines : (ls : List (List Word)) → Runs (moved phase.AtBonds w) ls t → TailRun w ls t
@@ -72,7 +82,8 @@ tail_to (suc k) w lines t n r = by_lines lines (subst (λ (x : Walk). Runs x lin
           whole =
               ap (λ (x : List Word). x ∷ ls) (pair_is words (codes "BEGIN") (codes "BOND") h.0)
               ∙ ap (λ (x : List (List Word)). two (codes "BEGIN") (codes "BOND") ∷ x)
-              (more.whole ∙ ap (λ (x : List (List Word)). more.bond_lines ++ two (codes "END") (codes "BOND") ∷ x) rest.whole ∙ sym (append_assoc more.bond_lines (two (codes "END") (codes "BOND") ∷ []) behind));
+              (more.whole ∙ ap (λ (x : List (List Word)). more.bond_lines ++ two (codes "END") (codes "BOND") ∷ x)
+              rest.whole ∙ sym (append_assoc more.bond_lines (two (codes "END") (codes "BOND") ∷ []) behind));
           count = more.count ∙ sym n;
           of_bonds = inl (record { bond_lines = more.bond_lines; whole = refl; each = more.each });
           passed = rest.passed;
@@ -85,7 +96,8 @@ no_bond_lines [] e = refl
 no_bond_lines (l ∷ lines) e = absurd cc
 
 -- without bonds, the lines of their part are passed over with the others
-tail_from_none : (w : Walk) (bond_part others : List (List Word)) (t : RawTable) → 0 ≡ w.bonds → IsBondPart bond_part [] ⊎ HasNoBondPart bond_part [] → EachIs ends_table false others → joined_by w.table [] ≡ t
+tail_from_none : (w : Walk) (bond_part others : List (List Word)) (t : RawTable) → 0 ≡ w.bonds → IsBondPart bond_part []
+    ⊎ HasNoBondPart bond_part [] → EachIs ends_table false others → joined_by w.table [] ≡ t
     → Runs (behind_atoms w) (bond_part ++ (others ++ two (codes "END") (codes "CTAB") ∷ [])) t
 tail_from_none w bond_part others t n of_bonds passed is =
     let table : w.table ≡ t = after_bonds-table [] w ∙ is in
@@ -101,7 +113,9 @@ tail_from_none w bond_part others t n of_bonds passed is =
     ])
 
 -- with bonds, they stand in their part
-tail_from_some : (w : Walk) (b : BondLine) (bonds : List BondLine) (bond_part others : List (List Word)) (t : RawTable) → suc (length bonds) ≡ w.bonds → IsBondPart bond_part (b ∷ bonds) ⊎ HasNoBondPart bond_part (b ∷ bonds) → EachIs ends_table false others
+tail_from_some : (w : Walk) (b : BondLine) (bonds : List BondLine) (bond_part others : List (List Word)) (t : RawTable)
+    → suc (length bonds) ≡ w.bonds → IsBondPart bond_part (b ∷ bonds) ⊎ HasNoBondPart bond_part (b ∷ bonds)
+    → EachIs ends_table false others
     → joined_by w.table (map (twin_bond w.indexes) (b ∷ bonds)) ≡ t → Runs (behind_atoms w) (bond_part ++ (others ++ two (codes "END") (codes "CTAB") ∷ [])) t
 tail_from_some w b bonds bond_part others t n of_bonds passed is =
     let behind = others ++ two (codes "END") (codes "CTAB") ∷ [] in
@@ -111,12 +125,16 @@ tail_from_some w b bonds bond_part others t n of_bonds passed is =
           let rest = rest_from others (moved phase.InRest (after_bonds v (b ∷ bonds))) t refl passed (after_bonds-table (b ∷ bonds) v ∙ is) in
           let run = bonds_from (b ∷ bonds) v h.bond_lines behind t refl (sym n) h.each rest in
           let whole : bond_part ++ behind ≡ two (codes "BEGIN") (codes "BOND") ∷ (h.bond_lines ++ two (codes "END") (codes "BOND") ∷ behind) =
-          ap (λ (x : List (List Word)). x ++ behind) h.whole ∙ ap (λ (x : List (List Word)). two (codes "BEGIN") (codes "BOND") ∷ x) (append_assoc h.bond_lines (two (codes "END") (codes "BOND") ∷ []) behind) in
+          ap (λ (x : List (List Word)). x ++ behind) h.whole
+          ∙ ap (λ (x : List (List Word)). two (codes "BEGIN") (codes "BOND") ∷ x)
+          (append_assoc h.bond_lines (two (codes "END") (codes "BOND") ∷ []) behind) in
           subst (λ (p : List (List Word)). Runs (moved phase.AtBonds w) p t) (sym whole) (refl, v, begin_bonds (moved phase.AtBonds w), run)
       | inr h ↦ absurd (let e = h.no_bonds in cc)
     ])
 
-pub tail_from : (w : Walk) (bonds : List BondLine) (bond_part others : List (List Word)) (t : RawTable) → length bonds ≡ w.bonds → IsBondPart bond_part bonds ⊎ HasNoBondPart bond_part bonds → EachIs ends_table false others
+pub tail_from : (w : Walk) (bonds : List BondLine) (bond_part others : List (List Word)) (t : RawTable)
+    → length bonds ≡ w.bonds → IsBondPart bond_part bonds ⊎ HasNoBondPart bond_part bonds
+    → EachIs ends_table false others
     → joined_by w.table (map (twin_bond w.indexes) bonds) ≡ t → Runs (behind_atoms w) (bond_part ++ (others ++ two (codes "END") (codes "CTAB") ∷ [])) t
 tail_from w [] bond_part others t n of_bonds passed is = tail_from_none w bond_part others t n of_bonds passed is
 tail_from w (b ∷ bonds) bond_part others t n of_bonds passed is = tail_from_some w b bonds bond_part others t n of_bonds passed is
@@ -128,9 +146,9 @@ pub table_begin : (w : Walk) (words : List Word) (x : Walk) → step_at phase.At
 unfolding step_at
 table_begin w words x h = test_passed (is_pair words (codes "BEGIN") (codes "CTAB")) (Some (moved phase.AtCounts w)) x h
 
-pub counts_read : (w : Walk) (words : List Word) (x : Walk) → step_at phase.AtCounts w words ≡ Some x → (n : PartCounts) × (counts_of words ≡ Some n) × (Some (counted n) ≡ Some x)
+pub counts_read : (w : Walk) (words : List Word) (x : Walk) → step_at phase.AtCounts w words ≡ Some x → (n : PartCounts) × (counts_of_words words ≡ Some n) × (Some (counted n) ≡ Some x)
 unfolding step_at
-counts_read w words x h = both_read (counts_of words) (λ n. Some (counted n)) x h
+counts_read w words x h = both_read (counts_of_words words) (λ n. Some (counted n)) x h
 
 pub atoms_begin : (w : Walk) (words : List Word) (x : Walk) → step_at phase.AtAtoms w words ≡ Some x → (is_pair words (codes "BEGIN") (codes "ATOM") ≡ true) × (Some (moved phase.InAtoms w) ≡ Some x)
 unfolding step_at
@@ -140,7 +158,7 @@ begin_table : (w : Walk) → step_at phase.AtTable w (two (codes "BEGIN") (codes
 unfolding step_at
 begin_table w = refl
 
-read_counts : (w : Walk) (words : List Word) (n : PartCounts) → counts_of words ≡ Some n → step_at phase.AtCounts w words ≡ Some (counted n)
+read_counts : (w : Walk) (words : List Word) (n : PartCounts) → counts_of_words words ≡ Some n → step_at phase.AtCounts w words ≡ Some (counted n)
 unfolding step_at
 read_counts w words n e = rw e refl
 
@@ -158,7 +176,7 @@ pub record HeadRun (lines : List (List Word)) (t : RawTable) : Type 0 where
   pub counts : PartCounts
   pub others : List (List Word)
   pub whole : lines ≡ two (codes "BEGIN") (codes "CTAB") ∷ counts_line ∷ two (codes "BEGIN") (codes "ATOM") ∷ others
-  pub counted_by : counts_of counts_line ≡ Some counts
+  pub counted_by : counts_of_words counts_line ≡ Some counts
   pub runs : Runs (at_atoms counts) others t
 
 -- what was made is what was made
@@ -187,7 +205,7 @@ pub record CountsHead (lines : List (List Word)) (t : RawTable) : Type 0 where
   pub counts : PartCounts
   pub others : List (List Word)
   pub whole : lines ≡ counts_line ∷ others
-  pub counted_by : counts_of counts_line ≡ Some counts
+  pub counted_by : counts_of_words counts_line ≡ Some counts
   pub runs : Runs (counted counts) others t
 
 counts_head : (lines : List (List Word)) (t : RawTable) → Runs (moved phase.AtCounts first_walk) lines t → CountsHead lines t
@@ -206,12 +224,14 @@ head_to (a ∷ lines) t r =
       counts_line = counts.counts_line;
       counts = counts.counts;
       others = atoms.others;
-      whole = ap (λ (x : List Word). x ∷ lines) (pair_is a (codes "BEGIN") (codes "CTAB") h.0) ∙ ap (λ (x : List (List Word)). two (codes "BEGIN") (codes "CTAB") ∷ x) (counts.whole ∙ ap (λ (x : List (List Word)). counts.counts_line ∷ x) atoms.whole);
+      whole = ap (λ (x : List Word). x ∷ lines) (pair_is a (codes "BEGIN") (codes "CTAB") h.0)
+          ∙ ap (λ (x : List (List Word)). two (codes "BEGIN") (codes "CTAB") ∷ x)
+          (counts.whole ∙ ap (λ (x : List (List Word)). counts.counts_line ∷ x) atoms.whole);
       counted_by = counts.counted_by;
       runs = atoms.runs;
     }
 
-pub head_from : (counts_line : List Word) (n : PartCounts) (others : List (List Word)) (t : RawTable) → counts_of counts_line ≡ Some n → Runs (at_atoms n) others t
+pub head_from : (counts_line : List Word) (n : PartCounts) (others : List (List Word)) (t : RawTable) → counts_of_words counts_line ≡ Some n → Runs (at_atoms n) others t
     → Runs first_walk (two (codes "BEGIN") (codes "CTAB") ∷ counts_line ∷ two (codes "BEGIN") (codes "ATOM") ∷ others) t
 head_from counts_line n others t e r =
     (refl, moved phase.AtCounts first_walk, begin_table first_walk, (refl, counted n, read_counts (moved phase.AtCounts first_walk) counts_line n e, (refl, at_atoms n, begin_atoms (counted n), r)))

@@ -65,7 +65,9 @@ left_shorter w x lines rest took =
     omega (arith, ap length t.whole, length-append t.front rest, ap length t.is.whole, length-append t.is.firsts (t.is.last ∷ []))
 
 -- two ways to go on behind a logical line that agree on shorter lines are one
-pub same_step : (w : Walk) (p q : Walk → Part Line Walk) (lines : List Line) → ((x : Walk) (rest : List Line) → length rest < length lines → (p x).read rest ≡ (q x).read rest) → (sequence (one_step w) p).read lines ≡ (sequence (one_step w) q).read lines
+pub same_step : (w : Walk) (p q : Walk → Part Line Walk) (lines : List Line)
+    → ((x : Walk) (rest : List Line) → length rest < length lines → (p x).read rest ≡ (q x).read rest)
+    → (sequence (one_step w) p).read lines ≡ (sequence (one_step w) q).read lines
 same_step w p q lines same = same_behind ((one_step w).read lines) (λ x. (p x).read) (λ x. (q x).read) (λ x rest took. same x rest (left_shorter w x lines rest took))
 
 -- two parts that read alike do so unless nothing more is wanted
@@ -104,7 +106,9 @@ walk_done w lines done = by_count (length lines)
 -- else a logical line is, and then what stands behind it
 pub walk_goes : (w : Walk) (lines : List Line) → is_done w.phase ≡ false → (walk_part w).read lines ≡ (sequence (one_step w) walk_part).read lines
 walk_goes w [] goes = rw goes refl
-walk_goes w (l ∷ lines) goes = rw goes (same_step w (λ x. walks x (length lines)) walk_part (l ∷ lines) (λ x rest lt. let few : length rest < suc (length lines) = lt in (walk_limit x).reads (length lines) rest (omega arith)))
+walk_goes w (l ∷ lines) goes = rw goes (same_step w (λ x. walks x (length lines)) walk_part (l ∷ lines)
+    (λ x rest lt. let few : length rest < suc (length lines) = lt
+    in (walk_limit x).reads (length lines) rest (omega arith)))
 
 -- ---- the table
 

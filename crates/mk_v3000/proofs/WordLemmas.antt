@@ -64,14 +64,17 @@ words_step text k lt blank same =
     sym (ap words_of split ∙ words_behind_blank (get_or text k 0) (drop (k + 1) text) (eq-eqb (get_or text k 0) 32 blank)) ∙ same
 
 -- one more byte that is no blank
-pub run_step : (text : List ℕ) (from k : ℕ) → from ≤ k → k < length text → (get_or text k 0 ≡ 32 → ⊥) → list_all is_other (slice_range text from k) ≡ true → list_all is_other (slice_range text from (k + 1)) ≡ true
+pub run_step : (text : List ℕ) (from k : ℕ) → from ≤ k → k < length text → (get_or text k 0 ≡ 32 → ⊥)
+    → list_all is_other (slice_range text from k) ≡ true → list_all is_other (slice_range text from (k + 1)) ≡ true
 run_step text from k order lt other all =
     ap (list_all is_other) (range_item_more text from k 0 order lt)
     ∙ list_all-append is_other (slice_range text from k) (get_or text k 0 ∷ [])
     ∙ rw (all, ne_eqb (get_or text k 0) 32 other) refl
 
 -- a run of bytes that are none, up to a blank or the end, is the first word
-pub word_cut : (text : List ℕ) (start end : ℕ) → words_of (drop start text) ≡ words_of text → start < end → end ≤ length text → list_all is_other (slice_range text start end) ≡ true → (end < length text → get_or text end 0 ≡ 32)
+pub word_cut : (text : List ℕ) (start end : ℕ) → words_of (drop start text) ≡ words_of text → start < end
+    → end ≤ length text → list_all is_other (slice_range text start end) ≡ true
+    → (end < length text → get_or text end 0 ≡ 32)
     → words_of text ≡ slice_range text start end ∷ words_of (drop end text)
 word_cut text start end same order within all blank =
     let run = slice_range text start end in
@@ -104,28 +107,37 @@ pub none_found : (text : List ℕ) (start : ℕ) → start ≡ length text → w
 none_found text start e same = sym same ∙ ap words_of (drop_all start text (omega (arith, e))) ∙ no_words
 
 -- the word has a byte
-word_begins : (text : List ℕ) (start end : ℕ) → start ≤ length text → (start ≡ length text → ⊥) → (start < length text → eqb (get_or text start 0) 32 ≡ false) → start ≤ end → (end < length text → eqb (get_or text end 0) 32 ≡ true) → start < end
+word_begins : (text : List ℕ) (start end : ℕ) → start ≤ length text → (start ≡ length text → ⊥)
+    → (start < length text → eqb (get_or text start 0) 32 ≡ false) → start ≤ end
+    → (end < length text → eqb (get_or text end 0) 32 ≡ true) → start < end
 word_begins text start end within ne other order blank = elim (cases_lt start end) [
   | inl lt ↦ lt
   | inr le ↦
       let lt : start < length text = below start (length text) within ne in
       let same : end ≡ start = omega arith in
-      absurd (let a = other lt in let b = blank (omega arith) in let c : eqb (get_or text start 0) 32 ≡ true = ap (λ (k : ℕ). eqb (get_or text k 0) 32) (sym same) ∙ b in let d : false ≡ true = sym a ∙ c in cc)
+      absurd (let a = other lt in let b = blank (omega arith)
+      in let c : eqb (get_or text start 0) 32 ≡ true = ap (λ (k : ℕ). eqb (get_or text k 0) 32) (sym same) ∙ b in
+      let d : false ≡ true = sym a ∙ c in cc)
 ]
   where
     below : (a b : ℕ) → a ≤ b → (a ≡ b → ⊥) → a < b
     below a b le ne = elim (cases_lt a b) [ inl lt ↦ lt | inr ge ↦ absurd (ne (omega arith)) ]
 
 -- the rest of the text is what stands behind the word
-pub word_found : (text : List ℕ) (start end : ℕ) → start ≤ length text → (start ≡ length text → ⊥) → words_of (drop start text) ≡ words_of text → (start < length text → eqb (get_or text start 0) 32 ≡ false) → start ≤ end → end ≤ length text
-    → list_all is_other (slice_range text start end) ≡ true → (end < length text → eqb (get_or text end 0) 32 ≡ true) → words_of text ≡ slice_range text start end ∷ words_of (take (length text - end) (drop end text))
+pub word_found : (text : List ℕ) (start end : ℕ) → start ≤ length text → (start ≡ length text → ⊥)
+    → words_of (drop start text) ≡ words_of text → (start < length text → eqb (get_or text start 0) 32 ≡ false)
+    → start ≤ end → end ≤ length text
+    → list_all is_other (slice_range text start end) ≡ true → (end < length text → eqb (get_or text end 0) 32 ≡ true)
+    → words_of text ≡ slice_range text start end ∷ words_of (take (length text - end) (drop end text))
 word_found text start end within ne same other order inside all blank =
     let lt = word_begins text start end within ne other order blank in
     let rest : take (length text - end) (drop end text) ≡ drop end text = take_all (length text - end) (drop end text) (omega (arith, length-drop end text)) in
     word_cut text start end same lt inside all (λ more. eqb-true (get_or text end 0) 32 (blank more)) ∙ ap (λ (ys : List ℕ). slice_range text start end ∷ words_of ys) (sym rest)
 
 -- it is shorter
-pub word_shorter : (text : List ℕ) (start end : ℕ) → start ≤ length text → (start ≡ length text → ⊥) → (start < length text → eqb (get_or text start 0) 32 ≡ false) → start ≤ end → end ≤ length text → (end < length text → eqb (get_or text end 0) 32 ≡ true)
+pub word_shorter : (text : List ℕ) (start end : ℕ) → start ≤ length text → (start ≡ length text → ⊥)
+    → (start < length text → eqb (get_or text start 0) 32 ≡ false) → start ≤ end → end ≤ length text
+    → (end < length text → eqb (get_or text end 0) 32 ≡ true)
     → length (take (length text - end) (drop end text)) < length text
 word_shorter text start end within ne other order inside blank =
     let lt = word_begins text start end within ne other order blank in

@@ -1,6 +1,7 @@
 pub mod LogicalLines
 pub mod WordLines
 pub mod Twin
+pub mod Indexes
 pub mod V3000Table
 pub mod Walk
 pub mod Walking

@@ -12,7 +12,7 @@ use Rattle.mk_v3000.specs.declared.word_lines.AtomLine.{AtomLine}
 use Rattle.mk_v3000.specs.declared.word_lines.BondLine.{BondLine}
 use Rattle.mk_v3000.specs.LogicalLines.{Word, is_logical, goes_on, IsLogicalLine}
 use Rattle.mk_v3000.specs.Twin.{has_index, twin_of}
-use Rattle.mk_v3000.specs.WordLines.{is_pair, counts_of, atom_of, bond_of}
+use Rattle.mk_v3000.specs.WordLines.{is_pair, counts_of_words, atom_of, bond_of}
 
 -- the line begins `M  END`
 unfoldable pub is_end_line : Line → Bool
@@ -51,7 +51,7 @@ pub record AreTable (lines : List (List Word)) (atoms : List AtomLine) (bonds : 
   pub others : List (List Word)
   pub whole : lines ≡ two (codes "BEGIN") (codes "CTAB") ∷ counts_line ∷ two (codes "BEGIN") (codes "ATOM")
       ∷ (atom_lines ++ two (codes "END") (codes "ATOM") ∷ (bond_part ++ (others ++ two (codes "END") (codes "CTAB") ∷ [])))
-  pub counted : counts_of counts_line ≡ Some (record { atoms = length atoms; bonds = length bonds })
+  pub counted : counts_of_words counts_line ≡ Some (record { atoms = length atoms; bonds = length bonds })
   pub each_atom : map atom_of atom_lines ≡ map Some atoms
   pub new : AreNew [] atoms
   pub of_bonds : IsBondPart bond_part bonds ⊎ HasNoBondPart bond_part bonds

@@ -19,7 +19,7 @@ use Rattle.mk_v3000.specs.declared.walk.Phase.TheVariants as phase
 use Rattle.mk_v3000.specs.declared.walk.Walk.{Walk}
 use Rattle.mk_v3000.specs.LogicalLines.{Word}
 use Rattle.mk_v3000.specs.Twin.{has_index, twin_atom, twin_bond, props_of}
-use Rattle.mk_v3000.specs.WordLines.{is_pair, counts_of, atom_of, bond_of}
+use Rattle.mk_v3000.specs.WordLines.{is_pair, counts_of_words, atom_of, bond_of}
 
 -- a table without atoms, bonds, lists and properties
 abbrev pub no_table : RawTable
@@ -74,7 +74,7 @@ behind_atoms w = if w.bonds == 0 then moved phase.InRest w else moved phase.AtBo
 -- what the words make of it at this place
 unfoldable pub step_at : Phase → Walk → List Word → Option Walk
 step_at phase.AtTable w words = when (is_pair words (codes "BEGIN") (codes "CTAB")) (Some (moved phase.AtCounts w))
-step_at phase.AtCounts w words = counts_of words >>= λ n. Some (counted n)
+step_at phase.AtCounts w words = counts_of_words words >>= λ n. Some (counted n)
 step_at phase.AtAtoms w words = when (is_pair words (codes "BEGIN") (codes "ATOM")) (Some (moved phase.InAtoms w))
 step_at phase.InAtoms w words =
     if w.atoms == 0

@@ -1,9 +1,9 @@
 -- Logical lines one by one, by their words.
---     is_pair words a b        the words are these two
---     number_of word           the number of a word, or None
---     counts_of words          the numbers of a `COUNTS` line, or None
---     atom_of words            the atom of an atom line, or None
---     bond_of words            the bond of a bond line, or None
+--     is_pair words a b      the words are these two
+--     number_of word         the number of a word, or None
+--     counts_of_words words  the numbers of a `COUNTS` line, or None
+--     atom_of words          the atom of an atom line, or None
+--     bond_of words          the bond of a bond line, or None
 use Rattle.std.specs.Prelude.{ℕ, zero, suc, ◌==◌, ◌&&◌, ◌||◌, not, nat_le, nat_eq, Bool, true, false, if◌then◌else◌, List, [], ◌∷◌, length, drop, codes, bytes_eq, Option, Some, None, ℤ, pos, negsuc}
 use Rattle.std.specs.List.{starts_with}
 use Rattle.mk_text.specs.Fields.{field_of}
@@ -58,8 +58,8 @@ value_under name valence held (word ∷ words) =
 -- ---- lines
 
 -- `COUNTS`, the number of atoms and the number of bonds, each from 0 to 999, and any words
-unfoldable pub counts_of : List Word → Option PartCounts
-counts_of words =
+unfoldable pub counts_of_words : List Word → Option PartCounts
+counts_of_words words =
     with_first words λ name others.
     when (bytes_eq name (codes "COUNTS"))
     (with_first others λ atom_word others.

@@ -10,6 +10,7 @@
 //! What a table means for a molecule isn't said here, and queries aren't read from V3000.
 #![tactic(auto)]
 
+mod indexes;
 mod laws;
 mod logical_lines;
 mod next_word;

@@ -1,9 +1,9 @@
 // Logical lines in a text, from where the first of their lines begins.
-ghost use Rattle.std.specs.Prelude.{◌≡◌, ◌<◌, ◌≤◌, ◌+◌, drop, length, IfOk};
+ghost use Rattle.std.specs.Prelude.{◌≡◌, ◌<◌, ◌≤◌, ◌+◌, drop, length, IfOk, IfSome};
 ghost use Rattle.std.specs.List.{suffix_len};
 ghost use Rattle.mk_text.specs.LineStart.{IsLineStart};
 ghost use Rattle.mk_text.specs.Lines.{lines_of};
-ghost use Rattle.mk_ctab.specs.TableWalk.{AnswersAt};
+ghost use Rattle.mk_ctab.specs.TableWalk.{AnswersAt, TakesTo};
 ghost use Rattle.mk_v3000.specs.LogicalLines.{is_logical, is_blank_or_cr, without_last, text_behind, ends_with_dash, piece_of};
 ghost use Rattle.mk_v3000.specs.Walking.{texts};
 
@@ -61,6 +61,24 @@ fn piece_of(text: &[u8]) -> &[u8]
         return text;
     }
     &text[..text.len() - 1]
+}
+
+/// The text of the logical line that begins there where it is one line, and where the line behind it
+/// begins; None where it is several lines, or none.
+pub fn one_line_from(text: &[u8], at: LineStart) -> Option<(&[u8], LineStart)>
+    requires { IsLineStart text.now at }
+    ensures value { IfSome result (λ r. TakesTo text.now r.1 r.0.now (texts.read (drop at.line (lines_of text.now)))) }
+    ensures next { IfSome result (λ r. r.1.line ≡ at.line + 1) }
+{
+    let (line, next) = line_from(text, at)?;
+    if !is_logical(line) {
+        return None;
+    }
+    let behind = text_behind(line);
+    if ends_with_dash(behind) {
+        return None;
+    }
+    Some((behind, next))
 }
 
 /// The text of the logical line that begins there, and where the line behind it begins.

@@ -9,7 +9,7 @@ ghost use Rattle.mk_v3000.specs.V3000Table.{is_end_line};
 ghost use Rattle.mk_v3000.specs.Walk.{first_walk, IsFew};
 ghost use Rattle.mk_v3000.specs.Walking.{one_step, walk_part, end_part, v3000_at};
 
-use crate::logical_lines::logical_line_from;
+use crate::logical_lines::{logical_line_from, one_line_from};
 use crate::walk::{Walk, first_walk, is_done, take};
 use mk_ctab::{RawTable, TableFault};
 use mk_props::LineFault;
@@ -69,6 +69,14 @@ fn step_from(
     ensures ahead { IfOk result (λ r. at.line < r.1.line) }
     ensures few { IfOk result (λ r. IsFew r.0) }
 {
+    // Nearly every logical line is one line, whose text isn't copied.
+    if let Some((words, next)) = one_line_from(text, at) {
+        return match take(alloc, walk, words) {
+            Ok(taken) => Ok((taken, next)),
+            Err(LineFault::Bad) => Err(TableFault::Bad { line: at.line + 1 }),
+            Err(LineFault::Memory) => Err(TableFault::Memory),
+        };
+    }
     let (joint, next) = logical_line_from(alloc, text, at)?;
     match take(alloc, walk, joint.as_slice()) {
         Ok(taken) => Ok((taken, next)),

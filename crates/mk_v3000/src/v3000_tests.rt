@@ -2,7 +2,8 @@
 use crate::reading::read_v3000;
 use mk_ctab::{RawTable, TableFault};
 use mk_props::{Pairs, Property};
-use mk_text::lines;
+use mk_text::{lines, put_number};
+use std::alloc::Global;
 use std::test::Fail;
 
 // The table in short, as `in_short` writes it, or the line that is bad.
@@ -15,7 +16,7 @@ enum Want {
 const COUNTS: &str = "  0  0  0     0  0            999 V3000\n";
 
 // Each text stands behind a counts line that says V3000, which is line 1.
-static ROWS: [(&str, &str, Want); 45] = [
+static ROWS: [(&str, &str, Want); 51] = [
     (
         "an atom and its options",
         "M  V30 BEGIN CTAB\nM  V30 COUNTS 1 0 0 0 0\nM  V30 BEGIN ATOM\nM  V30 7 N 0 0 0 0 CHG=1 RAD=2 MASS=15 VAL=4 CFG=1\nM  V30 END ATOM\nM  V30 END CTAB\nM  END\n",
@@ -25,6 +26,11 @@ static ROWS: [(&str, &str, Want); 45] = [
         "atoms by their indexes, and a line in two",
         "M  V30 BEGIN CTAB\nM  V30 COUNTS 2 1 0 0 0\nM  V30 BEGIN ATOM\nM  V30 20 N 0 0 0 0 CHG=1\nM  V30 10 C 1.5 0 0 -\nM  V30 0\nM  V30 END ATOM\nM  V30 BEGIN BOND\nM  V30 1 2 10 20 CFG=1\nM  V30 END BOND\nM  V30 END CTAB\nM  END\n",
         Want::Table("N/0 C/0 2-1=2 chg 1:1"),
+    ),
+    (
+        "indexes that go on from 1, and then others",
+        "M  V30 BEGIN CTAB\nM  V30 COUNTS 4 2 0 0 0\nM  V30 BEGIN ATOM\nM  V30 1 C 0 0 0 0\nM  V30 2 N 0 0 0 0\nM  V30 9 O 0 0 0 0\nM  V30 3 F 0 0 0 0\nM  V30 END ATOM\nM  V30 BEGIN BOND\nM  V30 1 1 2 9\nM  V30 2 1 3 1\nM  V30 END BOND\nM  V30 END CTAB\nM  END\n",
+        Want::Table("C/0 N/0 O/0 F/0 2-3=1 4-1=1"),
     ),
     ("nothing", "", Want::Bad(2)),
     ("no V30", "M  END\n", Want::Bad(2)),
@@ -79,6 +85,21 @@ static ROWS: [(&str, &str, Want); 45] = [
         Want::Bad(6),
     ),
     (
+        "more bonds than are counted",
+        "M  V30 BEGIN CTAB\nM  V30 COUNTS 2 1\nM  V30 BEGIN ATOM\nM  V30 1 C 0 0 0 0\nM  V30 2 C 0 0 0 0\nM  V30 END ATOM\nM  V30 BEGIN BOND\nM  V30 1 1 1 2\nM  V30 2 2 1 2\nM  V30 END BOND\n",
+        Want::Bad(10),
+    ),
+    (
+        "fewer bonds than are counted",
+        "M  V30 BEGIN CTAB\nM  V30 COUNTS 2 2\nM  V30 BEGIN ATOM\nM  V30 1 C 0 0 0 0\nM  V30 2 C 0 0 0 0\nM  V30 END ATOM\nM  V30 BEGIN BOND\nM  V30 1 1 1 2\nM  V30 END BOND\n",
+        Want::Bad(10),
+    ),
+    (
+        "bonds where none is counted are passed over",
+        "M  V30 BEGIN CTAB\nM  V30 COUNTS 2 0\nM  V30 BEGIN ATOM\nM  V30 1 C 0 0 0 0\nM  V30 2 C 0 0 0 0\nM  V30 END ATOM\nM  V30 BEGIN BOND\nM  V30 1 1 1 2\nM  V30 END BOND\nM  V30 END CTAB\nM  END\n",
+        Want::Table("C/0 C/0"),
+    ),
+    (
         "collections and the like are passed over",
         "M  V30 BEGIN CTAB\nM  V30 COUNTS 0 0\nM  V30 BEGIN ATOM\nM  V30 END ATOM\nM  V30 BEGIN SGROUP\nM  V30 1 DAT 0 ATOMS=(1 1) -\nM  V30 FIELDDATA=\"x\"\nM  V30 END SGROUP\nM  V30 BEGIN COLLECTION\nM  V30 MDLV30/STEABS ATOMS=(1 1)\nM  V30 END COLLECTION\nM  V30 END CTAB\nM  END\n",
         Want::Table(""),
@@ -107,6 +128,16 @@ static ROWS: [(&str, &str, Want); 45] = [
         "an index that stands twice",
         "M  V30 BEGIN CTAB\nM  V30 COUNTS 2 0\nM  V30 BEGIN ATOM\nM  V30 5 C 0 0 0 0\nM  V30 5 C 0 0 0 0\n",
         Want::Bad(6),
+    ),
+    (
+        "one of those from 1 on again, behind others",
+        "M  V30 BEGIN CTAB\nM  V30 COUNTS 4 0\nM  V30 BEGIN ATOM\nM  V30 1 C 0 0 0 0\nM  V30 2 C 0 0 0 0\nM  V30 9 C 0 0 0 0\nM  V30 2 C 0 0 0 0\n",
+        Want::Bad(8),
+    ),
+    (
+        "one of the others again",
+        "M  V30 BEGIN CTAB\nM  V30 COUNTS 3 0\nM  V30 BEGIN ATOM\nM  V30 1 C 0 0 0 0\nM  V30 9 C 0 0 0 0\nM  V30 9 C 0 0 0 0\n",
+        Want::Bad(7),
     ),
     (
         "the index 0",
@@ -287,6 +318,44 @@ fn texts_are_a_table_or_have_a_bad_line(rt: HostRuntime) -> Result<(), Fail> {
             }
             _ => assert!(rt; false, "{name}"),
         }
+    }
+    Ok(())
+}
+
+// A chain of 999 atoms whose indexes go down from 999 to 1.
+fn chain_downwards(alloc: Global) -> Result<Vec<u8>, Fail> {
+    let mut text = Vec::from_slice(alloc, COUNTS.as_bytes())?;
+    text.extend_from_slice(b"M  V30 BEGIN CTAB\nM  V30 COUNTS 999 998\nM  V30 BEGIN ATOM\n")?;
+    for i in 0..999u64 {
+        text.extend_from_slice(b"M  V30 ")?;
+        put_number(alloc, &mut text, 999u64.saturating_sub(i))?;
+        text.extend_from_slice(b" C 0 0 0 0\n")?;
+    }
+    text.extend_from_slice(b"M  V30 END ATOM\nM  V30 BEGIN BOND\n")?;
+    for i in 0..998u64 {
+        text.extend_from_slice(b"M  V30 1 1 ")?;
+        put_number(alloc, &mut text, 999u64.saturating_sub(i))?;
+        text.extend_from_slice(b" ")?;
+        put_number(alloc, &mut text, 998u64.saturating_sub(i))?;
+        text.extend_from_slice(b"\n")?;
+    }
+    text.extend_from_slice(b"M  V30 END BOND\nM  V30 END CTAB\nM  END\n")?;
+    Ok(text)
+}
+
+#[test]
+fn atoms_that_are_counted_downwards_are_found(rt: HostRuntime) -> Result<(), Fail> {
+    let text = chain_downwards(rt.alloc())?;
+    let spans = lines(rt.alloc(), text.as_slice())?;
+    let (table, next) = read_v3000(rt.alloc(), text.as_slice(), &spans, 0)?;
+    assert_eq!(rt; next, spans.len());
+    assert_eq!(rt; table.atoms.as_slice().len(), 999);
+    assert_eq!(rt; table.bonds.as_slice().len(), 998);
+    let mut place = 0i32;
+    for bond in table.bonds.as_slice() {
+        place = place.saturating_add(1);
+        assert_eq!(rt; bond.first, place);
+        assert_eq!(rt; bond.second, place.saturating_add(1));
     }
     Ok(())
 }

@@ -1,13 +1,14 @@
 // A table as far as it has been read, logical line by logical line.
-ghost use Rattle.std.specs.Prelude.{◌≡◌, ◌≤◌, ◌<◌, ◌++◌, ◌∷◌, [], Some, pos, IfOk, OnOk, length};
+ghost use Rattle.std.specs.Prelude.{◌≡◌, ◌≤◌, ◌++◌, ◌∷◌, [], false, Some, IfOk, OnOk, length};
 ghost use Rattle.mk_text.specs.Lines.{words_of};
 ghost use Rattle.mk_props.specs.Reading.{Gives};
 ghost use Rattle.mk_props.specs.declared.property.Property.TheVariants as kinds;
 ghost use Rattle.mk_text.specs.Options.{when};
-ghost use Rattle.mk_v3000.specs.Twin.{has_index, valence_column, twin_bond, place_from, value_prop, props_of};
+ghost use Rattle.mk_v3000.specs.Twin.{has_index, valence_column, twin_bond, value_prop, props_of};
 ghost use Rattle.mk_v3000.specs.Walk.{first_walk, moved, counted, with_atom, with_bond, behind_atoms, step_at, step, is_done, IsFew};
 ghost use Rattle.mk_v3000.specs.declared.walk.Phase.TheVariants as phase;
 
+use crate::indexes::Indexes;
 use crate::word_lines::{
     AtomLine, BondLine, PartCounts, is_pair, read_atom, read_bond, read_counts,
 };
@@ -36,18 +37,19 @@ pub struct Walk {
     pub phase: Phase,
     pub atoms: usize,
     pub bonds: usize,
-    pub indexes: Listed<i32>,
+    pub indexes: Indexes,
     pub table: RawTable,
 }
 
-fn walk_of(alloc: Global, phase: Phase, counts: PartCounts) -> Walk
-    ensures { result ≡ (record { phase = phase; atoms = counts.atoms; bonds = counts.bonds; indexes = []; table = record { atoms = []; bonds = []; lists = []; props = [] } }) }
+/// Nothing has been read.
+pub fn first_walk(alloc: Global) -> Walk
+    ensures { result ≡ first_walk }
 {
     Walk {
-        phase,
-        atoms: counts.atoms,
-        bonds: counts.bonds,
-        indexes: Listed::new(alloc),
+        phase: Phase::AtTable,
+        atoms: 0,
+        bonds: 0,
+        indexes: Indexes::new(alloc),
         table: RawTable {
             atoms: Listed::new(alloc),
             bonds: Listed::new(alloc),
@@ -57,11 +59,24 @@ fn walk_of(alloc: Global, phase: Phase, counts: PartCounts) -> Walk
     }
 }
 
-/// Nothing has been read.
-pub fn first_walk(alloc: Global) -> Walk
-    ensures { result ≡ first_walk }
+// The counts have been read; there is room for so many atoms and bonds.
+fn counted(alloc: Global, counts: PartCounts) -> Result<Walk, Memory>
+    ensures { IfOk result (λ w. w ≡ counted counts) }
 {
-    walk_of(alloc, Phase::AtTable, PartCounts { atoms: 0, bonds: 0 })
+    let atoms = Vec::with_capacity(alloc, counts.atoms)?;
+    let bonds = Vec::with_capacity(alloc, counts.bonds)?;
+    Ok(Walk {
+        phase: Phase::AtAtoms,
+        atoms: counts.atoms,
+        bonds: counts.bonds,
+        indexes: Indexes::new(alloc),
+        table: RawTable {
+            atoms: Listed::of(atoms),
+            bonds: Listed::of(bonds),
+            lists: Listed::new(alloc),
+            props: Listed::new(alloc),
+        },
+    })
 }
 
 /// Whether the end has been read.
@@ -90,32 +105,6 @@ fn moved_if(walk: Walk, is_due: bool, phase: Phase) -> Result<Walk, LineFault>
         return Err(LineFault::Bad);
     }
     Ok(moved(walk, phase))
-}
-
-#[tactic(auto, using(crate::proofs::PushLemmas::has_here, crate::proofs::PushLemmas::has_past, crate::proofs::PushLemmas::has_end))]
-fn has_index(indexes: &[i32], index: i32) -> bool
-    ensures { result ≡ has_index indexes.now index }
-{
-    for i in 0..indexes.len() {
-        if indexes[i] == index {
-            return true;
-        }
-    }
-    false
-}
-
-// The place of the atom with this index, or 0.
-#[tactic(auto, using(crate::proofs::PushLemmas::place_here, crate::proofs::PushLemmas::place_past, crate::proofs::PushLemmas::place_end))]
-fn place_of(indexes: &[i32], index: i32) -> i32
-    requires { length indexes.now ≤ 999 }
-    ensures { result ≡ place_from 1 indexes.now index }
-{
-    for i in 0..indexes.len() {
-        if indexes[i] == index {
-            return (i + 1) as i32;
-        }
-    }
-    0
 }
 
 fn valence_column(valence: i32) -> i32
@@ -205,10 +194,11 @@ fn push_props(
 fn add_atom(alloc: Global, walk: Walk, atom: AtomLine) -> Result<Walk, Memory>
     requires few { length walk.indexes ≤ 999 }
     requires more { 1 ≤ walk.atoms }
+    requires new { has_index walk.indexes atom.index ≡ false }
     ensures { IfOk result (λ w. w ≡ with_atom walk atom) }
 {
     let mut walk = walk;
-    let place = walk.indexes.as_slice().len() + 1;
+    let place = walk.indexes.size() + 1;
     push_props(alloc, &mut walk.table.props, place, &atom)?;
     walk.indexes.push(atom.index)?;
     walk.table.atoms.push(RawAtom {
@@ -222,13 +212,13 @@ fn add_atom(alloc: Global, walk: Walk, atom: AtomLine) -> Result<Walk, Memory>
     Ok(walk)
 }
 
-fn twin_bond(indexes: &[i32], bond: BondLine) -> RawBond
+fn twin_bond(indexes: &Indexes, bond: BondLine) -> RawBond
     requires { length indexes.now ≤ 999 }
     ensures { result ≡ twin_bond indexes.now bond }
 {
     RawBond {
-        first: place_of(indexes, bond.first),
-        second: place_of(indexes, bond.second),
+        first: indexes.place_of(bond.first),
+        second: indexes.place_of(bond.second),
         kind: bond.kind,
         topology: 0,
     }
@@ -240,7 +230,7 @@ fn add_bond(walk: Walk, bond: BondLine) -> Result<Walk, Memory>
     ensures { IfOk result (λ w. w ≡ with_bond walk bond) }
 {
     let mut walk = walk;
-    let twin = twin_bond(walk.indexes.as_slice(), bond);
+    let twin = twin_bond(&walk.indexes, bond);
     walk.table.bonds.push(twin)?;
     walk.bonds -= 1;
     walk.phase = Phase::InBonds;
@@ -263,7 +253,7 @@ fn take_counts(alloc: Global, walk: Walk, text: &[u8]) -> Result<Walk, LineFault
     let Some(counts) = read_counts(text) else {
         return Err(LineFault::Bad);
     };
-    Ok(walk_of(alloc, Phase::AtAtoms, counts))
+    Ok(counted(alloc, counts)?)
 }
 
 #[tactic(auto, unfolding(crate::specs::Walk::step_at))]
@@ -278,7 +268,7 @@ fn take_atom(alloc: Global, walk: Walk, text: &[u8]) -> Result<Walk, LineFault>
         return Ok(behind_atoms(walk));
     }
     let atom = read_atom(alloc, text)?;
-    if has_index(walk.indexes.as_slice(), atom.index) {
+    if walk.indexes.has(atom.index) {
         return Err(LineFault::Bad);
     }
     Ok(add_atom(alloc, walk, atom)?)

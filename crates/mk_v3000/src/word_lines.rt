@@ -2,7 +2,7 @@
 ghost use Rattle.std.specs.Prelude.{◌≡◌, ◌≤◌, ◌<◌, ◌∷◌, ◌&&◌, ◌||◌, [], IfNone, IfSome, length, not, pos, nat_eq};
 ghost use Rattle.mk_text.specs.Lines.{words_of};
 ghost use Rattle.mk_props.specs.Reading.{Gives};
-ghost use Rattle.mk_v3000.specs.WordLines.{is_pair, number_of, count_of, is_valence, value_under, counts_of, atom_with, atom_of, bond_of};
+ghost use Rattle.mk_v3000.specs.WordLines.{is_pair, number_of, count_of, is_valence, value_under, counts_of_words, atom_with, atom_of, bond_of};
 
 use crate::next_word::next_word;
 use mk_props::LineFault;
@@ -99,9 +99,9 @@ fn value_under(options: &[u8], name: &[u8], valence: bool) -> Option<i32>
 }
 
 // COUNTS aaa bbb ..   the numbers of atoms and of bonds
-#[tactic(auto, unfolding(crate::specs::WordLines::counts_of))]
+#[tactic(auto, unfolding(crate::specs::WordLines::counts_of_words))]
 pub fn read_counts(text: &[u8]) -> Option<PartCounts>
-    ensures value { result ≡ counts_of (words_of text.now) }
+    ensures value { result ≡ counts_of_words (words_of text.now) }
     ensures few { IfSome result (λ n. (n.atoms ≤ 999) × (n.bonds ≤ 999)) }
 {
     let (name, rest) = next_word(text)?;

@@ -13,4 +13,6 @@ pub returns-in-Err-Bad : goal.returns-in-Err-Bad
 returns-in-Err-Bad c = molecule_stops (lines_of c.args.text.now) c.args.at.line c.in-Err-Bad.line (rw c.in-Err-Bad.field-0-is at c.in-Err-Bad.ensures)
 
 pub returns-in-Err-V3000 : goal.returns-in-Err-V3000
-returns-in-Err-V3000 c = subst (AnswersAt c.args.text.now c.v3000_molfile_from.result) (v3000_same (lines_of c.args.text.now) c.args.at.line _ (rw c.in-Err-V3000.field-0-is at c.in-Err-V3000.ensures)) c.v3000_molfile_from.ensures
+returns-in-Err-V3000 c = subst (AnswersAt c.args.text.now c.v3000_molfile_from.result)
+    (v3000_same (lines_of c.args.text.now) c.args.at.line _ (rw c.in-Err-V3000.field-0-is at c.in-Err-V3000.ensures))
+    c.v3000_molfile_from.ensures

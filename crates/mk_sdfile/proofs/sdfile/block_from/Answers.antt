@@ -10,4 +10,5 @@ kept_lines_between-requires-clause-order c =
     omega arith
 
 pub returns : goal.returns
-returns c = block_answer c.args.text.now c.args.at.line c.in_ok-table.behind c.in_ok-table.table c.data_from-data.result c.of.result c.requires.counted c.in_ok-table.ensures c.data_from-data.ensures (c.of.ensures ∙ c.in_ok-kept.ensures)
+returns c = block_answer c.args.text.now c.args.at.line c.in_ok-table.behind c.in_ok-table.table c.data_from-data.result
+    c.of.result c.requires.counted c.in_ok-table.ensures c.data_from-data.ensures (c.of.ensures ∙ c.in_ok-kept.ensures)

@@ -8,15 +8,21 @@ use Rattle.mk_v3000.proofs.LiveLemmas.{exact-v3000}
 use Rattle.mk_v3000.proofs.reading.read_v3000.Goals as goal
 
 pub returns-clause-table : goal.returns-clause-table
-returns-clause-table c = part_by exact-v3000 (lines_of c.args.text.now) c.args.at (line_there c.args.text.now c.args.lines.now c.args.at c.requires.lines c.requires.there) c.v3000_of_line.result c.v3000_of_line.ensures
+returns-clause-table c = part_by exact-v3000 (lines_of c.args.text.now) c.args.at
+    (line_there c.args.text.now c.args.lines.now c.args.at c.requires.lines c.requires.there) c.v3000_of_line.result
+    c.v3000_of_line.ensures
 
 pub returns-clause-bad : goal.returns-clause-bad
-returns-clause-bad c = bad_from_by exact-v3000 (lines_of c.args.text.now) c.args.at (line_there c.args.text.now c.args.lines.now c.args.at c.requires.lines c.requires.there) c.v3000_of_line.result c.v3000_of_line.ensures
+returns-clause-bad c = bad_from_by exact-v3000 (lines_of c.args.text.now) c.args.at
+    (line_there c.args.text.now c.args.lines.now c.args.at c.requires.lines c.requires.there) c.v3000_of_line.result
+    c.v3000_of_line.ensures
 
 pub returns-clause-unnamed : goal.returns-clause-unnamed
 returns-clause-unnamed c =
     never_named (lines_of c.args.text.now) c.args.at c.v3000_of_line.result
-    (named_from_by exact-v3000 (lines_of c.args.text.now) c.args.at (line_there c.args.text.now c.args.lines.now c.args.at c.requires.lines c.requires.there) c.v3000_of_line.result c.v3000_of_line.ensures)
+    (named_from_by exact-v3000 (lines_of c.args.text.now) c.args.at
+    (line_there c.args.text.now c.args.lines.now c.args.at c.requires.lines c.requires.there) c.v3000_of_line.result
+    c.v3000_of_line.ensures)
 
 pub returns-clause-keeps : goal.returns-clause-keeps
 returns-clause-keeps c =

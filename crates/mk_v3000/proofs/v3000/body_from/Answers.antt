@@ -11,17 +11,24 @@ loop-alloc-preserved c =
     record {
       start = taken.ensures.value.start;
       few = taken.ensures.few;
-      left = walk_more lines c.args.from.line c.loop-alloc.at.line c.loop-alloc.walk c.loop-alloc.invariant.left taken.next.line taken.taken (sym c.is_done.ensures ∙ c.loop-alloc-test.true) taken.ensures.value.takes;
+      left = walk_more lines c.args.from.line c.loop-alloc.at.line c.loop-alloc.walk c.loop-alloc.invariant.left
+          taken.next.line taken.taken (sym c.is_done.ensures ∙ c.loop-alloc-test.true) taken.ensures.value.takes;
     }
 
 pub returns-in_err-taken : goal.returns-in_err-taken
 returns-in_err-taken c =
     let lines = lines_of c.args.text.now in
     let fault = err_from_is_err_and c.from_residual.result c.from_residual.ensures.1 in
-    rw (fault.1, fault.2) (walk_fails lines c.args.from.line c.loop-alloc.at.line c.loop-alloc.walk c.loop-alloc.invariant.left c.in_err-taken.field-0.0 (sym c.is_done.ensures ∙ c.loop-alloc-test.true) c.in_err-taken.ensures.value)
+    rw (fault.1, fault.2) (walk_fails lines c.args.from.line c.loop-alloc.at.line c.loop-alloc.walk
+    c.loop-alloc.invariant.left c.in_err-taken.field-0.0 (sym c.is_done.ensures ∙ c.loop-alloc-test.true)
+    c.in_err-taken.ensures.value)
 
 pub returns : goal.returns
 returns c =
     let lines = lines_of c.args.text.now in
     let start = c.loop-alloc.invariant.start in
-    record { takes = walk_ends lines c.args.from.line c.loop-alloc.at.line c.loop-alloc.walk c.loop-alloc.invariant.left start.counted (sym c.is_done.ensures ∙ c.loop-alloc-test.false); start = start }
+    record {
+      takes = walk_ends lines c.args.from.line c.loop-alloc.at.line c.loop-alloc.walk c.loop-alloc.invariant.left
+          start.counted (sym c.is_done.ensures ∙ c.loop-alloc-test.false);
+      start = start;
+    }

@@ -27,7 +27,8 @@ returns-in_err-next-2 c =
     let lines = lines_of c.args.text.now in
     let fault = err_from_is_err_and c.from_residual-in_err-next-2.result c.from_residual-in_err-next-2.ensures.1 in
     let walk = c.in_ok-walk in
-    rw (fault.1, fault.2) (table_fails lines c.args.at.line c.in_ok-next.next.line c.in_ok-next.ensures.takes walk.next.line walk.walk walk.ensures.takes c.in_err-next-2.field-0.0 c.in_err-next-2.ensures)
+    rw (fault.1, fault.2) (table_fails lines c.args.at.line c.in_ok-next.next.line c.in_ok-next.ensures.takes
+    walk.next.line walk.walk walk.ensures.takes c.in_err-next-2.field-0.0 c.in_err-next-2.ensures)
 
 pub returns : goal.returns
 returns c =
