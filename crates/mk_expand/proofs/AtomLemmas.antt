@@ -1,6 +1,6 @@
 -- The atoms of an expansion.
 --     copies_are            copies with their free ends, by the list of these
---     atoms_more            the atoms of one atom of the template more
+--     copies_at, piece_at   what the atom at a place becomes, by the lists that the code keeps
 use Rattle.std.proofs.Common.{◌≡◌, ◌∙◌, ℕ, zero, suc, ◌+◌, ◌-◌, ◌<◌, ◌≤◌, List, [], ◌∷◌, ◌++◌, length, get_or, refl, sym, ap, arith, add-one}
 use Rattle.std.proofs.lemmas.List.{get_or_default}
 use Rattle.mk_model.specs.declared.atom_test.AtomTest.{AtomTest}
@@ -8,11 +8,10 @@ use Rattle.mk_model.specs.declared.graph.GraphAtom.{GraphAtom}
 use Rattle.mk_model.specs.Pieces.{Piece}
 use Rattle.mk_model.specs.Pieces.Piece.{Copies, Member, Hydrogens, Nothing}
 use Rattle.mk_model.specs.Templates.{TemplateView}
-use Rattle.mk_model.specs.Pieces.{room, taker, width, piece, piece_numbered}
+use Rattle.mk_model.specs.Pieces.{room, taker, width, piece_numbered}
 use Rattle.mk_model.specs.Expansions.{free_ends, copies, atoms_of, atoms_of_piece, anything}
 use Rattle.mk_expand.specs.Laid.{AreFrees, IsLaid, piece_atoms, with_frees}
-use Rattle.mk_expand.proofs.NumberLemmas.{flat_more, mapped_more}
-use Rattle.mk_expand.proofs.LaidLemmas.{room_more, room_within}
+use Rattle.mk_pieces.proofs.ForCallers.{atoms_more, mapped_more, room_more, room_within}
 
 pub with_none : (frees : List ℕ) (test : AtomTest) (x : ℕ) → with_frees frees test x 0 ≡ []
 unfolding with_frees
@@ -34,16 +33,8 @@ copies_are template pieces frees test x (suc n) are within =
     let free : get_or frees (x + n) 0 ≡ free_ends template pieces template.slots pieces (x + (n + 1)) = are.each (x + n) (omega arith) ∙ ap (free_ends template pieces template.slots pieces) place in
     rw (rest, free) (sym (ap (λ k. copies template pieces test x k) next ∙ mapped_more (λ j. record { test = test; free = free_ends template pieces template.slots pieces (x + j) }) n))
 
--- one atom more
-pub atoms_none : (template : TemplateView) (pieces : List Piece) → atoms_of template pieces 0 ≡ []
-unfolding atoms_of
-atoms_none template pieces = refl
-
-pub atoms_more : (template : TemplateView) (pieces : List Piece) (i : ℕ) → atoms_of template pieces (i + 1) ≡ atoms_of template pieces i ++ atoms_of_piece template pieces (i + 1) (piece template pieces (i + 1))
-unfolding atoms_of
-atoms_more template pieces i = flat_more (λ x. atoms_of_piece template pieces x (piece template pieces x)) i
-
-module _ (template : TemplateView) (pieces : List Piece) (takers befores frees : List ℕ) (laid : IsLaid template pieces takers befores) (are : AreFrees template pieces frees) (i : ℕ) (below : i < length template.atoms) where
+module _ (template : TemplateView) (pieces : List Piece) (takers befores frees : List ℕ) (laid : IsLaid template pieces takers befores) (are : AreFrees template pieces frees) (i : ℕ)
+    (below : i < length template.atoms) where
   taken : get_or takers i 0 ≡ taker template (i + 1)
   taken = laid.taken.each i (omega (arith, laid.taken.size))
 
@@ -76,5 +67,6 @@ module _ (template : TemplateView) (pieces : List Piece) (takers befores frees :
   piece_at Nothing test is at = rw (← is) refl
 
   -- one atom more, by the lists
-  pub atoms_step : (out new : List GraphAtom) → new ≡ out ++ atoms_of_piece template pieces (i + 1) (piece_numbered pieces (get_or takers i 0)) → out ≡ atoms_of template pieces i → new ≡ atoms_of template pieces (i + 1)
+  pub atoms_step : (out new : List GraphAtom) → new ≡ out ++ atoms_of_piece template pieces (i + 1) (piece_numbered pieces (get_or takers i 0)) → out ≡ atoms_of template pieces i
+      → new ≡ atoms_of template pieces (i + 1)
   atoms_step out new is so_far = rw (atoms_more, ← taken, ← so_far) is

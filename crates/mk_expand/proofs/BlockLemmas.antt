@@ -9,7 +9,8 @@ use Rattle.std.specs.Prelude.{filter}
 use Rattle.mk_model.specs.Sizes.{takes_atom}
 use Rattle.mk_model.specs.Templates.{TemplateView, hang_together}
 use Rattle.mk_model.specs.Pieces.{taker, taker_from}
-use Rattle.mk_expand.specs.Blocks.{AreEndsWithin, AreLabels, merged, taken_by, takes}
+use Rattle.mk_pieces.specs.Rooms.{AreEndsWithin}
+use Rattle.mk_expand.specs.Blocks.{AreLabels, merged, taken_by, takes}
 use Rattle.mk_expand.specs.Laid.{AreTakers}
 
 -- ---- takers
@@ -62,11 +63,13 @@ left_more template k old new labels d below is size each left = record {
   size = size ∙ left.size;
   each = λ i inside.
       let inside' : i < length old = omega arith in
-      let step = step_by template (get_or template.slots k d) (drop (k + 1) template.slots) (k + 1) (k + 1 + 1) (i + 1) (get_or old i 0) (takes labels (get_or template.slots k d) (i + 1)) (is i inside') refl (omega arith) in
+      let step = step_by template (get_or template.slots k d) (drop (k + 1) template.slots) (k + 1) (k + 1 + 1) (i + 1) (get_or old i 0) (takes labels (get_or template.slots k d) (i + 1))
+      (is i inside') refl (omega arith) in
       let here = rw (drop_more template.slots k d below) at (left.each i inside') in
       let now = each i inside' in
       rw now (sym step ∙ here);
-  within = λ i inside. (let inside' : i < length old = omega arith in let now = each i inside' in let here = left.within i inside' in rw now (within_by (k + 1) (get_or old i 0) _ (omega (arith, here)) (omega arith)));
+  within = λ i inside. (let inside' : i < length old = omega arith in let now = each i inside' in let here = left.within i inside' in
+      rw now (within_by (k + 1) (get_or old i 0) _ (omega (arith, here)) (omega arith)));
 }
   where
     within_by : (n t : ℕ) (b : Bool) → t ≤ k + 1 → n ≤ k + 1 → cond b n t ≤ k + 1
@@ -94,7 +97,8 @@ labels_none labels are i j below below' = rw (are i below, are j below') (same_b
     same_by : (a b : ℕ) → eqb a b ≡ eqb (a + 1) (b + 1)
     same_by a b = elim (cases_eq a b) [
       | inl same ↦ (let same' : a + 1 ≡ b + 1 = omega arith in let one : eqb a b ≡ true = grind (arith, nat_tests) in let two : eqb (a + 1) (b + 1) ≡ true = grind (arith, nat_tests) in one ∙ sym two)
-      | inr other ↦ (let other' : a + 1 ≢ b + 1 = λ e. other (omega arith) in let one : eqb a b ≡ false = grind (arith, nat_tests) in let two : eqb (a + 1) (b + 1) ≡ false = grind (arith, nat_tests) in one ∙ sym two)
+      | inr other ↦ (let other' : a + 1 ≢ b + 1 = λ e. other (omega arith) in let one : eqb a b ≡ false = grind (arith, nat_tests) in let two : eqb (a + 1) (b + 1) ≡ false =
+          grind (arith, nat_tests) in one ∙ sym two)
     ]
 
 -- the labels of two ends become one
@@ -147,7 +151,8 @@ labels_more bonds bond old new ends size each are i j below below' =
     ∙ rw (are i j i_in j_in, are i f i_in f_in, are s j s_in j_in, are i s i_in s_in, are f j f_in j_in, ff, ss) refl)
 
 -- one bond more of those that are kept, from the last one on
-pub labels_before : (p : QueryBond → Bool) (bonds : List QueryBond) (k j : ℕ) (d : QueryBond) (old new : List ℕ) → j + 1 ≡ k → k ≤ length bonds → p (get_or bonds j d) ≡ true → AreEndsWithin (length old) (get_or bonds j d) → length new ≡ length old
+pub labels_before : (p : QueryBond → Bool) (bonds : List QueryBond) (k j : ℕ) (d : QueryBond) (old new : List ℕ) → j + 1 ≡ k → k ≤ length bonds → p (get_or bonds j d) ≡ true
+    → AreEndsWithin (length old) (get_or bonds j d) → length new ≡ length old
     → ((i : ℕ) → i < length old → get_or new i 0 ≡ merged (get_or old ((get_or bonds j d).second - 1) 0) (get_or old ((get_or bonds j d).first - 1) 0) (get_or old i 0))
     → AreLabels (filter p (drop k bonds)) old → AreLabels (filter p (drop j bonds)) new
 labels_before p bonds k j d old new next up_to is ends size each are =

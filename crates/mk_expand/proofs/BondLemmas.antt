@@ -7,10 +7,11 @@ use Rattle.mk_model.specs.Pieces.{Piece}
 use Rattle.mk_model.specs.declared.template.QueryBond.{QueryBond}
 use Rattle.mk_model.specs.declared.template.Slot.{Slot}
 use Rattle.mk_model.specs.Templates.{TemplateView, slot_atom}
-use Rattle.mk_model.specs.Pieces.{taker, room, before, width, piece, piece_numbered, ending}
-use Rattle.mk_model.specs.Expansions.{is_inside, copied, chained, drawn, spanned, bond_between, bonds_within, all_within}
-use Rattle.mk_expand.specs.Laid.{IsLaid, IsWithin, StandsAt}
-use Rattle.mk_expand.proofs.NumberLemmas.{mapped_more}
+use Rattle.mk_model.specs.Pieces.{taker, room, before, width, piece_numbered, ending}
+use Rattle.mk_model.specs.Expansions.{copied, chained, drawn, spanned, bond_between, bonds_within, all_within}
+use Rattle.mk_expand.specs.Laid.{IsLaid}
+use Rattle.mk_pieces.specs.Rooms.{IsWithin, StandsAt}
+use Rattle.mk_pieces.proofs.ForCallers.{drawn_inside, drawn_outside, mapped_more}
 use Rattle.mk_expand.proofs.LaidLemmas.{before_is, before_small, taker_is}
 
 -- ---- rows of bonds
@@ -31,23 +32,12 @@ pub chained_more : (bond : QueryBond) (x n : ℕ) → chained bond x (n + 1) ≡
 unfolding chained
 chained_more bond x n = mapped_more (λ j. record { first = x + j; second = x + j + 1; kind = bond.kind; topology = bond.topology }) n
 
--- ---- a bond of the template
-
-pub drawn_inside : (template : TemplateView) (pieces : List Piece) (bond : QueryBond) → is_inside template bond ≡ true
-    → drawn template pieces bond ≡ copied bond (before template pieces bond.first) (before template pieces bond.second) (width (piece template pieces bond.first))
-unfolding drawn
-drawn_inside template pieces bond inside = rw inside refl
-
-pub drawn_outside : (template : TemplateView) (pieces : List Piece) (bond : QueryBond) → is_inside template bond ≡ false
-    → drawn template pieces bond ≡ spanned (piece template pieces bond.first) (piece template pieces bond.second) bond (ending template pieces bond.first bond.second) (ending template pieces bond.second bond.first)
-unfolding drawn
-drawn_outside template pieces bond outside = rw outside refl
-
 -- ---- slot after slot
 
 pub within_more : (template : TemplateView) (pieces : List Piece) (slots : List Slot) (ps : List Piece) (k : ℕ) (slot : Slot) (p : Piece) → k < length slots → k < length ps
     → slot ≡ get_or slots k slot → p ≡ get_or ps k p
-    → all_within template pieces (drop k slots) (drop k ps) ≡ bonds_within template.bonds (before template pieces (slot_atom slot)) slot p ++ all_within template pieces (drop (k + 1) slots) (drop (k + 1) ps)
+    → all_within template pieces (drop k slots) (drop k ps)
+    ≡ bonds_within template.bonds (before template pieces (slot_atom slot)) slot p ++ all_within template pieces (drop (k + 1) slots) (drop (k + 1) ps)
 unfolding all_within
 within_more template pieces slots ps k slot p below below' at at' = rw (drop_more slots k slot below, drop_more ps k p below', ← at, ← at') refl
 
@@ -82,15 +72,22 @@ module _ (template : TemplateView) (pieces : List Piece) (takers befores : List 
     | inr some ↦ (let other : s ≢ t = h some in grind (arith, nat_tests))
   ]
 
-  pub drawn_copied : get_or takers (bond.first - 1) 0 ≢ 0 → get_or takers (bond.first - 1) 0 ≡ get_or takers (bond.second - 1) 0 → (count : ℕ) → count ≡ width (piece_numbered pieces (get_or takers (bond.first - 1) 0))
+  pub drawn_copied : get_or takers (bond.first - 1) 0 ≢ 0 → get_or takers (bond.first - 1) 0 ≡ get_or takers (bond.second - 1) 0 → (count : ℕ)
+      → count ≡ width (piece_numbered pieces (get_or takers (bond.first - 1) 0))
       → drawn template pieces bond ≡ copied bond (get_or befores (bond.first - 1) 0) (get_or befores (bond.second - 1) 0) count
   drawn_copied some same count wide =
       let some' : taker template bond.first ≢ 0 = λ none. some (first_taker ∙ none) in
       let inside = inside_by (taker template bond.first) (taker template bond.second) some' (sym first_taker ∙ same ∙ second_taker) in
-      rw (before_is template pieces takers befores laid bond.first 0 within.first.0 within.first.1, before_is template pieces takers befores laid bond.second 0 within.second.0 within.second.1, wide, first_taker)
+      rw (
+        before_is template pieces takers befores laid bond.first 0 within.first.0 within.first.1,
+        before_is template pieces takers befores laid bond.second 0 within.second.0 within.second.1,
+        wide,
+        first_taker,
+      )
       (drawn_inside template pieces bond inside)
 
-  pub drawn_spanned : (get_or takers (bond.first - 1) 0 ≢ 0 → get_or takers (bond.first - 1) 0 ≢ get_or takers (bond.second - 1) 0) → (x y : ℕ) → x ≡ ending template pieces bond.first bond.second → y ≡ ending template pieces bond.second bond.first
+  pub drawn_spanned : (get_or takers (bond.first - 1) 0 ≢ 0 → get_or takers (bond.first - 1) 0 ≢ get_or takers (bond.second - 1) 0) → (x y : ℕ) → x ≡ ending template pieces bond.first bond.second
+      → y ≡ ending template pieces bond.second bond.first
       → drawn template pieces bond ≡ spanned (piece_numbered pieces (get_or takers (bond.first - 1) 0)) (piece_numbered pieces (get_or takers (bond.second - 1) 0)) bond x y
   drawn_spanned apart x y at at' =
       let outside = outside_by (taker template bond.first) (taker template bond.second) (λ some same. apart (λ none. some (sym first_taker ∙ none)) (first_taker ∙ same ∙ sym second_taker)) in
@@ -98,7 +95,8 @@ module _ (template : TemplateView) (pieces : List Piece) (takers befores : List 
 
 -- ---- slot after slot, by the lists that the code keeps
 
-module _ (template : TemplateView) (pieces : List Piece) (takers befores : List ℕ) (laid : IsLaid template pieces takers befores) (stand : All (StandsAt template) template.slots) (k : ℕ) (below : k < length template.slots) where
+module _ (template : TemplateView) (pieces : List Piece) (takers befores : List ℕ) (laid : IsLaid template pieces takers befores) (stand : All (StandsAt template) template.slots) (k : ℕ)
+    (below : k < length template.slots) where
   pub stands : (d : Slot) → StandsAt template (get_or template.slots k d)
   stands d = stand k d below
 

@@ -11,7 +11,8 @@ use Rattle.mk_model.specs.Codes.Choice.{done, repeated, unfilled, filled}
 use Rattle.mk_model.specs.Expansions.{pieces_of}
 use Rattle.mk_model.specs.Queries.{QueryView}
 use Rattle.mk_model.proofs.ForCallers.{one_choice}
-use Rattle.mk_expand.specs.Choosing.{AreChosen, Begins}
+use Rattle.mk_expand.specs.Choosing.{AreChosen}
+use Rattle.mk_pieces.specs.Begun.{Begins}
 
 -- The first k slots have become these pieces by the numbers between two places, and the code goes on with a choice at the
 -- others; both together are a choice at all slots.
@@ -101,14 +102,16 @@ module _ (query : QueryView) (slots : List Slot) (k : ℕ) (code now : List ℕ)
         spelt_others = same.rests;
         made = left.made;
         spelt = left.spelt;
-        are = append_assoc pieces (p ∷ []) (pieces_of query (drop (k + 1) slots) next.more) ∙ ap (λ s. pieces ++ (s ++ pieces_of query (drop (k + 1) slots) next.more)) piece ∙ ap (λ s. pieces ++ s) (sym next.are) ∙ all;
+        are = append_assoc pieces (p ∷ []) (pieces_of query (drop (k + 1) slots) next.more) ∙ ap (λ s. pieces ++ (s ++ pieces_of query (drop (k + 1) slots) next.more)) piece
+            ∙ ap (λ s. pieces ++ s) (sym next.are) ∙ all;
       }
 
 pub left_all : (query : QueryView) (slots : List Slot) (k : ℕ) (code now : List ℕ) (pieces : List Piece) → length slots ≤ k → Left query slots k code now pieces → AreChosen query slots code now pieces
 unfolding pieces_of
 left_all query slots k code now pieces past left = by left.others (rw (drop_all k slots past) at left.made_others) left.spelt_others (rw (drop_all k slots past) at left.are)
   where
-    by : (others : Choice) → IsChoice query [] others → spelling others ++ left.rest ≡ now → pieces ++ pieces_of query [] others ≡ pieces_of query slots left.whole → AreChosen query slots code now pieces
+    by : (others : Choice) → IsChoice query [] others → spelling others ++ left.rest ≡ now → pieces ++ pieces_of query [] others ≡ pieces_of query slots left.whole
+        → AreChosen query slots code now pieces
     by done is spelt are = record { choice = left.whole; made = left.made; spelt = ap (λ s. spelling left.whole ++ s) (sym spelt) ∙ left.spelt; are = sym (append-nil pieces) ∙ are }
     by (repeated n others) is spelt are = absurd is
     by (unfilled n others) is spelt are = absurd is

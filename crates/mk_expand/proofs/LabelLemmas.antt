@@ -8,12 +8,12 @@ use Rattle.std.proofs.lemmas.List.{get_or_default}
 use Rattle.mk_model.specs.declared.template.QueryBond.{QueryBond}
 use Rattle.mk_model.specs.declared.template.Slot.{Slot}
 use Rattle.mk_model.specs.declared.template.Slot.TheVariants.{Link, Site}
-use Rattle.mk_model.specs.QueryFits.{IsClosed, IsMarked}
+use Rattle.mk_model.specs.QueryFits.{HoldsItsBlock, IsMarked}
 use Rattle.mk_model.specs.Sizes.{takes_atom}
 use Rattle.mk_model.specs.Templates.{TemplateView, bonds_without, hang_together, joins, slot_atom}
 use Rattle.mk_model.proofs.ForCallers.{GoesAlong, Hangs, hangs, hangs_back, hangs_by, hangs_closed, hangs_on, hangs_same, hangs_tested, kept_all, kept_within}
 use Rattle.mk_expand.specs.Blocks.{AreLabels, stay, stays, takes}
-use Rattle.mk_expand.specs.Kept.{IsTemplate}
+use Rattle.mk_pieces.specs.Kept.{IsTemplate}
 
 -- ---- a bond stays for all slots
 
@@ -25,7 +25,8 @@ pub each_stays : (slots : List Slot) (bond : QueryBond) → stay slots bond ≡ 
 each_stays [] bond is j d below = absurd (omega arith)
 each_stays (slot ∷ slots) bond is j d below = by_test (stays slot bond) refl is j below (λ rest i less. each_stays slots bond rest i d less)
   where
-    by_test : (b : Bool) → stays slot bond ≡ b → (b && stay slots bond) ≡ true → (j : ℕ) → j < length (slot ∷ slots) → (stay slots bond ≡ true → (i : ℕ) → i < length slots → stays (get_or slots i d) bond ≡ true)
+    by_test : (b : Bool) → stays slot bond ≡ b → (b && stay slots bond) ≡ true → (j : ℕ) → j < length (slot ∷ slots)
+        → (stay slots bond ≡ true → (i : ℕ) → i < length slots → stays (get_or slots i d) bond ≡ true)
         → stays (get_or (slot ∷ slots) j d) bond ≡ true
     by_test true e rest zero less others = e
     by_test true e rest (suc i) less others = others rest i (omega arith)
@@ -33,7 +34,8 @@ each_stays (slot ∷ slots) bond is j d below = by_test (stays slot bond) refl i
 
 -- a bond without an end at an atom is none from it to a neighbour
 not_joined : (x y : ℕ) (bond : QueryBond) → bond.first ≢ x → bond.second ≢ x → joins x y bond ≡ false
-not_joined x y bond first second = (let one : eqb bond.first x ≡ false = grind (arith, nat_tests) in let two : eqb bond.second x ≡ false = grind (arith, nat_tests) in rw (one, two) (by (eqb bond.first y)))
+not_joined x y bond first second = (let one : eqb bond.first x ≡ false = grind (arith, nat_tests) in let two : eqb bond.second x ≡ false = grind (arith, nat_tests) in
+    rw (one, two) (by (eqb bond.first y)))
   where
     by : (b : Bool) → (b && false) ≡ false
     by true = refl
@@ -44,7 +46,8 @@ not_its_bond x from to bond first second = rw (not_joined x from bond first seco
 
 -- ---- the block of one link
 
-module _ (template : TemplateView) (kept : IsTemplate template) (k a most from to : ℕ) (below : k < length template.slots) (is_link : (d : Slot) → get_or template.slots k d ≡ Link a most from to) where
+module _ (template : TemplateView) (kept : IsTemplate template) (k a most from to : ℕ) (below : k < length template.slots)
+    (is_link : (d : Slot) → get_or template.slots k d ≡ Link a most from to) where
   abbrev of_one : List QueryBond
   of_one = bonds_without (Link a most from to) template.bonds
 
@@ -55,7 +58,7 @@ module _ (template : TemplateView) (kept : IsTemplate template) (k a most from t
   apart : (j : ℕ) (slot : Slot) → j < length template.slots → get_or template.slots j slot ≡ slot → j ≢ k → Hangs of_one a (slot_atom slot) → ⊥
   apart j slot inside at other hangs' =
       let d : Slot = Link a most from to in
-      let closed : IsClosed template (Link a most from to) = subst (IsClosed template) (is_link d) (kept.blocks_closed k d below) in
+      let closed : HoldsItsBlock template (Link a most from to) = subst (HoldsItsBlock template) (is_link d) (kept.blocks_closed k d below) in
       let marked : IsMarked template (slot_atom slot) = inr (slot, (j, inside, at), refl) in
       let same : slot_atom slot ≡ a = (closed (slot_atom slot) (hangs_tested of_one a (slot_atom slot) hangs')).2 marked in
       let here : slot_atom (get_or template.slots j slot) ≡ slot_atom slot = ap slot_atom at in
@@ -99,7 +102,8 @@ module _ (template : TemplateView) (kept : IsTemplate template) (k a most from t
   less_bonds : (bond : QueryBond) → Contains of_all bond → Contains of_one bond
   less_bonds bond at =
       let found = kept_within (stay template.slots) template.bonds bond at in
-      let own : stays (Link a most from to) bond ≡ true = subst (λ (s : Slot). stays s bond ≡ true) (is_link (Link a most from to)) (each_stays template.slots bond found.1 k (Link a most from to) below) in
+      let own : stays (Link a most from to) bond ≡ true =
+      subst (λ (s : Slot). stays s bond ≡ true) (is_link (Link a most from to)) (each_stays template.slots bond found.1 k (Link a most from to) below) in
       kept_all (λ c. not (joins a from c || joins a to c)) template.bonds bond found.0 own
 
   along_all : GoesAlong (Hangs of_one a) of_all
@@ -119,7 +123,8 @@ module _ (template : TemplateView) (kept : IsTemplate template) (k a most from t
 
 -- ---- the slots
 
-module _ (template : TemplateView) (kept : IsTemplate template) (labels : List ℕ) (size : length labels ≡ length template.atoms) (are : AreLabels (filter (stay template.slots) template.bonds) labels) where
+module _ (template : TemplateView) (kept : IsTemplate template) (labels : List ℕ) (size : length labels ≡ length template.atoms)
+    (are : AreLabels (filter (stay template.slots) template.bonds) labels) where
   by_slot : (slot : Slot) (k : ℕ) → k < length template.slots → get_or template.slots k slot ≡ slot → (1 ≤ slot_atom slot) × (slot_atom slot ≤ length template.atoms) → (i : ℕ) → i < length labels
       → takes labels slot (i + 1) ≡ takes_atom template (i + 1) slot
   by_slot (Site atom group first second) k below at stands i inside = by (eqb atom (i + 1))
@@ -135,6 +140,7 @@ module _ (template : TemplateView) (kept : IsTemplate template) (labels : List �
       let same = same_block template kept k atom most from to below (λ d. get_or_default template.slots k d (Link atom most from to) below ∙ at) (i + 1) in
       rw last (ap (λ (b : Bool). eqb atom (i + 1) || b) (tested ∙ same))
 
-  pub takes_is : (k : ℕ) (d : Slot) → k < length template.slots → (1 ≤ slot_atom (get_or template.slots k d)) × (slot_atom (get_or template.slots k d) ≤ length template.atoms) → (i : ℕ) → i < length labels
+  pub takes_is : (k : ℕ) (d : Slot) → k < length template.slots → (1 ≤ slot_atom (get_or template.slots k d)) × (slot_atom (get_or template.slots k d) ≤ length template.atoms) → (i : ℕ)
+      → i < length labels
       → takes labels (get_or template.slots k d) (i + 1) ≡ takes_atom template (i + 1) (get_or template.slots k d)
   takes_is k d below stands = by_slot (get_or template.slots k d) k below (get_or_default template.slots k (get_or template.slots k d) d below) stands

@@ -1,8 +1,7 @@
 -- Where the atoms of a template stand.
---     room_more, room_up              one atom more, and more atoms
 --     befores_none, befores_more      the list of what stands before each atom grows
 --     ending_plain, ending_slot       where a bond ends
-use Rattle.std.proofs.Common.{◌≡◌, ◌∙◌, ℕ, zero, suc, ◌+◌, ◌-◌, ◌<◌, ◌≤◌, ◌≢◌, List, [], ◌∷◌, ◌++◌, Some, length, get_or, refl, sym, ap, subst, arith, inl, inr, sum_by}
+use Rattle.std.proofs.Common.{◌≡◌, ◌∙◌, ℕ, zero, suc, ◌+◌, ◌-◌, ◌<◌, ◌≤◌, ◌≢◌, List, [], ◌∷◌, ◌++◌, Some, length, get_or, refl, sym, ap, arith, inl, inr}
 use Rattle.std.specs.Prelude.{slice_get}
 use Rattle.std.proofs.lemmas.Bool.{cases_eq}
 use Rattle.std.proofs.lemmas.List.{length_push, get_or_push, get_or_append_left, get_or_default}
@@ -10,31 +9,10 @@ use Rattle.mk_model.specs.Pieces.{Piece}
 use Rattle.mk_model.specs.Pieces.Piece.{Copies}
 use Rattle.mk_model.specs.declared.template.Slot.{Slot}
 use Rattle.mk_model.specs.Templates.{TemplateView}
-use Rattle.std.proofs.lemmas.List.Sums.{sum_by_push}
-use Rattle.mk_expand.proofs.NumberLemmas.{numbers_more}
-use Rattle.mk_model.specs.Pieces.{numbers_to, taker, room, width, piece_numbered, end_of, ending, is_far}
+use Rattle.mk_model.specs.Pieces.{taker, room, piece_numbered, end_of, ending, is_far}
 use Rattle.mk_model.proofs.ForCallers.{at_place}
 use Rattle.mk_expand.specs.Laid.{IsLaid}
-
--- ---- room
-
-pub room_none : (template : TemplateView) (pieces : List Piece) → room template pieces 0 ≡ 0
-unfolding room
-room_none template pieces = refl
-
-pub room_more : (template : TemplateView) (pieces : List Piece) (i : ℕ) → room template pieces (i + 1) ≡ room template pieces i + width (piece_numbered pieces (taker template (i + 1)))
-unfolding room
-room_more template pieces i = ap (sum_by (λ x. width (piece_numbered pieces (taker template x)))) (numbers_more i) ∙ sum_by_push (λ x. width (piece_numbered pieces (taker template x))) (numbers_to i) (i + 1)
-
--- more atoms take no less room
-pub room_up : (template : TemplateView) (pieces : List Piece) (i k : ℕ) → room template pieces i ≤ room template pieces (k + i)
-room_up template pieces i zero = (let same : 0 + i ≡ i = omega arith in rw same (omega arith))
-room_up template pieces i (suc k) = (let rest = room_up template pieces i k in let same : suc k + i ≡ k + i + 1 = omega arith in rw same (omega (arith, room_more template pieces (k + i), rest)))
-
-pub room_within : (template : TemplateView) (pieces : List Piece) (i j : ℕ) → i ≤ j → room template pieces i ≤ room template pieces j
-room_within template pieces i j below =
-    let same : j - i + i ≡ j = omega arith in
-    subst (λ (k : ℕ). room template pieces i ≤ room template pieces k) same (room_up template pieces i (j - i))
+use Rattle.mk_pieces.proofs.ForCallers.{room_none, room_within}
 
 -- ---- the list of what stands before
 

@@ -2,9 +2,8 @@
 --     there_is            a number is there
 --     link_chosen, open_chosen, member_begins, member_chosen      the slot becomes copies, is left open, or is filled
 --     filled_small        what fills the sites of a small template is small
-use Rattle.std.proofs.Common.{◌≡◌, ◌∙◌, ℕ, ◌+◌, ◌-◌, ◌<◌, ◌≤◌, false, List, [], ◌∷◌, ◌++◌, length, get_or, drop, refl, sym, ap, subst, arith, append_assoc}
+use Rattle.std.proofs.Common.{◌≡◌, ◌∙◌, ℕ, ◌+◌, ◌-◌, ◌<◌, ◌≤◌, List, [], ◌∷◌, ◌++◌, length, get_or, drop, refl, sym, ap, subst, arith, append_assoc}
 use Rattle.std.specs.Prelude.{Contains}
-use Rattle.std.proofs.lemmas.Bool.Decides.{nat_tests}
 use Rattle.std.proofs.lemmas.List.{drop_more, length-drop, append-nil}
 use Rattle.mk_model.specs.declared.group.Group.{Group}
 use Rattle.mk_model.specs.Pieces.Piece.{Copies, Member}
@@ -15,13 +14,16 @@ use Rattle.mk_model.specs.Codes.Choice.{done, repeated, unfilled, filled}
 use Rattle.mk_model.specs.Expansions.{expansion, left_open, template_of, pieces_of}
 use Rattle.mk_model.specs.Templates.{TemplateView}
 use Rattle.mk_model.specs.Pieces.{Fragment}
-use Rattle.mk_model.specs.Queries.{QueryView, slots_of, members_of}
+use Rattle.mk_model.specs.Queries.{QueryView, slots_of}
 use Rattle.mk_model.specs.Labels.{PutsIn, draws_rest_hydrogens, member, members_at}
-use Rattle.mk_model.specs.QueryFits.{IsSlotOf as InRangeSlot, NamesItsNeighbours, QueryFits}
-use Rattle.mk_expand.specs.Kept.{IsSlotOf, IsTemplate}
+use Rattle.mk_model.specs.QueryFits.{QueryFits}
+use Rattle.mk_pieces.specs.Kept.{IsSlotOf}
 use Rattle.mk_model.proofs.ForCallers.{at_place}
-use Rattle.mk_model.proofs.ForCallers.{ranked_by_size, simple_template}
-use Rattle.mk_expand.specs.Choosing.{AreChosen, Begins, IsExpanded, IsSmallTemplate, MayBeFilledSmall}
+use Rattle.mk_model.proofs.ForCallers.{ranked_by_size}
+use Rattle.mk_expand.specs.Choosing.{AreChosen, MayBeFilledSmall}
+use Rattle.mk_pieces.specs.Begun.{Begins, IsExpanded}
+use Rattle.mk_pieces.specs.Rooms.{IsSmallTemplate}
+use Rattle.mk_pieces.proofs.ForCallers.{member_there, members_are, slots_are, template_is, template_kept}
 
 -- ---- the number at a place
 
@@ -86,7 +88,8 @@ link_chosen query atom most from to code at begins = by begins.choice begins.mad
 
 module _ (query : QueryView) (atom group first second : ℕ) (code : List ℕ) (at : ℕ) (begins : Begins query (Site atom group first second ∷ []) (drop at code)) where
   -- it is left open
-  pub open_chosen : length (members_at query (Site atom group first second)) < get_or code at 0 → AreChosen query (Site atom group first second ∷ []) (drop at code) (drop (at + 1) code) (left_open query (Site atom group first second) ∷ [])
+  pub open_chosen : length (members_at query (Site atom group first second)) < get_or code at 0
+      → AreChosen query (Site atom group first second ∷ []) (drop at code) (drop (at + 1) code) (left_open query (Site atom group first second) ∷ [])
   unfolding pieces_of
   open_chosen above = by begins.choice begins.made begins.spelt
     where
@@ -106,7 +109,8 @@ module _ (query : QueryView) (atom group first second : ℕ) (code : List ℕ) (
       by (filled k inside others) is spelt = absurd (let on = goes_on code at k (spelling inside ++ spelling others ++ begins.rest) spelt in omega (arith, on.number_is, is.1))
 
   -- or filled, and the code goes on with a choice at the slots of the member
-  pub member_begins : get_or code at 0 ≤ length (members_at query (Site atom group first second)) → (1 ≤ get_or code at 0) × Begins query (slots_of query (member query (Site atom group first second) (get_or code at 0))) (drop (at + 1) code)
+  pub member_begins : get_or code at 0 ≤ length (members_at query (Site atom group first second))
+      → (1 ≤ get_or code at 0) × Begins query (slots_of query (member query (Site atom group first second) (get_or code at 0))) (drop (at + 1) code)
   member_begins within = by begins.choice begins.made begins.spelt
     where
       by : (choice : Choice) → IsChoice query (Site atom group first second ∷ []) choice → spelling choice ++ begins.rest ≡ drop at code
@@ -142,16 +146,6 @@ module _ (query : QueryView) (atom group first second : ℕ) (code : List ℕ) (
 
 -- ---- what the code reads of a query
 
-pub slots_are : (query : QueryView) (t : ℕ) (d : TemplateView) → t < length query.templates → slots_of query t ≡ (get_or query.templates t d).slots
-slots_are query t d below = rw (at_place query.templates t d below) refl
-
-pub template_is : (query : QueryView) (t : ℕ) (d : TemplateView) → t < length query.templates → template_of query t ≡ get_or query.templates t d
-template_is query t d below = rw (at_place query.templates t d below) refl
-
--- the members of a group, and whether hydrogens are drawn, by the list that the code reads
-members_are : (query : QueryView) (g : ℕ) (d : Group) → g - 1 < length query.groups → members_of query g ≡ (get_or query.groups (g - 1) d).members
-members_are query g d below = rw (at_place query.groups (g - 1) d below) refl
-
 module _ (query : QueryView) (fits : QueryFits query) (atom group first second : ℕ) (least : 1 ≤ group) (most : group ≤ 32) where
   site : Slot
   site = Site atom group first second
@@ -159,7 +153,8 @@ module _ (query : QueryView) (fits : QueryFits query) (atom group first second :
   group_below : group - 1 < length query.groups
   group_below = omega (arith, fits.few_members.all_groups)
 
-  pub group_members : (groups : List Group) (d : Group) (members : List ℕ) → groups ≡ query.groups → d ≡ get_or groups (group - 1) d → members ≡ d.members → members ≡ members_at query (Site atom group first second)
+  pub group_members : (groups : List Group) (d : Group) (members : List ℕ) → groups ≡ query.groups → d ≡ get_or groups (group - 1) d → members ≡ d.members
+      → members ≡ members_at query (Site atom group first second)
   group_members groups d members same at is =
       is ∙ ap (λ (x : Group). x.members) (at ∙ ap (λ (xs : List Group). get_or xs (group - 1) d) same) ∙ sym (members_are query group d group_below)
 
@@ -167,35 +162,6 @@ module _ (query : QueryView) (fits : QueryFits query) (atom group first second :
   group_rest groups d same at =
       let rest : draws_rest_hydrogens query (Site atom group first second) ≡ (get_or query.groups (group - 1) d).rest_hydrogen = rw (at_place query.groups (group - 1) d group_below) refl in
       ap (λ (x : Group). x.rest_hydrogen) (at ∙ ap (λ (xs : List Group). get_or xs (group - 1) d) same) ∙ sym rest
-
--- a member of a group from 1 to 32 is a template
-pub member_there : (query : QueryView) → QueryFits query → (g u : ℕ) → 1 ≤ g → g ≤ 32 → Contains (members_of query g) u → u < length query.templates
-member_there query fits g u least most at =
-    let d : Group = record { members = []; then_group = 0; rest_hydrogen = false; range = [] } in
-    let below : g - 1 < length query.groups = omega (arith, fits.few_members.all_groups) in
-    let here : Contains (get_or query.groups (g - 1) d).members u = rw (members_are query g d below) at at in
-    let known : (1 ≤ u) × (u < length query.templates) = subst (λ (n : ℕ). (1 ≤ n) × (n < length query.templates)) here.2 (fits.in_range.members (g - 1) d below here.0 u here.1) in
-    known.1
-
--- what every template of a query keeps
-kept_slot : (template : TemplateView) (slot : Slot) → InRangeSlot template slot → NamesItsNeighbours template slot → IsSlotOf template slot
-kept_slot template (Link atom most from to) is names = is
-kept_slot template (Site atom group first second) is names = (is.0, record { known = is.1 group (grind (arith, nat_tests)); between = names })
-
-pub template_kept : (query : QueryView) → QueryFits query → (t : ℕ) (d : TemplateView) → t < length query.templates → IsTemplate (get_or query.templates t d)
-template_kept query fits t d there =
-    let range = fits.in_range.templates t d there in
-    record {
-      tests = range.tests;
-      bond_tests = range.bond_tests;
-      graph = simple_template (get_or query.templates t d) range (fits.pairs_once t d there);
-      slots = λ k e below. kept_slot (get_or query.templates t d) (get_or (get_or query.templates t d).slots k e) (range.slots k e below) (fits.neighbours t d there k e below);
-      slots_rise = fits.slots_rise t d there;
-      points = range.points;
-      few_points = range.few_points;
-      points_free = fits.points_free t d there;
-      blocks_closed = fits.blocks_closed t d there;
-    }
 
 no_template : TemplateView
 no_template = record { atoms = []; bonds = []; slots = []; points = [] }
@@ -223,8 +189,10 @@ filled_small query fits t small (Site atom group first second) at =
     )
 
 -- the template that the code reads
-pub template_read : (query : QueryView) (t : ℕ) → t < length query.templates → (templates : List TemplateView) (d : TemplateView) → templates ≡ query.templates → d ≡ get_or templates t d → d ≡ template_of query t
+pub template_read : (query : QueryView) (t : ℕ) → t < length query.templates → (templates : List TemplateView) (d : TemplateView) → templates ≡ query.templates → d ≡ get_or templates t d
+    → d ≡ template_of query t
 template_read query t there templates d same at = at ∙ ap (λ (xs : List TemplateView). get_or xs t d) same ∙ sym (template_is query t d there)
 
-pub slots_read : (query : QueryView) (t : ℕ) → t < length query.templates → (templates : List TemplateView) (d : TemplateView) → templates ≡ query.templates → d ≡ get_or templates t d → (slots : List Slot) → slots ≡ d.slots → slots ≡ slots_of query t
+pub slots_read : (query : QueryView) (t : ℕ) → t < length query.templates → (templates : List TemplateView) (d : TemplateView) → templates ≡ query.templates → d ≡ get_or templates t d
+    → (slots : List Slot) → slots ≡ d.slots → slots ≡ slots_of query t
 slots_read query t there templates d same at slots is = is ∙ ap (λ (p : TemplateView). p.slots) (at ∙ ap (λ (xs : List TemplateView). get_or xs t d) same) ∙ sym (slots_are query t d there)

@@ -6,7 +6,7 @@
 --     AreLabels bonds labels    two atoms have one label exactly where they hang together
 --     takes labels slot x       the slot takes atom x, by the labels
 --     taken_by number taker t   the slot that takes an atom, after one slot more
-use Rattle.std.specs.Prelude.{◌≡◌, ◌≤◌, ◌<◌, ◌-◌, ◌+◌, ◌==◌, ◌&&◌, ◌||◌, not, ℕ, Bool, true, List, length, slice_index, if◌then◌else◌}
+use Rattle.std.specs.Prelude.{◌≡◌, ◌<◌, ◌-◌, ◌+◌, ◌==◌, ◌&&◌, ◌||◌, not, ℕ, Bool, true, List, length, slice_index, if◌then◌else◌}
 use Rattle.std.specs.List.{list_all}
 use Rattle.mk_model.specs.declared.template.QueryBond.{QueryBond}
 use Rattle.mk_model.specs.declared.template.Slot.{Slot}
@@ -30,11 +30,6 @@ merged old new label = if label == old then new else label
 abbrev pub AreLabels : List QueryBond → List ℕ → Type 0
 AreLabels bonds labels =
     (i j : ℕ) → i < length labels → j < length labels → (slice_index labels i == slice_index labels j) ≡ hang_together bonds (i + 1) (j + 1)
-
--- both ends are among so many atoms
-pub record AreEndsWithin (count : ℕ) (bond : QueryBond) : Type 0 where
-  pub first : (1 ≤ bond.first) × (bond.first ≤ count)
-  pub second : (1 ≤ bond.second) × (bond.second ≤ count)
 
 -- the slot takes atom x: it stands there, or it is a link with the label of x
 abbrev pub takes : List ℕ → Slot → ℕ → Bool

@@ -1,7 +1,8 @@
 // The blocks of links, and the slots that take the atoms of a template.
 ghost use Rattle.std.specs.Prelude.{◌≡◌, ◌≤◌, ◌<◌, ◌+◌, ◌-◌, ℕ, All, IfOk, filter, length, slice_index};
-ghost use Rattle.mk_expand.specs.Blocks.{AreEndsWithin, AreLabels, merged, stay, stays, taken_by, takes};
-ghost use Rattle.mk_expand.specs.Kept.{IsTemplate};
+ghost use Rattle.mk_pieces.specs.Rooms.{AreEndsWithin};
+ghost use Rattle.mk_expand.specs.Blocks.{AreLabels, merged, stay, stays, taken_by, takes};
+ghost use Rattle.mk_pieces.specs.Kept.{IsTemplate};
 ghost use Rattle.mk_expand.specs.Laid.{AreTakers, StandsWithin};
 
 use crate::bonds::joins;

@@ -4,7 +4,8 @@ ghost use Rattle.std.specs.List.{flat_map};
 ghost use Rattle.mk_model.specs.Expansions.{all_within, bond_between, bond_joining, bonds_within, chained, copied, drawn, is_hydrogens, is_nothing, shifted, spanned};
 ghost use Rattle.mk_model.specs.Pieces.{piece_numbered};
 ghost use Rattle.mk_model.specs.Templates.{joins, slot_atom};
-ghost use Rattle.mk_expand.specs.Laid.{IsLaid, IsSmall, IsWithin, StandsAt};
+ghost use Rattle.mk_expand.specs.Laid.{IsLaid};
+ghost use Rattle.mk_pieces.specs.Rooms.{IsSmall, IsWithin, StandsAt};
 
 use crate::part::Shape;
 use crate::piece::Piece;

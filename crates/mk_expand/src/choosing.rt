@@ -2,7 +2,9 @@
 ghost use Rattle.std.specs.Prelude.{◌≡◌, ◌≤◌, ◌<◌, ◌∷◌, [], IfOk, length, drop};
 ghost use Rattle.mk_model.specs.Queries.{slots_of};
 ghost use Rattle.mk_model.specs.QueryFits.{QueryFits};
-ghost use Rattle.mk_expand.specs.Choosing.{AreChosen, Begins, IsExpanded, IsSmallTemplate, MayBeFilledSmall, left_open_by};
+ghost use Rattle.mk_expand.specs.Choosing.{AreChosen, MayBeFilledSmall, left_open_by};
+ghost use Rattle.mk_pieces.specs.Begun.{Begins, IsExpanded};
+ghost use Rattle.mk_pieces.specs.Rooms.{IsSmallTemplate};
 
 use crate::joining::joined;
 use crate::part::{Part, Shape};

@@ -2,7 +2,7 @@
 ghost use Rattle.std.specs.Prelude.{◌≡◌, IfOk, map};
 ghost use Rattle.mk_model.specs.Codes.{IsCode};
 ghost use Rattle.mk_model.specs.Expansions.{IsExpansion};
-ghost use Rattle.mk_expand.specs.Fragments.{bare};
+ghost use Rattle.mk_pieces.specs.Fragments.{bare};
 
 use crate::choosing::expanded;
 use mk_model::{Graph, GraphBond, Memory, Query, QueryBond, put_in_order};

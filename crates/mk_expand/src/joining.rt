@@ -1,8 +1,8 @@
 // What a template becomes.
 ghost use Rattle.std.specs.Prelude.{◌≡◌, IfOk};
 ghost use Rattle.mk_model.specs.Expansions.{joined};
-ghost use Rattle.mk_expand.specs.Kept.{IsTemplate};
-ghost use Rattle.mk_expand.specs.Laid.{HaveRoom};
+ghost use Rattle.mk_pieces.specs.Kept.{IsTemplate};
+ghost use Rattle.mk_pieces.specs.Rooms.{HaveRoom};
 
 use crate::atoms::{expanded_atoms, expanded_points};
 use crate::blocks::takers_of;

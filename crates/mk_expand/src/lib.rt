@@ -20,7 +20,6 @@ mod choosing;
 mod expanding;
 mod frees;
 mod joining;
-mod laws;
 mod part;
 mod piece;
 mod places;
@@ -28,8 +27,3 @@ mod places;
 mod tests;
 
 pub use expanding::expand;
-pub use laws::{
-    code_and_hit_are_short, one_expansion, open_site_is_a_hydrogen, open_site_is_two_hydrogens,
-    single_links_stay_as_drawn, site_filled_by_one_atom, slots_become_their_atoms,
-    template_is_its_own_expansion,
-};

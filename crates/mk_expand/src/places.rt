@@ -1,7 +1,8 @@
 // Where the atoms of a template stand in its expansion.
 ghost use Rattle.std.specs.Prelude.{◌≡◌, ◌≤◌, ◌<◌, ◌+◌, ◌-◌, ℕ, Bool, All, IfOk, length, if◌then◌else◌, slice_index, slice_get};
 ghost use Rattle.mk_model.specs.Pieces.{before, end_of, ending, is_far, is_far_of, piece_numbered, room, taker, width};
-ghost use Rattle.mk_expand.specs.Laid.{AreTakers, HaveRoom, IsLaid, IsSmall};
+ghost use Rattle.mk_expand.specs.Laid.{AreTakers, IsLaid};
+ghost use Rattle.mk_pieces.specs.Rooms.{HaveRoom, IsSmall};
 
 use crate::part::Shape;
 use crate::piece::Piece;

@@ -10,7 +10,8 @@ put_copies-requires c =
 
 pub returns-then-number-eq0 : goal.returns-then-number-eq0
 returns-then-number-eq0 c =
-    rw (← copies_at _ _ _ _ _ c.requires.laid c.requires.frees c.args.i c.requires.i 1 c.index-atoms-i.result (ap (piece_numbered c.args.pieces.now) (sym c.if-number-eq0.true)) (rw c.atoms.ensures at c.index-atoms-i.is)) c.put_copies.ensures
+    rw (← copies_at _ _ _ _ _ c.requires.laid c.requires.frees c.args.i c.requires.i 1 c.index-atoms-i.result (ap (piece_numbered c.args.pieces.now) (sym c.if-number-eq0.true))
+    (rw c.atoms.ensures at c.index-atoms-i.is)) c.put_copies.ensures
 
 pub put_piece-requires : goal.put_piece-requires
 put_piece-requires c =

@@ -17,7 +17,9 @@ loop-k-preserved-then-stay c =
     let none : QueryBond = record { first = 0; second = 0; kind = 0; topology = 0 } in (
       omega (arith, c.loop-k.invariant.0),
       c.merge.ensures.size ∙ c.loop-k.invariant.1,
-      labels_before (stay c.args.slots.now) c.args.bonds.now c.loop-k.k (c.loop-k.k - 1) none c.loop-k.labels.items c.merge.new.labels.items (omega arith) c.loop-k.invariant.0 (sym c.stay.ensures ∙ c.if-stay.true) (rw c.loop-k.invariant.1 (c.requires (c.loop-k.k - 1) none (omega (arith, c.loop-k.invariant.0)))) c.merge.ensures.size c.merge.ensures.each c.loop-k.invariant.2,
+      labels_before (stay c.args.slots.now) c.args.bonds.now c.loop-k.k (c.loop-k.k - 1) none c.loop-k.labels.items c.merge.new.labels.items (omega arith) c.loop-k.invariant.0
+          (sym c.stay.ensures ∙ c.if-stay.true) (rw c.loop-k.invariant.1
+          (c.requires (c.loop-k.k - 1) none (omega (arith, c.loop-k.invariant.0)))) c.merge.ensures.size c.merge.ensures.each c.loop-k.invariant.2,
     )
 
 pub loop-k-preserved : goal.loop-k-preserved
@@ -25,5 +27,6 @@ loop-k-preserved c =
     let none : QueryBond = record { first = 0; second = 0; kind = 0; topology = 0 } in (
       omega (arith, c.loop-k.invariant.0),
       c.loop-k.invariant.1,
-      labels_past (stay c.args.slots.now) c.args.bonds.now c.loop-k.k (c.loop-k.k - 1) none c.loop-k.labels.items (omega arith) c.loop-k.invariant.0 (sym c.stay.ensures ∙ c.if-stay.false) c.loop-k.invariant.2,
+      labels_past (stay c.args.slots.now) c.args.bonds.now c.loop-k.k (c.loop-k.k - 1) none c.loop-k.labels.items (omega arith) c.loop-k.invariant.0
+          (sym c.stay.ensures ∙ c.if-stay.false) c.loop-k.invariant.2,
     )

@@ -2,7 +2,7 @@ use Rattle.std.proofs.Common.{length, ap, ◌∙◌, ◌<◌, ◌≡◌, arith}
 use Rattle.mk_model.specs.declared.template.Slot.TheVariants.{Link}
 use Rattle.mk_expand.proofs.BlockLemmas.{left_none_of, left_more, left_all}
 use Rattle.mk_expand.proofs.LabelLemmas.{takes_is}
-use Rattle.mk_expand.proofs.TemplateLemmas.{ends_within, slots_stand}
+use Rattle.mk_pieces.proofs.ForCallers.{ends_within, slots_stand}
 use Rattle.mk_expand.proofs.blocks.takers_of.Goals as goal
 
 pub labels_of-requires : goal.labels_of-requires

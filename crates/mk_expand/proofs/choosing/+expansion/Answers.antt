@@ -6,8 +6,7 @@ use Rattle.mk_model.specs.Labels.{members_at}
 use Rattle.mk_model.specs.Queries.{slots_of}
 use Rattle.mk_expand.proofs.ChosenLemmas.{left_none, left_begins, left_more, left_all}
 use Rattle.mk_expand.proofs.SlotLemmas.{there_is, link_chosen, open_chosen, member_begins, member_chosen, group_members, group_rest, slots_read, template_read, filled_small}
-use Rattle.mk_expand.proofs.ChoiceFits.{kept_template}
-use Rattle.mk_expand.proofs.RoomLemmas.{have_room}
+use Rattle.mk_pieces.proofs.ForCallers.{have_room, kept_template}
 use Rattle.mk_expand.proofs.choosing.+expansion.Goals as goal
 
 -- ---- slot after slot
@@ -19,7 +18,8 @@ pub chosen-chosen_at-requires : goal.chosen-chosen_at-requires
 chosen-chosen_at-requires t c =
     let query = c.args.query.now in
     let k = c.loop-slot.slot-index in
-    let slots = slots_read query c.args.t c.requires.small.there c.templates.result.now c.index-templates-t.result c.templates.ensures.list c.index-templates-t.is c.slots-slots.result.now c.slots-slots.ensures in
+    let slots = slots_read query c.args.t c.requires.small.there c.templates.result.now c.index-templates-t.result c.templates.ensures.list c.index-templates-t.is c.slots-slots.result.now
+    c.slots-slots.ensures in
     let below : k < length (slots_of query c.args.t) = rw slots at c.loop-slot-test.true in
     let small = filled_small query c.requires.kept c.args.t c.requires.small (get_or (slots_of query c.args.t) k (Link 0 0 0 0)) (k, below, get_or_default (slots_of query c.args.t) k _ _ below) in
     let begins = left_begins query (slots_of query c.args.t) k _ _ _ (Link 0 0 0 0) below c.loop-slot.invariant.2 in
@@ -29,7 +29,8 @@ pub chosen-loop-slot-preserved : goal.chosen-loop-slot-preserved
 chosen-loop-slot-preserved t c =
     let query = c.args.query.now in
     let k = c.loop-slot.slot-index in
-    let slots = slots_read query c.args.t c.requires.small.there c.templates.result.now c.index-templates-t.result c.templates.ensures.list c.index-templates-t.is c.slots-slots.result.now c.slots-slots.ensures in
+    let slots = slots_read query c.args.t c.requires.small.there c.templates.result.now c.index-templates-t.result c.templates.ensures.list c.index-templates-t.is c.slots-slots.result.now
+    c.slots-slots.ensures in
     let below : k < length (slots_of query c.args.t) = rw slots at c.loop-slot-test.true in (
       omega (arith, c.in_ok-piece.ensures.within, c.loop-slot.invariant.0),
       c.in_ok-piece.ensures.within.1,
@@ -39,7 +40,8 @@ chosen-loop-slot-preserved t c =
 pub chosen-returns-clause-are : goal.chosen-returns-clause-are
 chosen-returns-clause-are t c =
     let query = c.args.query.now in
-    let slots = slots_read query c.args.t c.requires.small.there c.templates.result.now c.index-templates-t.result c.templates.ensures.list c.index-templates-t.is c.slots-slots.result.now c.slots-slots.ensures in
+    let slots = slots_read query c.args.t c.requires.small.there c.templates.result.now c.index-templates-t.result c.templates.ensures.list c.index-templates-t.is c.slots-slots.result.now
+    c.slots-slots.ensures in
     left_all query (slots_of query c.args.t) c.loop-slot.slot-index _ _ _ (rw slots at c.loop-slot-test.false) c.loop-slot.invariant.2
 
 -- ---- one slot
@@ -51,12 +53,23 @@ chosen_at-expanded-requires t c =
     let group = c.in-Site.group in
     let begins = rw c.in-Site.is at c.requires.begins in
     let small = rw c.in-Site.is at c.requires.small in
-    let members = group_members c.args.query.now c.requires.kept c.in-Site.atom group c.in-Site.first c.in-Site.second small.0 small.1 c.groups.result.now c.index-groups-group.result c.as_slice-members.result.now c.groups.ensures.list c.index-groups-group.is c.as_slice-members.ensures in
+    let members = group_members c.args.query.now c.requires.kept c.in-Site.atom group c.in-Site.first c.in-Site.second small.0 small.1 c.groups.result.now c.index-groups-group.result
+    c.as_slice-members.result.now c.groups.ensures.list c.index-groups-group.is c.as_slice-members.ensures in
     let within : get_or code at 0 ≤ length (members_at c.args.query.now (Site c.in-Site.atom group c.in-Site.first c.in-Site.second)) = rw members at c.if-number-members.true in
     let member = member_begins c.args.query.now c.in-Site.atom group c.in-Site.first c.in-Site.second code at begins within in
     let there : at < length code = there_is c.args.query.now c.args.slot.now code at c.requires.begins in
-    let below : get_or code at 0 - 1 < length (members_at c.args.query.now (Site c.in-Site.atom group c.in-Site.first c.in-Site.second)) = omega (arith, member.0) in
-    (search rules, (c.requires.kept, (rw members (small.2 (get_or (members_at c.args.query.now (Site c.in-Site.atom group c.in-Site.first c.in-Site.second)) (get_or code at 0 - 1) 0) (get_or code at 0 - 1, below, get_or_default (members_at c.args.query.now (Site c.in-Site.atom group c.in-Site.first c.in-Site.second)) (get_or code at 0 - 1) _ 0 below)), (omega arith, rw members member.1))))
+    let below : get_or code at 0 - 1 < length (members_at c.args.query.now (Site c.in-Site.atom group c.in-Site.first c.in-Site.second)) = omega (arith, member.0) in (
+      search rules,
+      (
+        c.requires.kept,
+        (
+          rw members
+              (small.2 (get_or (members_at c.args.query.now (Site c.in-Site.atom group c.in-Site.first c.in-Site.second)) (get_or code at 0 - 1) 0)
+              (get_or code at 0 - 1, below, get_or_default (members_at c.args.query.now (Site c.in-Site.atom group c.in-Site.first c.in-Site.second)) (get_or code at 0 - 1) _ 0 below)),
+          (omega arith, rw members member.1),
+        ),
+      ),
+    )
 
 pub chosen_at-returns-then-number-members-clause-within :
     goal.chosen_at-returns-then-number-members-clause-within
@@ -70,9 +83,12 @@ chosen_at-returns-then-number-members-clause-are t c =
     let group = c.in-Site.group in
     let begins = rw c.in-Site.is at c.requires.begins in
     let small = rw c.in-Site.is at c.requires.small in
-    let members = group_members c.args.query.now c.requires.kept c.in-Site.atom group c.in-Site.first c.in-Site.second small.0 small.1 c.groups.result.now c.index-groups-group.result c.as_slice-members.result.now c.groups.ensures.list c.index-groups-group.is c.as_slice-members.ensures in
+    let members = group_members c.args.query.now c.requires.kept c.in-Site.atom group c.in-Site.first c.in-Site.second small.0 small.1 c.groups.result.now c.index-groups-group.result
+    c.as_slice-members.result.now c.groups.ensures.list c.index-groups-group.is c.as_slice-members.ensures in
     let within : get_or code at 0 ≤ length (members_at c.args.query.now (Site c.in-Site.atom group c.in-Site.first c.in-Site.second)) = rw members at c.if-number-members.true in
-    rw (c.in-Site.is, c.of-then-number-members.ensures) (member_chosen c.args.query.now c.in-Site.atom group c.in-Site.first c.in-Site.second code at begins within c.in_ok-part-in-Site.next c.in_ok-part-in-Site.part (rw members at c.in_ok-part-in-Site.ensures.is))
+    rw (c.in-Site.is, c.of-then-number-members.ensures)
+    (member_chosen c.args.query.now c.in-Site.atom group c.in-Site.first c.in-Site.second code at begins within c.in_ok-part-in-Site.next c.in_ok-part-in-Site.part
+    (rw members at c.in_ok-part-in-Site.ensures.is))
 
 pub chosen_at-returns-in-Link-clause-are : goal.chosen_at-returns-in-Link-clause-are
 chosen_at-returns-in-Link-clause-are t c =
@@ -86,8 +102,10 @@ chosen_at-returns-else-number-members-clause-are t c =
     let group = c.in-Site.group in
     let begins = rw c.in-Site.is at c.requires.begins in
     let small = rw c.in-Site.is at c.requires.small in
-    let members = group_members c.args.query.now c.requires.kept c.in-Site.atom group c.in-Site.first c.in-Site.second small.0 small.1 c.groups.result.now c.index-groups-group.result c.as_slice-members.result.now c.groups.ensures.list c.index-groups-group.is c.as_slice-members.ensures in
-    let rest = group_rest c.args.query.now c.requires.kept c.in-Site.atom group c.in-Site.first c.in-Site.second small.0 small.1 c.groups.result.now c.index-groups-group.result c.groups.ensures.list c.index-groups-group.is in
+    let members = group_members c.args.query.now c.requires.kept c.in-Site.atom group c.in-Site.first c.in-Site.second small.0 small.1 c.groups.result.now c.index-groups-group.result
+    c.as_slice-members.result.now c.groups.ensures.list c.index-groups-group.is c.as_slice-members.ensures in
+    let rest = group_rest c.args.query.now c.requires.kept c.in-Site.atom group c.in-Site.first c.in-Site.second small.0 small.1 c.groups.result.now c.index-groups-group.result
+    c.groups.ensures.list c.index-groups-group.is in
     let above : length (members_at c.args.query.now (Site c.in-Site.atom group c.in-Site.first c.in-Site.second)) < get_or code at 0 = rw members at c.if-number-members.false in
     rw (c.in-Site.is, c.left_open.ensures, rest) (open_chosen c.args.query.now c.in-Site.atom group c.in-Site.first c.in-Site.second code at begins above)
 

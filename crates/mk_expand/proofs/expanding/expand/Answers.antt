@@ -1,6 +1,6 @@
 use Rattle.std.proofs.Common.{◌∙◌, ap, map}
-use Rattle.mk_expand.specs.Fragments.{bare}
-use Rattle.mk_expand.proofs.GraphLemmas.{code_begins, fragment_sketch, graph_of, put_ordered, root_small, taken_few, taken_fragment}
+use Rattle.mk_pieces.specs.Fragments.{bare}
+use Rattle.mk_pieces.proofs.ForCallers.{code_begins, fragment_sketch, graph_of, put_ordered, root_small, taken_few, taken_fragment}
 use Rattle.mk_expand.proofs.expanding.expand.Goals as goal
 
 pub expanded-requires-clause-small : goal.expanded-requires-clause-small

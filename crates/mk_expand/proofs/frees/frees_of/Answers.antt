@@ -19,7 +19,8 @@ add_frees-requires-clause-few c = λ p d below.
     rw (get_or_default c.loop-k.frees.items p d 0 below) (omega (arith, c.loop-k.invariant.small p below, k, c.requires.laid.fits.few))
 
 pub loop-k-preserved : goal.loop-k-preserved
-loop-k-preserved c = left_more _ _ c.loop-k.k c.loop-k.frees.items _ (Link 0 0 0 0) _ c.requires.laid.fits (rw c.slots-slots.ensures at c.loop-k-test.true) c.index-pieces-k.is c.add_frees.ensures.size (rw c.slots-slots.ensures at c.add_frees.ensures.each) c.loop-k.invariant
+loop-k-preserved c = left_more _ _ c.loop-k.k c.loop-k.frees.items _ (Link 0 0 0 0) _ c.requires.laid.fits
+    (rw c.slots-slots.ensures at c.loop-k-test.true) c.index-pieces-k.is c.add_frees.ensures.size (rw c.slots-slots.ensures at c.add_frees.ensures.each) c.loop-k.invariant
 
 pub returns : goal.returns
 returns c = left_all _ _ c.loop-k.k _ (rw c.slots-slots.ensures at c.loop-k-test.false) c.loop-k.invariant

@@ -1,6 +1,6 @@
 use Rattle.std.proofs.Common.{◌∙◌, refl}
 use Rattle.mk_model.specs.Expansions.{joined}
-use Rattle.mk_expand.proofs.TemplateLemmas.{bonds_within, slots_stand, slots_neighbours}
+use Rattle.mk_pieces.proofs.ForCallers.{bonds_within, slots_stand, slots_neighbours}
 use Rattle.mk_expand.proofs.joining.joined.Goals as goal
 
 pub frees_of-requires-clause-neighbours : goal.frees_of-requires-clause-neighbours

@@ -1,6 +1,7 @@
 use Rattle.std.proofs.Common.{◌≡◌, ◌∙◌, ◌+◌, ◌≤◌, ap, sym, length, arith, get_or, rules}
 use Rattle.mk_model.specs.Pieces.{room, taker, width, piece_numbered}
-use Rattle.mk_expand.proofs.LaidLemmas.{befores_none, befores_more, room_more, room_none, room_within}
+use Rattle.mk_expand.proofs.LaidLemmas.{befores_none, befores_more}
+use Rattle.mk_pieces.proofs.ForCallers.{room_more, room_none, room_within}
 use Rattle.mk_expand.proofs.places.befores_of.Goals as goal
 
 pub loop-number-init : goal.loop-number-init
@@ -17,6 +18,8 @@ pub loop-number-preserved : goal.loop-number-preserved
 loop-number-preserved c =
     let i = c.loop-number.number-index in
     let taken : get_or c.args.takers.now i 0 ≡ taker c.args.template.now (i + 1) = c.requires.takers.each i c.loop-number-test.true in
-    let wide : c.width_numbered-total.result ≡ width (piece_numbered c.args.pieces.now (taker c.args.template.now (i + 1))) = c.width_numbered-total.ensures.width ∙ ap (λ n. width (piece_numbered c.args.pieces.now n)) taken in
-    let total : c.loop-number.total + c.width_numbered-total.result ≡ room c.args.template.now c.args.pieces.now (i + 1) = omega (arith, room_more c.args.template.now c.args.pieces.now i, c.loop-number.invariant.0, wide) in
+    let wide : c.width_numbered-total.result ≡ width (piece_numbered c.args.pieces.now (taker c.args.template.now (i + 1))) = c.width_numbered-total.ensures.width
+    ∙ ap (λ n. width (piece_numbered c.args.pieces.now n)) taken in
+    let total : c.loop-number.total + c.width_numbered-total.result ≡ room c.args.template.now c.args.pieces.now (i + 1) =
+    omega (arith, room_more c.args.template.now c.args.pieces.now i, c.loop-number.invariant.0, wide) in
     (total, rw c.in_ok-push-2.ensures.items (befores_more _ _ i _ _ c.loop-number.invariant.1 total))

@@ -2,7 +2,7 @@ use Rattle.std.proofs.Common.{rules, ◌≤◌, ◌<◌, ◌-◌, length, refl, 
 use Rattle.std.proofs.lemmas.List.{get_or_default}
 use Rattle.mk_model.specs.Pieces.{end_of}
 use Rattle.mk_model.specs.declared.template.Slot.TheVariants.{Link}
-use Rattle.mk_expand.specs.Laid.{IsSmall}
+use Rattle.mk_pieces.specs.Rooms.{IsSmall}
 use Rattle.mk_expand.proofs.LaidLemmas.{before_small, ending_plain, ending_slot, taker_within}
 use Rattle.mk_expand.proofs.places.ending.Goals as goal
 
