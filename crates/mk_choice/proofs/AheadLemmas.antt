@@ -80,7 +80,8 @@ module _ (most : List ℕ) (atom group first second : ℕ) (least : 1 ≤ group)
 
   pub site_ahead : ((i : ℕ) → slice_index most i ≤ 513)
       → ((i : ℕ) → i < 32 → slice_index ahead.sites i ≤ 511 → slice_index sites i ≡ slice_index ahead.sites i + cond (group - 1 == i) 1 0)
-      → ((i : ℕ) → i < 32 → slice_index ahead.filled i + slice_index most ((group - 1) * 32 + i) ≤ 1000000 → slice_index filled i ≡ slice_index ahead.filled i + slice_index most ((group - 1) * 32 + i))
+      → ((i : ℕ) → i < 32 → slice_index ahead.filled i + slice_index most ((group - 1) * 32 + i) ≤ 1000000
+      → slice_index filled i ≡ slice_index ahead.filled i + slice_index most ((group - 1) * 32 + i))
       → length slots ≤ 511 → IsAhead most slots ahead → IsAhead most (Site atom group first second ∷ slots) (record { sites = sites; filled = filled })
   site_ahead capped more raised few is = record {
     sites = λ i below.
@@ -88,7 +89,19 @@ module _ (most : List ℕ) (atom group first second : ℕ) (least : 1 ≤ group)
         omega (arith, here, more i below (omega (arith, here, open_few slots (i + 1), few)), open_first (Site atom group first second) slots (i + 1), same_label group i least);
     filled = λ i below.
         let here = is.filled i below in
-        omega (arith, here, raised i below (omega (arith, here, filled_few most capped slots (i + 1), few, capped ((group - 1) * 32 + i))), filled_first (bound_in most) (Site atom group first second) slots (i + 1), in_row i);
+        omega (
+          arith,
+          here,
+          raised i below (omega (
+            arith,
+            here,
+            filled_few most capped slots (i + 1),
+            few,
+            capped ((group - 1) * 32 + i),
+          )),
+          filled_first (bound_in most) (Site atom group first second) slots (i + 1),
+          in_row i,
+        );
   }
 
 -- ---- the next of some slots

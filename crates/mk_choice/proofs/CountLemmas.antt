@@ -36,7 +36,9 @@ module _ (query : QueryView) (counts next : List Count) (slot : Slot) (slots : L
       omega (arith, filled g least, filled_both query (standing_at slot number) (standing_by query (opened query slot number ++ slots) others) g)
 
   -- one number more, as the first of the others
-  pub completes_first : 1 ≤ number → number ≤ most_at query slot → (others : List ℕ) → Completes query next (opened query slot number ++ slots) others → Completes query counts (slot ∷ slots) (number ∷ others)
+  pub completes_first : 1 ≤ number → number ≤ most_at query slot → (others : List ℕ)
+      → Completes query next (opened query slot number ++ slots) others
+      → Completes query counts (slot ∷ slots) (number ∷ others)
   completes_first least most others is = record {
     chooses = (least, most, is.chooses);
     logic = allowed_same query _ _ _ _ (sites_next others) (filled_next others) is.logic;

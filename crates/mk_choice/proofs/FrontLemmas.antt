@@ -1,79 +1,102 @@
--- The least list from a front, one number after another.
---     least_more      the least behind a first number is the least of all, where all lower first numbers are passed
---     none_more       where no first number is left there is none
-use Rattle.std.proofs.Common.{◌≡◌, ℕ, ◌<◌, ◌≤◌, inl, inr, Bool, true, false, cond, eqb, List, [], ◌∷◌, None, refl, subst, arith}
-use Rattle.std.proofs.lemmas.Bool.{cases_lt, cases_eq}
-use Rattle.std.proofs.lemmas.Bool.Decides.{nat_tests}
-use Rattle.mk_text.specs.Rising.{IsBelow}
-use Rattle.mk_text.specs.Rising.{IsLeast, IsLeastFrom}
-use Rattle.mk_choice.specs.Fronts.{rest_after, least_first, IsPassed}
+-- The lists from which what is left goes on, in order.
+--     goes_on               what lies between numbers with a number behind them and the same with a greater one
+--     same_through, least_through, none_through      what is left from one list on, and from a second and a third
+--     past_up, past_same    past a number behind which nothing is
+--     back_up, back_same    past all that goes on behind the last number
+use Rattle.std.proofs.Common.{◌≡◌, ℕ, ◌+◌, ◌<◌, ◌≤◌, inl, inr, List, [], ◌∷◌, ◌++◌, None, refl, ap, subst, ◌∙◌, arith, append_assoc}
+use Rattle.mk_text.specs.Rising.{IsBelow, IsLeast, IsLeastFrom}
+use Rattle.mk_text.proofs.ForCallers.{below_through, not_below_itself}
+use Rattle.mk_model.specs.Nodes.{SameFrom}
+use Rattle.mk_model.proofs.ForCallers.{below_next}
 
--- what isn't below a front isn't below what is left of it behind the first number
-rest_by : (r a : ℕ) (rest others : List ℕ) (b : Bool) → eqb r a ≡ b → (IsBelow (a ∷ others) (r ∷ rest) → ⊥) → IsBelow others (cond b rest []) → ⊥
-rest_by r a rest others true e not below = not (inr ((let same : a ≡ r = grind (arith, nat_tests) in same), below))
-rest_by r a rest others false e not below = below
+-- ---- what lies between
 
-pub from_rest : (a : ℕ) (front others : List ℕ) → (IsBelow (a ∷ others) front → ⊥) → IsBelow others (rest_after front a) → ⊥
-from_rest a [] others not below = below
-from_rest a (r ∷ rest) others not below = rest_by r a rest others _ refl not below
+-- a list that goes on behind some numbers with a number from a first one on and below a second, and,
+-- where it is the first, with no less than a tail
+pub record GoesOn (numbers : List ℕ) (a c : ℕ) (tail xs : List ℕ) : Type 0 where
+  pub number : ℕ
+  pub more : List ℕ
+  pub whole : xs ≡ numbers ++ number ∷ more
+  pub least : a ≤ number
+  pub most : number < c
+  pub over : number ≡ a → IsBelow more tail → ⊥
 
--- and the other way round
-front_by : (r a : ℕ) (rest others : List ℕ) (b : Bool) → eqb r a ≡ b → r ≤ a → (IsBelow others (cond b rest []) → ⊥) → IsBelow (a ∷ others) (r ∷ rest) → ⊥
-front_by r a rest others true e at_least not (inl less) = absurd (omega arith)
-front_by r a rest others true e at_least not (inr h) = not h.1
-front_by r a rest others false e at_least not (inl less) = absurd (omega arith)
-front_by r a rest others false e at_least not (inr h) = absurd (let same : a ≡ r = h.0 in grind (arith, nat_tests))
-
-pub from_front : (a : ℕ) (front others : List ℕ) → least_first front ≤ a → (IsBelow others (rest_after front a) → ⊥) → IsBelow (a ∷ others) front → ⊥
-from_front a [] others at_least not below = below
-from_front a (r ∷ rest) others at_least not below = front_by r a rest others _ refl at_least not below
-
--- numbers below the first of the front are passed
-pub passed_first : (P : List ℕ → Type 0) (front : List ℕ) (above : ℕ) → above < least_first front → IsPassed P front above
-passed_first P [] above less = λ b others up_to has not. absurd (omega arith)
-passed_first P (r ∷ rest) above less = λ b others up_to has not. not (inl (omega arith))
-
--- the least behind a first number is the least of all, where all lower first numbers are passed
-pub least_more : (P : List ℕ → Type 0) (front : List ℕ) (a above : ℕ) (others : List ℕ) → (P [] → ⊥) → IsPassed P front above → ((b : ℕ) (more : List ℕ) → above < b → b < a → P (b ∷ more) → ⊥) → least_first front ≤ a
-    → IsLeast (rest_after front a) (λ more. P (a ∷ more)) others → IsLeast front P (a ∷ others)
-least_more P front a above others some passed between at_least least = record {
-  has = least.has;
-  from = from_front a front others at_least least.from;
-  least = λ other has not below. by_other other has not below;
+-- what isn't below the numbers with one number behind them, and is below them with another
+pub goes_on : (numbers : List ℕ) (a c : ℕ) (tail xs : List ℕ) → (IsBelow xs (numbers ++ a ∷ tail) → ⊥) → IsBelow xs (numbers ++ c ∷ []) → GoesOn numbers a c tail xs
+goes_on [] a c tail [] not below = absurd (not tt)
+goes_on [] a c tail (x ∷ xs) not (inl less) = record {
+  number = x;
+  more = xs;
+  whole = refl;
+  least = omega (arith, λ (under : x < a). not (inl under));
+  most = less;
+  over = λ is below. not (inr (is, below));
 }
-  where
-    by_other : (other : List ℕ) → P other → (IsBelow other front → ⊥) → IsBelow other (a ∷ others) → ⊥
-    by_other [] has not below = some has
-    by_other (b ∷ more) has not (inl less) =
-        elim (cases_lt above b) [
-          | inl over ↦ between b more over less has
-          | inr up_to ↦ passed b more up_to has not
-        ]
-    by_other (b ∷ more) has not (inr h) =
-        let here : P (a ∷ more) = subst (λ (n : ℕ). P (n ∷ more)) h.0 has in
-        let there : IsBelow (a ∷ more) front → ⊥ = subst (λ (n : ℕ). IsBelow (n ∷ more) front → ⊥) h.0 not in
-        least.least more here (from_rest a front more there) h.1
+goes_on [] a c tail (x ∷ xs) not (inr h) = absurd h.1
+goes_on (y ∷ numbers) a c tail [] not below = absurd (not tt)
+goes_on (y ∷ numbers) a c tail (x ∷ xs) not (inl less) = absurd (not (inl less))
+goes_on (y ∷ numbers) a c tail (x ∷ xs) not (inr h) =
+    let behind = goes_on numbers a c tail xs (λ below. not (inr (h.0, below))) h.1 in
+    let whole = behind.whole in
+    let first = h.0 in
+    record { number = behind.number; more = behind.more; whole = cc; least = behind.least; most = behind.most; over = behind.over }
 
--- one more first number is passed
-pub passed_more : (P : List ℕ → Type 0) (front : List ℕ) (a above : ℕ) → IsPassed P front above → ((b : ℕ) (more : List ℕ) → above < b → b < a → P (b ∷ more) → ⊥)
-    → IsLeastFrom (rest_after front a) (λ more. P (a ∷ more)) None → IsPassed P front a
-passed_more P front a above passed between none b more up_to has not =
-    elim (cases_eq b a) [
-      | inl same ↦
-          let here : P (a ∷ more) = subst (λ (n : ℕ). P (n ∷ more)) same has in
-          let there : IsBelow (a ∷ more) front → ⊥ = subst (λ (n : ℕ). IsBelow (n ∷ more) front → ⊥) same not in
-          none more here (from_rest a front more there)
-      | inr other ↦ elim (cases_lt above b) [
-        | inl over ↦ between b more over (omega arith) has
-        | inr under ↦ passed b more under has not
-      ]
-    ]
+-- ---- from one list through another
 
--- where all first numbers are passed there is none
-pub none_more : (P : List ℕ → Type 0) (front : List ℕ) (above : ℕ) → (P [] → ⊥) → IsPassed P front above → ((b : ℕ) (more : List ℕ) → above < b → P (b ∷ more) → ⊥) → IsLeastFrom front P None
-none_more P front above some passed beyond [] has not = some has
-none_more P front above some passed beyond (b ∷ more) has not =
-    elim (cases_lt above b) [
-      | inl over ↦ beyond b more over has
-      | inr under ↦ passed b more under has not
-    ]
+module _ (P : List ℕ → Type 0) where
+  pub same_here : (here : List ℕ) → SameFrom P here here
+  same_here here = record { on = λ xs has not. not; back = λ xs has not. not }
+
+  pub same_through : (here through there : List ℕ) → SameFrom P here through → SameFrom P through there → SameFrom P here there
+  same_through here through there first last = record {
+    on = λ xs has not. last.on xs has (first.on xs has not);
+    back = λ xs has not. first.back xs has (last.back xs has not);
+  }
+
+  -- what is least from the second list on is least from the first on
+  pub least_through : (here there found : List ℕ) → SameFrom P here there → IsLeast there P found → IsLeast here P found
+  least_through here there found same least = record {
+    has = least.has;
+    from = same.back found least.has least.from;
+    least = λ other has not. least.least other has (same.on other has not);
+  }
+
+  pub none_through : (here there : List ℕ) → SameFrom P here there → IsLeastFrom there P None → IsLeastFrom here P None
+  none_through here there same none other has not = none other has (same.on other has not)
+
+  -- what has P is the least from itself on
+  pub least_itself : (xs : List ℕ) → P xs → IsLeast xs P xs
+  least_itself xs has = record { has = has; from = not_below_itself xs; least = λ other has' not. not }
+
+-- what has a property that implies another
+pub same_of : (P Q : List ℕ → Type 0) → ((xs : List ℕ) → Q xs → P xs) → (here there : List ℕ) → SameFrom P here there → SameFrom Q here there
+same_of P Q to here there same = record { on = λ xs has. same.on xs (to xs has); back = λ xs has. same.back xs (to xs has) }
+
+-- ---- past a number
+
+-- numbers with a greater number behind them aren't below
+pub past_up : (numbers : List ℕ) (c : ℕ) (tail : List ℕ) → IsBelow (numbers ++ (c + 1) ∷ []) (numbers ++ c ∷ tail) → ⊥
+past_up numbers c tail below =
+    not_below_itself (numbers ++ c ∷ tail) (below_through (numbers ++ c ∷ tail) (numbers ++ (c + 1) ∷ []) (numbers ++ c ∷ tail) (below_next numbers c (c + 1) tail [] (omega arith)) below)
+
+module _ (P : List ℕ → Type 0) (numbers : List ℕ) (c : ℕ) (tail : List ℕ) (none : (more : List ℕ) → P (numbers ++ c ∷ more) → (IsBelow more tail → ⊥) → ⊥) where
+  -- where nothing from the tail on stands behind a number, what is left goes on above it
+  pub past_same : SameFrom P (numbers ++ c ∷ tail) (numbers ++ (c + 1) ∷ [])
+  past_same = record {
+    on = λ xs has not below. between xs has not below;
+    back = λ xs has not below.
+        not (below_through xs (numbers ++ c ∷ tail) (numbers ++ (c + 1) ∷ []) below (below_next numbers c (c + 1) tail [] (omega arith)));
+  }
+    where
+      between : (xs : List ℕ) → P xs → (IsBelow xs (numbers ++ c ∷ tail) → ⊥) → IsBelow xs (numbers ++ (c + 1) ∷ []) → ⊥
+      between xs has not below =
+          let behind = goes_on numbers c (c + 1) tail xs not below in
+          let number_is : behind.number ≡ c = omega (arith, behind.least, behind.most) in
+          let whole : xs ≡ numbers ++ c ∷ behind.more = behind.whole ∙ ap (λ (n : ℕ). numbers ++ n ∷ behind.more) number_is in
+          none behind.more (subst P whole has) (behind.over number_is)
+
+-- ---- back by one number
+
+-- what goes on behind numbers that end with a last one
+pub behind_last : (numbers : List ℕ) (last above : ℕ) → (numbers ++ last ∷ []) ++ (above + 1) ∷ [] ≡ numbers ++ last ∷ (above + 1) ∷ []
+behind_last numbers last above = append_assoc numbers (last ∷ []) ((above + 1) ∷ [])

@@ -1,8 +1,8 @@
 pub mod FrontLemmas
 pub mod SlotLemmas
 pub mod CountLemmas
-pub mod SearchLemmas
 pub mod ValidLemmas
+pub mod FrameLemmas
 pub mod CodesLemmas
 pub mod CodesLeftLemmas
 pub mod WithinLemmas
@@ -12,5 +12,7 @@ pub mod LostLemmas
 pub mod AheadLemmas
 pub mod OnLiterals
 pub mod ForCallers
-pub mod ReachLemmas
 pub mod TurnLemmas
+pub mod MoveLemmas
+pub mod StepLemmas
+pub mod SeekLemmas

@@ -1,23 +1,24 @@
 -- The example of docs/MEANING.md, computed: `[C R# R# | 1-2 1-3]` with the groups 1 and 2, of which group 1 asks for group 2 where it is
 -- filled. Its valid codes are 1 1, 2 1 and 2 2.
 use Rattle.std.proofs.Common.{◌≡◌, ℕ, inl, inr, List, [], ◌∷◌, None, refl, subst, arith}
+use Rattle.std.specs.Prelude.{false, true}
 use Rattle.mk_text.specs.Rising.{Holds, IsBelow, IsLeast, IsLeastFrom, IsRisingListOfAll}
 use Rattle.mk_model.specs.Logic.{IsValid}
 use Rattle.mk_model.specs.PlainCodes.{is_allowed_code, valid_codes}
 use Rattle.mk_model.proofs.ForCallers.{valid_codes_listed as law}
 use Rattle.mk_model.proofs.OnLiterals.{group, plain_group, range, single, then_query, two_sites}
-use Rattle.mk_choice.specs.Fronts.{rest_after}
+use Rattle.mk_choice.specs.Frames.{from_at}
 use Rattle.mk_fixtures.proofs.ExampleFits.{fits}
 
--- ---- fronts
+-- ---- frames
 
--- behind a number that the front begins with its others are left
-front_goes_on : rest_after (1 ∷ 2 ∷ []) 1 ≡ 2 ∷ []
-front_goes_on = refl
+-- what is still to come goes on behind the numbers with one above the last that was tried
+goes_on_above : from_at false (1 ∷ []) 1 ≡ 1 ∷ 2 ∷ []
+goes_on_above = refl
 
--- and behind any other number nothing
-front_is_left : rest_after (1 ∷ 2 ∷ []) 2 ≡ []
-front_is_left = refl
+-- or it begins with the numbers themselves
+begins_with_themselves : from_at true (1 ∷ 2 ∷ []) 0 ≡ 1 ∷ 2 ∷ []
+begins_with_themselves = refl
 
 -- ---- the codes from a front on
 

@@ -87,7 +87,9 @@ room_left query slot slots k known leaves = (let code = some_code query (slot �
     by_code (number ∷ code) chooses = omega (arith, leaves (number ∷ code) chooses)
 
 -- behind one number more there is room too
-pub leaves_more : (query : QueryView) (slot : Slot) (slots : List Slot) (k number : ℕ) → 1 ≤ number → number ≤ most_at query slot → LeavesRoom query (slot ∷ slots) k → LeavesRoom query (opened query slot number ++ slots) (k + 1)
+pub leaves_more : (query : QueryView) (slot : Slot) (slots : List Slot) (k number : ℕ) → 1 ≤ number
+    → number ≤ most_at query slot → LeavesRoom query (slot ∷ slots) k
+    → LeavesRoom query (opened query slot number ++ slots) (k + 1)
 leaves_more query slot slots k number least most leaves others chooses = omega (arith, leaves (number ∷ others) (least, most, chooses))
 
 -- counts that are at most so many are at most more

@@ -1,21 +1,22 @@
 -- Turns of `Codes`: what is left behind what they come to, and what they pay.
 --     turn_item, turn_open, turn_dead, turn_end      what a turn comes to
---     ready_item, ready_open, ready_dead             what is kept behind it
-use Rattle.std.proofs.Common.{◌≡◌, ℕ, ◌+◌, ◌<◌, ◌≤◌, inl, inr, List, [], ◌∷◌, ◌++◌, length, take, Option, Some, None, refl, sym, ap, subst, ◌∙◌, arith, append_assoc, append-nil, length-append}
+--     ready_behind, ready_still, ready_place         what is kept
+use Rattle.std.proofs.Common.{◌≡◌, ℕ, ◌<◌, ◌≤◌, inl, inr, List, [], ◌∷◌, ◌++◌, length, take, None, refl, sym, subst, arith, append-nil}
 use Rattle.mk_text.specs.Rising.{IsBelow, IsLeast, IsLeastFrom}
-use Rattle.mk_text.proofs.ForCallers.{below_after, between_none, below_or_not, not_below_after, not_below_itself}
+use Rattle.mk_text.proofs.ForCallers.{below_through, below_what_isnt, between_none, not_below_itself}
 use Rattle.mk_model.specs.Codes.{IsCode}
 use Rattle.mk_model.specs.Logic.{IsValid}
 use Rattle.mk_model.specs.Nodes.{BeginsCode, Pays, SameFrom}
 use Rattle.mk_model.specs.Queries.{QueryView, slots_of}
 use Rattle.mk_model.specs.declared.template.Slot.{Slot}
 use Rattle.mk_model.specs.OpenSlots.{Chooses}
-use Rattle.mk_model.proofs.ForCallers.{below_more, chooses_of, code_of_valid, not_below_front, not_below_through, pays_visit}
+use Rattle.mk_model.proofs.ForCallers.{chooses_of, code_of_valid, not_below_front, not_below_through, pays_visit}
 use Rattle.std.proofs.lemmas.List.{length-take-le}
-use Rattle.mk_choice.specs.Bounds.{AreBounds}
+use Rattle.mk_choice.specs.declared.frames.Frames.{Frames}
+use Rattle.mk_choice.specs.Frames.{AreFrames, from_of}
+use Rattle.mk_choice.proofs.FrontLemmas.{same_of, same_through}
 use Rattle.mk_choice.specs.Codes.{IsReady, IsTurn}
-use Rattle.mk_model.specs.declared.turn.Turn.TheVariants.{Item, Moved, End}
-use Rattle.mk_choice.proofs.CodesLemmas.{no_valid_begins_another}
+use Rattle.mk_model.specs.declared.turn.Turn.TheVariants.{Item, Moved}
 
 -- ---- the order
 
@@ -45,12 +46,12 @@ longer (x ∷ xs) (y ∷ front) tail (inr h) = inr (h.0, longer xs front tail h.
 
 module _ (query : QueryView) where
   -- a valid code begins itself
-  begins_itself : (code : List ℕ) → IsValid query code → BeginsCode query code
+  pub begins_itself : (code : List ℕ) → IsValid query code → BeginsCode query code
   begins_itself code is = record { more = []; code = subst (λ (xs : List ℕ). IsCode query 0 xs) (sym (append-nil code)) (code_of_valid query code is) }
 
   module _ (place front node : List ℕ) (same : SameFrom (IsValid query) place front) (least : IsLeast front (BeginsCode query) node) where
     -- from the node on the same codes are left
-    same_node : SameFrom (IsValid query) place node
+    pub same_node : SameFrom (IsValid query) place node
     same_node = record {
       on = λ xs has not below. least.least xs (begins_itself xs has) (same.on xs has not) below;
       back = λ xs has not below. least_up xs has not below;
@@ -68,20 +69,6 @@ module _ (query : QueryView) where
 
     pub moved_same : SameFrom (IsValid query) place node
     moved_same = same_node
-
-  -- behind a code, a place and the next one leave the same
-  pub same_zeros : (code : List ℕ) → IsValid query code → SameFrom (IsValid query) (code ++ 0 ∷ []) (code ++ 0 ∷ 0 ∷ [])
-  same_zeros code valid = record {
-    on = λ xs has not below. none_there xs has not below;
-    back = λ xs has not below. not (rw (sym (append_assoc code (0 ∷ []) (0 ∷ []))) (longer xs (code ++ 0 ∷ []) (0 ∷ []) below));
-  }
-    where
-      none_there : (xs : List ℕ) → IsValid query xs → (IsBelow xs (code ++ 0 ∷ []) → ⊥) → IsBelow xs (code ++ 0 ∷ 0 ∷ []) → ⊥
-      none_there xs has not below =
-          let b = begins xs (code ++ 0 ∷ []) (0 ∷ []) not (rw (append_assoc code (0 ∷ []) (0 ∷ [])) below) in
-          let longer_code : IsValid query (code ++ 0 ∷ b.rest) = subst (IsValid query) (b.whole ∙ append_assoc code (0 ∷ []) b.rest) has in
-          let none = no_valid_begins_another query code (0 ∷ b.rest) valid longer_code in
-          absurd cc
 
   -- behind numbers that are no code
   pub same_open : (node : List ℕ) → (IsValid query node → ⊥) → SameFrom (IsValid query) node (node ++ 0 ∷ [])
@@ -118,65 +105,50 @@ module _ (query : QueryView) where
 pub put_there : (code kept : List ℕ) (n : ℕ) → n ≤ length code → take (length (take n code)) kept ≡ take n code → take n kept ≡ take n code
 put_there code kept n within put = subst (λ (m : ℕ). take m kept ≡ take n code) (length-take-le n code within) put
 
-module _ (query : QueryView) (kept code most : List ℕ) (n : ℕ) (bounds : AreBounds query most) (size : length code ≡ 512) (room : 514 ≤ length kept) (few : n ≤ 512) (v : List ℕ) where
-  pub ready_code : IsValid query v → take (n + 1) kept ≡ v ++ 0 ∷ [] → take (n + 2) kept ≡ v ++ 0 ∷ 0 ∷ [] → IsReady query kept code most (n + 1) (n + 2) 0
-  ready_code valid one two = record {
-    bounds = bounds;
+module _ (query : QueryView) (most : List ℕ) (frames : Frames) (are : AreFrames query most frames) where
+  -- behind a turn
+  pub ready_behind : (place : List ℕ) (len : ℕ) → 514 ≤ length place → len ≤ 514 → (at : List ℕ) → take len place ≡ at
+      → SameFrom (IsValid query) at (from_of frames) → IsBelow at (from_of frames) → IsReady query most frames place len 0
+  ready_behind place len room few at is same over = record {
+    frames_are = are;
     within = omega (arith, room, few);
-    front_within = omega (arith, room, few);
-    same = rw (one, two) (same_zeros query v valid);
-    up = rw (one, two, sym (append_assoc v (0 ∷ []) (0 ∷ []))) (not_below_front (v ++ 0 ∷ []) (0 ∷ []));
-    owed = λ _. rw (one, two, sym (append_assoc v (0 ∷ []) (0 ∷ []))) (below_more (v ++ 0 ∷ []) 0 []);
     room = room;
-    size = size;
+    same = rw is same;
+    up = rw is (λ below. not_below_itself at (below_through at (from_of frames) at over below));
+    owed = λ _. rw is over;
   }
 
-  pub ready_moved : (x : ℕ) → SameFrom (IsValid query) v (v ++ x ∷ []) → take n kept ≡ v → take (n + 1) kept ≡ v ++ x ∷ [] → IsReady query kept code most n (n + 1) 0
-  ready_moved x same one two = record {
-    bounds = bounds;
-    within = omega (arith, room, few);
-    front_within = omega (arith, room, few);
-    same = rw (one, two) same;
-    up = rw (one, two) (not_below_front v (x ∷ []));
-    owed = λ _. rw (one, two) (below_more v x []);
-    room = room;
-    size = size;
+  -- where nothing is left
+  pub ready_still : (old : Frames) (place : List ℕ) (len debt : ℕ) → IsReady query most old place len debt
+      → SameFrom (IsValid query) (from_of old) (from_of frames) → (IsBelow (from_of frames) (from_of old) → ⊥) → IsReady query most frames place len debt
+  ready_still old place len debt ready same up = record {
+    frames_are = are;
+    within = ready.within;
+    room = ready.room;
+    same = same_through (IsValid query) (take len place) (from_of old) (from_of frames) ready.same same;
+    up = not_below_through (from_of frames) (from_of old) (take len place) up ready.up;
+    owed = λ none. below_what_isnt (take len place) (from_of frames) (from_of old) (ready.owed none) up;
   }
 
--- ---- at the start
+  -- as they are made from a place
+  pub ready_place : (place : List ℕ) (n : ℕ) → 514 ≤ length place → n ≤ length place → (from : List ℕ) → take n place ≡ from
+      → SameFrom (BeginsCode query) from (from_of frames) → (IsBelow (from_of frames) from → ⊥) → IsReady query most frames place n 1
+  ready_place place n room within from is same up = record {
+    frames_are = are;
+    within = within;
+    room = room;
+    same = rw is (same_of (BeginsCode query) (IsValid query) (begins_itself query) from (from_of frames) same);
+    up = rw is up;
+    owed = λ none. absurd (omega (arith, none));
+  }
 
--- the empty place of a root with slots
-pub ready_none : (query : QueryView) (kept code most : List ℕ) → AreBounds query most → length code ≡ 512 → 514 ≤ length kept → 0 < length (slots_of query 0) → take 1 kept ≡ 0 ∷ [] → IsReady query kept code most 0 1 0
-ready_none query kept code most bounds size room some one = record {
-  bounds = bounds;
-  within = omega arith;
-  front_within = omega (arith, room);
-  same = rw one (same_open query [] no_code);
-  up = λ below. below;
-  owed = λ _. rw one tt;
-  room = room;
-  size = size;
-}
+-- the empty place of a root with slots isn't a code
+pub no_empty_code : (query : QueryView) → 0 < length (slots_of query 0) → IsValid query [] → ⊥
+no_empty_code query some valid = chosen (slots_of query 0) some (chooses_of query 0 [] (code_of_valid query [] valid))
   where
-    no_code : IsValid query [] → ⊥
-    no_code valid = chosen (slots_of query 0) some (chooses_of query 0 [] (code_of_valid query [] valid))
-      where
-        chosen : (slots : List Slot) → 0 < length slots → Chooses query slots [] → ⊥
-        chosen [] some' chooses = omega (arith, some')
-        chosen (slot ∷ slots) some' chooses = chooses
-
--- another place
-pub ready_place : (query : QueryView) (kept code most : List ℕ) (n : ℕ) → AreBounds query most → length code ≡ 512 → 514 ≤ length kept → n ≤ length kept → IsReady query kept code most n n 1
-ready_place query kept code most n bounds size room within = record {
-  bounds = bounds;
-  within = within;
-  front_within = within;
-  same = record { on = λ xs has not. not; back = λ xs has not. not };
-  up = not_below_itself (take n kept);
-  owed = λ none. absurd (omega (arith, none));
-  room = room;
-  size = size;
-}
+    chosen : (slots : List Slot) → 0 < length slots → Chooses query slots [] → ⊥
+    chosen [] some' chooses = omega (arith, some')
+    chosen (slot ∷ slots) some' chooses = chooses
 
 -- ---- what a turn comes to
 

@@ -13,7 +13,8 @@ use Rattle.mk_model.specs.declared.turn.Turn.TheVariants.{Item, Moved, End}
 use Rattle.mk_model.specs.Nodes.{BeginsCode, Pays, SameFrom}
 use Rattle.mk_model.specs.Queries.{QueryView, slots_of}
 use Rattle.mk_model.specs.Logic.{IsValid}
-use Rattle.mk_choice.specs.Bounds.{AreBounds}
+use Rattle.mk_choice.specs.declared.frames.Frames.{Frames}
+use Rattle.mk_choice.specs.Frames.{AreFrames, from_of}
 
 -- what is seen of a `Codes`: its query, the place from which codes are left, and what is owed there
 pub record CodesLeft : Type 0 where
@@ -21,18 +22,16 @@ pub record CodesLeft : Type 0 where
   pub place : List ℕ
   pub debt : ℕ
 
--- what a `Codes` keeps beside: bounds of its query; a front, from which the same codes are left as
--- from the place, and which is above it but where something is owed; room for a further place and
--- for a code
-pub record IsReady (query : QueryView) (place code most : List ℕ) (len front debt : ℕ) : Type 0 where
-  pub bounds : AreBounds query most
+-- what a `Codes` keeps beside: bounds of its query; frames, from which the same codes are left as
+-- from the place, and what they come to isn't below the place, and is above it but where something
+-- is owed; room for a further place
+pub record IsReady (query : QueryView) (most : List ℕ) (frames : Frames) (place : List ℕ) (len debt : ℕ) : Type 0 where
+  pub frames_are : AreFrames query most frames
   pub within : len ≤ length place
-  pub front_within : front ≤ length place
-  pub same : SameFrom (IsValid query) (take len place) (take front place)
-  pub up : IsBelow (take front place) (take len place) → ⊥
-  pub owed : debt ≡ 0 → IsBelow (take len place) (take front place)
   pub room : 514 ≤ length place
-  pub size : length code ≡ 512
+  pub same : SameFrom (IsValid query) (take len place) (from_of frames)
+  pub up : IsBelow (from_of frames) (take len place) → ⊥
+  pub owed : debt ≡ 0 → IsBelow (take len place) (from_of frames)
 
 -- the codes are those from the place on, and no more is owed than the place has numbers; where the
 -- root has no slots, it may be one more

@@ -1,9 +1,8 @@
-pub mod Fronts
 pub mod Pending
 pub mod Search
 pub mod Bounds
 pub mod Ahead
+pub mod Frames
 pub mod Codes
 pub mod Lending
 pub mod Within
-pub mod Reaching

@@ -1,14 +1,13 @@
--- For the code: what a search for codes keeps for the numbers chosen so far.
+-- For the code: what is asked of the numbers that are chosen behind others.
 --     IsKnown slot                    a slot as queries have them
 --     Completes query counts slots others    the others choose at the open slots, and make the
 --                                            counts allowed
---     CompletesWith query counts slots number others    a number and the others behind it do
 --     CantComplete query counts slots        nothing does
 --     AreCounts k counts              the counts of 32 groups, each at most k
 --     AreNone counts                  counts of nothing
 --     LeavesRoom query slots k        what can be chosen at the open slots has room behind k
 --                                     numbers
-use Rattle.std.specs.Prelude.{◌≡◌, ◌≤◌, ◌+◌, ℕ, List, ◌∷◌, length, All}
+use Rattle.std.specs.Prelude.{◌≡◌, ◌≤◌, ◌+◌, ℕ, List, length, All}
 use Rattle.mk_model.specs.declared.query.Count.{Count}
 use Rattle.mk_model.specs.declared.template.Slot.{Slot}
 use Rattle.mk_model.specs.declared.template.Slot.TheVariants.{Link, Site}
@@ -37,10 +36,6 @@ pub record Completes (query : QueryView) (counts : List Count) (slots : List Slo
   pub logic :
       let more = standing_by query slots others in
       IsAllowed query (sites_with counts more) (filled_with query counts more)
-
--- the number does, with the others behind it
-abbrev pub CompletesWith : QueryView → List Count → List Slot → ℕ → List ℕ → Type 0
-CompletesWith query counts slots number others = Completes query counts slots (number ∷ others)
 
 -- nothing that is chosen at the open slots makes the counts allowed
 abbrev pub CantComplete : QueryView → List Count → List Slot → Type 0

@@ -7,9 +7,8 @@ ghost use Rattle.mk_text.specs.Rising.{IsLeastFrom};
 ghost use Rattle.mk_model.specs.Logic.{IsValid};
 
 use crate::bounds::bounds_of;
+use crate::frames::Frames;
 use crate::numbers::slots_of;
-use crate::reaching::{Reached, put_node};
-use crate::search::put_least;
 use mk_model::{Code, Memory, Place, Query, Turn};
 use std::alloc::Global;
 use std::marker::Model;
@@ -18,25 +17,24 @@ use std::marker::Model;
 pub fn least_code(alloc: Global, query: &Query, front: &[u32]) -> Result<Option<Code>, Memory>
     ensures least { IfOk result (IsLeastFrom front.now (IsValid query.now)) }
 {
-    let most = bounds_of(alloc, query)?;
-    let mut code = vec![in alloc; 0u32; 512]?;
-    let Some(n) = put_least(query, &most, &mut code, front) else {
+    let mut codes = Codes::from_place(alloc, query, front)?;
+    if !codes.take() {
         return Ok(None);
-    };
-    code.truncate(n);
+    }
+    let mut code = Vec::new(alloc);
+    code.extend_from_slice(codes.item())?;
     Ok(Some(Code::of(code)))
 }
 
-/// The valid codes of a query from a place on. It holds the place, the front from which it goes on,
-/// and room for a code.
+/// The valid codes of a query from a place on. It holds the place, and the frames from which it goes
+/// on.
 #[derive(Debug, Drop)]
 pub struct Codes<'a> {
+    frames: Frames,
     place: Vec<u32>,
-    code: Vec<u32>,
     most: Vec<u32>,
     query: &'a Query,
     len: usize,
-    front: usize,
     debt: u32,
 }
 
@@ -48,7 +46,7 @@ impl<'a> Model for Codes<'a> {
 
     ghost view = { λ c. record { query = c.query.now; place = take c.len c.place.items; debt = c.debt } };
 
-    ghost invariant = { λ c. IsReady c.query.now c.place.items c.code.items c.most.items c.len c.front c.debt };
+    ghost invariant = { λ c. IsReady c.query.now c.most.items c.frames c.place.items c.len c.debt };
 }
 
 impl<'a> Codes<'a> {
@@ -62,27 +60,25 @@ impl<'a> Codes<'a> {
     {
         let mut kept = vec![in alloc; 0u32; place.len().max(514)]?;
         put(&mut kept, place);
-        let code = vec![in alloc; 0u32; 512]?;
         let most = bounds_of(alloc, query)?;
+        let mut frames = Frames::of(alloc, query, &most)?;
         if begins_all(query, place) {
-            put_last(&mut kept, 0, 0);
             return Ok(Codes {
+                frames,
                 place: kept,
-                code,
                 most,
                 query,
                 len: 0,
-                front: 1,
                 debt: 0,
             });
         }
+        frames.seek(query, &most, place);
         Ok(Codes {
+            frames,
             place: kept,
-            code,
             most,
             query,
             len: place.len(),
-            front: place.len(),
             debt: 1,
         })
     }
@@ -111,38 +107,21 @@ impl<'a> Codes<'a> {
     pub fn advance(&mut self) -> Turn
         ensures { IsTurn self.old self.new result }
     {
-        let Some(node) = put_node(
-            self.query,
-            &self.most,
-            &mut self.code,
-            &self.place[..self.front],
-        ) else {
+        if !self.frames.next_node(self.query, &self.most) {
             return Turn::End;
-        };
-        put(&mut self.place, &self.code[..node.len]);
-        match node.comes {
-            Reached::Code => {
-                put_zeros(&mut self.place, node.len);
-                self.len = node.len + 1;
-                self.front = node.len + 2;
-                self.debt = 0;
-                Turn::Item
-            }
-            Reached::Open => {
-                put_last(&mut self.place, node.len, 0);
-                self.len = node.len;
-                self.front = node.len + 1;
-                self.debt = 0;
-                Turn::Moved
-            }
-            Reached::Dead => {
-                put_last(&mut self.place, node.len, u32::MAX);
-                self.len = node.len;
-                self.front = node.len + 1;
-                self.debt = 0;
-                Turn::Moved
-            }
         }
+        let n = self.frames.depth;
+        if self.frames.settle(self.query, &self.most) {
+            put(&mut self.place, &self.frames.numbers[..n]);
+            put_last(&mut self.place, n);
+            self.len = n + 1;
+            self.debt = 0;
+            return Turn::Item;
+        }
+        put(&mut self.place, &self.frames.numbers[..n]);
+        self.len = n;
+        self.debt = 0;
+        Turn::Moved
     }
 
     /// The code that the last turn took out.
@@ -157,18 +136,13 @@ impl<'a> Codes<'a> {
     fn take(&mut self) -> bool
         ensures { IsTaken self.old self.new result }
     {
-        let Some(n) = put_least(
-            self.query,
-            &self.most,
-            &mut self.code,
-            &self.place[..self.front],
-        ) else {
+        if !self.frames.next_code(self.query, &self.most) {
             return false;
-        };
-        put(&mut self.place, &self.code[..n]);
-        put_zeros(&mut self.place, n);
+        }
+        let n = self.frames.depth;
+        put(&mut self.place, &self.frames.numbers[..n]);
+        put_last(&mut self.place, n);
         self.len = n + 1;
-        self.front = n + 2;
         self.debt = 0;
         true
     }
@@ -185,25 +159,13 @@ fn put(place: &mut Vec<u32>, numbers: &[u32])
     }
 }
 
-// Puts a number behind the first n.
-fn put_last(place: &mut Vec<u32>, n: usize, number: u32)
+// Puts a 0 behind the first n.
+fn put_last(place: &mut Vec<u32>, n: usize)
     requires { n < length place.old.items }
     ensures size { length place.new.items ≡ length place.old.items }
-    ensures put { take (n + 1) place.new.items ≡ take n place.old.items ++ number ∷ [] }
-    ensures same { take n place.new.items ≡ take n place.old.items }
-{
-    place[n] = number;
-}
-
-// Puts two zeros behind the first n.
-fn put_zeros(place: &mut Vec<u32>, n: usize)
-    requires { n + 1 < length place.old.items }
-    ensures size { length place.new.items ≡ length place.old.items }
-    ensures one { take (n + 1) place.new.items ≡ take n place.old.items ++ 0 ∷ [] }
-    ensures two { take (n + 2) place.new.items ≡ take n place.old.items ++ 0 ∷ 0 ∷ [] }
+    ensures put { take (n + 1) place.new.items ≡ take n place.old.items ++ 0 ∷ [] }
 {
     place[n] = 0;
-    place[n + 1] = 0;
 }
 
 // Tells that the place is the empty one, and that it is no code: then nothing is owed, since what

@@ -14,14 +14,12 @@
 
 mod bounds;
 mod codes;
-mod fronts;
+mod frames;
 mod laws;
 mod numbers;
 mod outlook;
 mod pending;
 mod pruning;
-mod reaching;
-mod search;
 #[cfg(test)]
 mod tests;
 mod within;

@@ -1,6 +1,7 @@
 // What a number means at a slot.
-ghost use Rattle.std.specs.Prelude.{◌≡◌, ◌≤◌, ◌<◌, ◌+◌, ◌∷◌, [], ℕ, All, IfNone, IfSome, length};
+ghost use Rattle.std.specs.Prelude.{◌≡◌, ◌≤◌, ◌<◌, ◌+◌, ◌-◌, ◌∷◌, [], ℕ, All, IfNone, IfSome, length};
 ghost use Rattle.mk_model.specs.Labels.{members_at};
+ghost use Rattle.mk_model.specs.Logic.{filled_of, sites_of};
 ghost use Rattle.mk_model.specs.Queries.{members_of, slots_of};
 ghost use Rattle.mk_model.specs.QueryFits.{QueryFits};
 ghost use Rattle.mk_model.specs.OpenSlots.{most_at, opened, standing_at};
@@ -67,6 +68,26 @@ pub fn counted(query: &Query, slot: Slot, number: u32, counts: [Count; 32]) -> [
     counts[i].sites += 1;
     if number as usize <= members_at(query, slot).len() {
         counts[i].filled += 1;
+    }
+    counts
+}
+
+/// The counts without the site of a slot, where it is one.
+pub fn uncounted(query: &Query, slot: Slot, number: u32, counts: [Count; 32]) -> [Count; 32]
+    requires known { IsKnown slot }
+    requires size { length counts ≡ 32 }
+    ensures size { length result ≡ 32 }
+    ensures sites { (g : ℕ) → 1 ≤ g → sites_at result g ≡ sites_at counts g - sites_of (standing_at slot number) g }
+    ensures filled { (g : ℕ) → 1 ≤ g → filled_at result g ≡ filled_at counts g - filled_of query.now (standing_at slot number) g }
+{
+    let Slot::Site { group, .. } = slot else {
+        return counts;
+    };
+    let mut counts = counts;
+    let i = group as usize - 1;
+    counts[i].sites = counts[i].sites.saturating_sub(1);
+    if number as usize <= members_at(query, slot).len() {
+        counts[i].filled = counts[i].filled.saturating_sub(1);
     }
     counts
 }

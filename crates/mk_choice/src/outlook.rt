@@ -35,8 +35,8 @@ pub fn with_slots(most: &[u32], ahead: Ahead, slots: &[Slot]) -> Ahead
     ahead
 }
 
-// What is ahead with one slot more.
-fn with_slot(most: &[u32], ahead: Ahead, slot: Slot) -> Ahead
+/// What is ahead with one slot more.
+pub fn with_slot(most: &[u32], ahead: Ahead, slot: Slot) -> Ahead
     requires size { length most.now ≡ 1024 }
     requires capped { (i : ℕ) → slice_index most.now i ≤ 513 }
     requires known { IsKnown slot }
@@ -71,6 +71,21 @@ pub fn without_first(most: &[u32], ahead: Ahead, slot: Slot) -> Ahead
         sites: one_less(ahead.sites, h),
         filled: lowered(ahead.filled, most, h),
     }
+}
+
+/// What is ahead without the first slots.
+pub fn without_slots(most: &[u32], ahead: Ahead, slots: &[Slot]) -> Ahead
+    requires size { length most.now ≡ 1024 }
+    requires known { All IsKnown slots.now }
+    requires rows { HasRows ahead }
+    ensures rows { HasRows result }
+    ensures ahead { (behind : List Slot) → IsAhead most.now (slots.now ++ behind) ahead → IsAhead most.now behind result }
+{
+    let mut ahead = ahead;
+    for slot in slots {
+        ahead = without_first(most, ahead, *slot);
+    }
+    ahead
 }
 
 // One site more of group h + 1.

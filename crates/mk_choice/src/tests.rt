@@ -2,7 +2,7 @@
 // and `[Cl | ]`, IF R1 THEN R2, R1 `0-1`, R2 `1`.
 use crate::{Codes, code_within, least_code};
 use mk_fixtures::query_of_two_sites;
-use mk_model::{Memory, Query};
+use mk_model::{Memory, Query, Turn};
 use std::alloc::Global;
 use std::test::Fail;
 
@@ -41,6 +41,30 @@ fn codes_in_order(rt: HostRuntime) -> Result<(), Fail> {
     Ok(())
 }
 
+// Places, and the turns from each: `M` comes to a beginning of a code, `I` takes the code out that
+// stands behind it, and `E` finds nothing left. The beginnings are 1, 1 1, 1 2, 2, 2 1 and 2 2.
+static TURNS: [(&str, &[u32], &str); 9] = [
+    ("the empty place", &[], "MI11MMI21I22E"),
+    ("numbers that begin a code", &[1], "MI11MMI21I22E"),
+    ("a code that isn't valid", &[1, 2], "MMI21I22E"),
+    ("a code itself", &[2, 1], "I21I22E"),
+    ("behind a code", &[2, 1, 0], "I22E"),
+    ("a code and more", &[1, 1, 2, 6, 0], "MMI21I22E"),
+    ("no code", &[1, 3, 1], "MI21I22E"),
+    ("no number", &[0, 9], "MI11MMI21I22E"),
+    ("behind the last", &[2, 2, 0], "E"),
+];
+
+#[test]
+fn turns(rt: HostRuntime) -> Result<(), Fail> {
+    let query = query_of_two_sites(rt.alloc())?;
+    for (name, place, want) in &TURNS {
+        let told = turns_from(rt.alloc(), &query, place)?;
+        assert!(rt; told.as_slice() == want.as_bytes(), "{name}");
+    }
+    Ok(())
+}
+
 // Numbers, and how many of the first are a structural code.
 static NUMBERS: [(&str, &[u32], Option<usize>); 6] = [
     ("a code", &[1, 1], Some(2)),
@@ -58,6 +82,27 @@ fn codes_at_the_front(rt: HostRuntime) -> Result<(), Fail> {
         assert!(rt; code_within(&query, numbers) == *want, "{name}");
     }
     Ok(())
+}
+
+fn turns_from(alloc: Global, query: &Query, place: &[u32]) -> Result<Vec<u8>, Memory> {
+    let mut codes = Codes::from_place(alloc, query, place)?;
+    let mut told = Vec::new(alloc);
+    for _ in 0..16 {
+        match codes.advance() {
+            Turn::Item => {
+                told.push(b'I')?;
+                for number in codes.item() {
+                    told.push(b'0'.saturating_add((*number).min(9) as u8))?;
+                }
+            }
+            Turn::Moved => told.push(b'M')?,
+            Turn::End => {
+                told.push(b'E')?;
+                return Ok(told);
+            }
+        }
+    }
+    Ok(told)
 }
 
 fn is_least(alloc: Global, query: &Query, front: &[u32], want: &[u32]) -> Result<bool, Memory> {
