@@ -43,7 +43,8 @@ tallied_more atoms i atom elements below is known tallied = record {
     here : (z : ℕ) → z ≡ atom.element → get_or (set elements atom.element (get_or elements atom.element 0 + 1)) z 0 ≡ count_by (is_of z) (take (i + 1) atoms)
     here z same =
         let counts = count_by_more_yes (is_of atom.element) atoms i atom below (let at : is_of atom.element (get_or atoms i atom) ≡ true = rw is (grind (arith, nat_tests)) in at) in
-        rw same (get_or-set_same elements atom.element (get_or elements atom.element 0 + 1) 0 (omega (arith, tallied.all, known)) ∙ ap (λ (n : ℕ). n + 1) (tallied.each atom.element known) ∙ sym counts)
+        rw same (get_or-set_same elements atom.element (get_or elements atom.element 0 + 1) 0
+        (omega (arith, tallied.all, known)) ∙ ap (λ (n : ℕ). n + 1) (tallied.each atom.element known) ∙ sym counts)
 
     there : (z : ℕ) → z ≤ 118 → (z ≡ atom.element → ⊥) → get_or (set elements atom.element (get_or elements atom.element 0 + 1)) z 0 ≡ count_by (is_of z) (take (i + 1) atoms)
     there z known' other =
@@ -53,7 +54,9 @@ tallied_more atoms i atom elements below is known tallied = record {
 -- ---- what is asked for
 
 -- one element more
-pub asked_more : (graph : GraphView) (elements : List ElementCount) (one : ElementCount) → All (IsAsked graph) elements → one.element ≤ 118 → one.count ≡ count_by (asks_for one.element) graph.atoms → All (IsAsked graph) (elements ++ one ∷ [])
+pub asked_more : (graph : GraphView) (elements : List ElementCount) (one : ElementCount) → All (IsAsked graph) elements
+    → one.element ≤ 118 → one.count ≡ count_by (asks_for one.element) graph.atoms
+    → All (IsAsked graph) (elements ++ one ∷ [])
 asked_more graph elements one are known count = All-push (IsAsked graph) elements one are (record { known = known; count = count })
 
 -- ---- too few

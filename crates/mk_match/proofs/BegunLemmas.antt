@@ -120,7 +120,9 @@ module _ (graph : GraphView) (mol : Molecule) (first : List ℕ) (a : ℕ) where
 -- ---- one atom less
 
 -- what may begin a hit may do so without its last atoms
-pub begun_less : (graph : GraphView) (mol : Molecule) (first others : List ℕ) → All (λ bond. bond.first < bond.second) graph.bonds → All (λ bond. 1 ≤ bond.first) graph.bonds → IsBegun graph mol (first ++ others) → IsBegun graph mol first
+pub begun_less : (graph : GraphView) (mol : Molecule) (first others : List ℕ)
+    → All (λ bond. bond.first < bond.second) graph.bonds → All (λ bond. 1 ≤ bond.first) graph.bonds
+    → IsBegun graph mol (first ++ others) → IsBegun graph mol first
 begun_less graph mol first others lower least begun =
     let long = length-append first others in
     record {
@@ -150,7 +152,9 @@ begun_less graph mol first others lower least begun =
 -- ---- the whole
 
 -- as many atoms as the graph has are a hit
-pub begun_whole : (graph : GraphView) (mol : Molecule) (first : List ℕ) → All (λ bond. bond.second ≤ length graph.atoms) graph.bonds → IsBegun graph mol first → length first ≡ length graph.atoms → IsHit graph mol first
+pub begun_whole : (graph : GraphView) (mol : Molecule) (first : List ℕ)
+    → All (λ bond. bond.second ≤ length graph.atoms) graph.bonds → IsBegun graph mol first
+    → length first ≡ length graph.atoms → IsHit graph mol first
 begun_whole graph mol first within begun whole = record {
   one_each = whole;
   within = begun.within;

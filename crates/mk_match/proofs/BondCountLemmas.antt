@@ -104,7 +104,12 @@ module _ (graph : GraphView) (mol : Molecule) (hit : List ℕ) (x : ℕ) (drawin
       let range_b = ends_within (length graph.atoms) (get_or bonds (b - 1) no_edge) x (neighbour bonds x b) (drawing.sketch.graph.ends (b - 1) no_edge below_b) ends_b in
       let one : neighbour bonds x a ≡ neighbour bonds x b = one_atom (neighbour bonds x a) (neighbour bonds x b) range_a range_b same in
       let joins_a : Joins bonds (a - 1) x (neighbour bonds x a) = record { edge = get_or bonds (a - 1) no_edge; at = at_place bonds (a - 1) no_edge below_a; ends = ends_a } in
-      let joins_b : Joins bonds (b - 1) x (neighbour bonds x a) = record { edge = get_or bonds (b - 1) no_edge; at = at_place bonds (b - 1) no_edge below_b; ends = subst (HasEnds (get_or bonds (b - 1) no_edge) x) (sym one) ends_b } in
+      let joins_b : Joins bonds (b - 1) x (neighbour bonds x a) =
+      record {
+        edge = get_or bonds (b - 1) no_edge;
+        at = at_place bonds (b - 1) no_edge below_b;
+        ends = subst (HasEnds (get_or bonds (b - 1) no_edge) x) (sym one) ends_b;
+      } in
       omega (arith, drawing.sketch.graph.once (a - 1) (b - 1) x (neighbour bonds x a) joins_a joins_b, is_a.least, is_b.least)
     where
       one_atom : (y z : ℕ) → (1 ≤ y) × (y ≤ length graph.atoms) → (1 ≤ z) × (z ≤ length graph.atoms) → image hit y ≡ image hit z → y ≡ z
@@ -177,7 +182,9 @@ module _ (graph : GraphView) (mol : Molecule) (hit : List ℕ) (x : ℕ) (drawin
   more_bonds =
       omega (
         arith,
-        fits_in (map image_by (numbers_at (graph_edges graph.bonds) x)) (map (λ number. end_numbered mol.bonds number (image hit x)) (numbers_at (edges mol.bonds) (image hit x))) images_distinct images_there,
+        fits_in (map image_by (numbers_at (graph_edges graph.bonds) x))
+            (map (λ number. end_numbered mol.bonds number (image hit x)) (numbers_at (edges mol.bonds) (image hit x)))
+            images_distinct images_there,
         length-map (numbers_at (graph_edges graph.bonds) x) image_by,
         length-map (numbers_at (edges mol.bonds) (image hit x)) (λ number. end_numbered mol.bonds number (image hit x)),
       )

@@ -18,15 +18,20 @@ use Rattle.mk_match.specs.Candidates.{AreBonded, IsCandidate, IsLeastEnd, end_nu
 -- ---- one more end
 
 -- the bound goes down
-lower_bound : (bonds : List MolBond) (n above least lower : ℕ) (numbers : List ℕ) → lower ≤ least → All (λ number. above < end_numbered bonds number n → least ≤ end_numbered bonds number n) numbers → All (λ number. above < end_numbered bonds number n → lower ≤ end_numbered bonds number n) numbers
+lower_bound : (bonds : List MolBond) (n above least lower : ℕ) (numbers : List ℕ) → lower ≤ least
+    → All (λ number. above < end_numbered bonds number n → least ≤ end_numbered bonds number n) numbers
+    → All (λ number. above < end_numbered bonds number n → lower ≤ end_numbered bonds number n) numbers
 lower_bound bonds n above least lower numbers down all = λ k d below over. (let so_far = all k d below over in omega arith)
 
 -- where no end is above the number so far, any bound holds
-any_bound : (bonds : List MolBond) (n above lower : ℕ) (numbers : List ℕ) → All (λ number. end_numbered bonds number n ≤ above) numbers → All (λ number. above < end_numbered bonds number n → lower ≤ end_numbered bonds number n) numbers
+any_bound : (bonds : List MolBond) (n above lower : ℕ) (numbers : List ℕ)
+    → All (λ number. end_numbered bonds number n ≤ above) numbers
+    → All (λ number. above < end_numbered bonds number n → lower ≤ end_numbered bonds number n) numbers
 any_bound bonds n above lower numbers all = λ k d below over. (let so_far = all k d below in absurd (omega arith))
 
 module _ (bonds : List MolBond) (n : ℕ) (numbers : List ℕ) (above number : ℕ) where
-  none_by : (b : Bool) → nat_le (end_numbered bonds number n) above ≡ b → IsLeastEnd bonds n numbers above None → IsLeastEnd bonds n (numbers ++ number ∷ []) above (cond b None (Some (end_numbered bonds number n)))
+  none_by : (b : Bool) → nat_le (end_numbered bonds number n) above ≡ b → IsLeastEnd bonds n numbers above None
+      → IsLeastEnd bonds n (numbers ++ number ∷ []) above (cond b None (Some (end_numbered bonds number n)))
   none_by true e all = All-push (λ m. end_numbered bonds m n ≤ above) numbers number all (grind (arith, nat_tests))
   none_by false e all = (
     grind (arith, nat_tests),
@@ -34,7 +39,9 @@ module _ (bonds : List MolBond) (n : ℕ) (numbers : List ℕ) (above number : �
         (any_bound bonds n above (end_numbered bonds number n) numbers all) (λ over. omega arith),
   )
 
-  some_by : (least : ℕ) (b : Bool) → nat_le (end_numbered bonds number n) above ≡ b → IsLeastEnd bonds n numbers above (Some least) → IsLeastEnd bonds n (numbers ++ number ∷ []) above (cond b (Some least) (Some (min least (end_numbered bonds number n))))
+  some_by : (least : ℕ) (b : Bool) → nat_le (end_numbered bonds number n) above ≡ b
+      → IsLeastEnd bonds n numbers above (Some least) → IsLeastEnd bonds n (numbers ++ number ∷ []) above
+      (cond b (Some least) (Some (min least (end_numbered bonds number n))))
   some_by least true e is = (is.0, All-push (λ m. above < end_numbered bonds m n → least ≤ end_numbered bonds m n) numbers number is.1 (λ over. absurd (grind (arith, nat_tests))))
   some_by least false e is = (
     (let over : above < end_numbered bonds number n = grind (arith, nat_tests) in omega (arith, is.0)),
@@ -137,11 +144,15 @@ lesser_has P (Some least) above end so_far has = some_has (nat_le end above)
     some_has false = least_of (nat_le least end) refl
 
 -- what the least end says of the atoms between
-pub ends_between : (mol : Molecule) (n above : ℕ) (found : Option ℕ) → IsLeastEnd mol.bonds n (numbers_at (edges mol.bonds) n) above found → IfSome found (λ a. (b : ℕ) → above < b → b < a → IsCandidate mol (Some n) b → b ≤ length mol.atoms → ⊥)
+pub ends_between : (mol : Molecule) (n above : ℕ) (found : Option ℕ)
+    → IsLeastEnd mol.bonds n (numbers_at (edges mol.bonds) n) above found
+    → IfSome found (λ a. (b : ℕ) → above < b → b < a → IsCandidate mol (Some n) b → b ≤ length mol.atoms → ⊥)
 ends_between mol n above None is = tt
 ends_between mol n above (Some least) is = λ b over under bonded within. no_end_between mol n above least b is over under bonded
 
 -- and of those above
-pub ends_above : (mol : Molecule) (n above : ℕ) (found : Option ℕ) → IsLeastEnd mol.bonds n (numbers_at (edges mol.bonds) n) above found → IfNone found ((b : ℕ) → above < b → IsCandidate mol (Some n) b → b ≤ length mol.atoms → ⊥)
+pub ends_above : (mol : Molecule) (n above : ℕ) (found : Option ℕ)
+    → IsLeastEnd mol.bonds n (numbers_at (edges mol.bonds) n) above found
+    → IfNone found ((b : ℕ) → above < b → IsCandidate mol (Some n) b → b ≤ length mol.atoms → ⊥)
 ends_above mol n above None is = λ b over bonded within. no_end_above mol n above b is over bonded
 ends_above mol n above (Some least) is = tt

@@ -15,7 +15,9 @@ use Rattle.mk_model.proofs.ForCallers.{all_at, at_place, numbers_at-all, touches
 use Rattle.mk_match.specs.EarlierBonds.{HasNoAnchor, IsElsewhere, IsMetAt}
 
 -- where all bonds of atom n have P that end at it, all bonds of the graph have that do
-all_ends : (graph : GraphView) (n : ℕ) (P : GraphBond → Type 0) → All (λ number. (bond : GraphBond) → slice_get graph.bonds (number - 1) ≡ Some bond → bond.second ≡ n → P bond) (numbers_at (graph_edges graph.bonds) n) → All (λ bond. bond.second ≡ n → P bond) graph.bonds
+all_ends : (graph : GraphView) (n : ℕ) (P : GraphBond → Type 0)
+    → All (λ number. (bond : GraphBond) → slice_get graph.bonds (number - 1) ≡ Some bond → bond.second ≡ n → P bond)
+    (numbers_at (graph_edges graph.bonds) n) → All (λ bond. bond.second ≡ n → P bond) graph.bonds
 all_ends graph n P all = λ k d below is.
     let bond : GraphBond = get_or graph.bonds k d in
     let edge_is : get_or (graph_edges graph.bonds) k (graph_edge d) ≡ graph_edge bond = get_or-map graph_edge graph.bonds k d (graph_edge d) below in
@@ -35,7 +37,8 @@ elsewhere graph first number bond at other asked asked_at is = (let same : bond 
 
 module _ (graph : GraphView) (mol : Molecule) (first : List ℕ) (a : ℕ) where
   -- where each of the next atom's bonds is met, all bonds are that end at it
-  pub met_all : All (IsMetAt graph mol first a) (numbers_at (graph_edges graph.bonds) (length first + 1)) → All (λ bond. bond.second ≡ length first + 1 → LiesOn mol bond (image first bond.first) a) graph.bonds
+  pub met_all : All (IsMetAt graph mol first a) (numbers_at (graph_edges graph.bonds) (length first + 1))
+      → All (λ bond. bond.second ≡ length first + 1 → LiesOn mol bond (image first bond.first) a) graph.bonds
   met_all all = all_ends graph (length first + 1) (λ bond. LiesOn mol bond (image first bond.first) a) all
 
   -- and the other way round
@@ -53,5 +56,7 @@ module _ (graph : GraphView) (mol : Molecule) (first : List ℕ) (a : ℕ) where
       let here : LiesOn mol bond (image first bond.first) a = subst (λ (m : ℕ). LiesOn mol bond m a) is_image lies in
       subst (λ (b : GraphBond). LiesOn mol b (image first b.first) a) same here
 
-  pub lies_where_met : (number n : ℕ) (bond : GraphBond) → slice_get graph.bonds (number - 1) ≡ Some bond → n ≡ image first bond.first → bond.second ≡ length first + 1 → IsMetAt graph mol first a number → LiesOn mol bond n a
+  pub lies_where_met : (number n : ℕ) (bond : GraphBond) → slice_get graph.bonds (number - 1) ≡ Some bond
+      → n ≡ image first bond.first → bond.second ≡ length first + 1 → IsMetAt graph mol first a number
+      → LiesOn mol bond n a
   lies_where_met number n bond at is_image is met = subst (λ (m : ℕ). LiesOn mol bond m a) (sym is_image) (met bond at is)

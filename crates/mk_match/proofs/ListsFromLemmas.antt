@@ -103,7 +103,8 @@ module _ (most n : ℕ) (images : List ℕ) (depth : ℕ) (short : depth < n) (r
   left_in above a more over some =
       rw (place_in images depth a (omega arith)) (fewer_in most n (take depth images) (above + 1) a (omega (arith, long)) (omega arith) some)
 
-  pub left_back : (last above : ℕ) → (depth ≡ 0 → ⊥) → last ≡ get_or images (depth - 1) last → last < most → lists_from most n (place_of images (depth - 1) last) < lists_from most n (place_of images depth above)
+  pub left_back : (last above : ℕ) → (depth ≡ 0 → ⊥) → last ≡ get_or images (depth - 1) last → last < most
+      → lists_from most n (place_of images (depth - 1) last) < lists_from most n (place_of images depth above)
   left_back last above some is less =
       let whole : take depth images ++ (above + 1) ∷ [] ≡ take (depth - 1) images ++ last ∷ (above + 1) ∷ [] =
       ap (λ (xs : List ℕ). xs ++ (above + 1) ∷ []) (take_last images depth last some (omega arith) is) ∙ append_assoc (take (depth - 1) images) (last ∷ []) ((above + 1) ∷ []) in

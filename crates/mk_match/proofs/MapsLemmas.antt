@@ -24,14 +24,22 @@ next_is_first old new hit hits next left = record {
     each : (xs : List ℕ) → Holds (hit ∷ hits) xs → IsHit old.graph old.mol xs × (IsBelow xs old.place → ⊥)
     each xs (inl same) = (subst (IsHit old.graph old.mol) same next.least.has, subst (λ (ys : List ℕ). IsBelow ys old.place → ⊥) same next.least.from)
     each xs (inr held) =
-        let is = left.each xs held in
-        (subst (λ (m : Molecule). IsHit old.graph m xs) next.mol (subst (λ (g : GraphView). IsHit g new.mol xs) next.graph is.0), λ below. next.least.from (below_through hit xs old.place (above xs is.1) below))
+        let is = left.each xs held in (
+          subst (λ (m : Molecule). IsHit old.graph m xs) next.mol
+              (subst (λ (g : GraphView). IsHit g new.mol xs) next.graph is.0),
+          λ below.
+              next.least.from (below_through hit xs old.place (above xs is.1) below),
+        )
 
     all : (xs : List ℕ) → IsHit old.graph old.mol xs × (IsBelow xs old.place → ⊥) → Holds (hit ∷ hits) xs
     all xs is =
         elim (below_or_not xs (hit ++ (0 ∷ []))) [
           | inl below ↦ inl (between_none hit xs (next.least.least xs is.0 is.1) below)
-          | inr not ↦ inr (left.all xs (subst (λ (m : Molecule). IsHit new.graph m xs) (sym next.mol) (subst (λ (g : GraphView). IsHit g old.mol xs) (sym next.graph) is.0), subst (λ (place : List ℕ). IsBelow xs place → ⊥) (sym next.place) not))
+          | inr not ↦ inr (left.all xs (
+            subst (λ (m : Molecule). IsHit new.graph m xs) (sym next.mol)
+                (subst (λ (g : GraphView). IsHit g old.mol xs) (sym next.graph) is.0),
+            subst (λ (place : List ℕ). IsBelow xs place → ⊥) (sym next.place) not,
+          ))
         ]
 
 pub none_is_left : NoneIsLeft

@@ -20,7 +20,7 @@ use Rattle.mk_model.proofs.ForCallers.{all_at, numbers_at-each, place_is, place_
 use Rattle.mk_match.specs.Candidates.{AreBonded, IsCandidate}
 use Rattle.mk_match.specs.Table.{MayLie}
 use Rattle.mk_match.specs.Walk.{SameFrom, place_of}
-use Rattle.mk_match.specs.Outlook.{Agrees, AreLater, EndsAt, IsBeside, IsNoHitBehind, IsPut, IsTaken, LiesNever, StandsIn}
+use Rattle.mk_match.specs.Outlook.{Agrees, AreLater, EndsAt, IsBeside, IsNoHitBehind, IsPut, IsTakenBy, LiesNever, StandsIn}
 use Rattle.mk_match.proofs.BondCountLemmas.{may_lie}
 use Rattle.mk_match.proofs.ListsFromLemmas.{take_last}
 use Rattle.mk_match.proofs.PassedLemmas.{none_left, same_back, same_in, same_skip, same_through}
@@ -58,7 +58,8 @@ module _ (graph : GraphView) (mol : Molecule) (first order chosen : List ℕ) wh
   lies_put y a (inr h) hit agrees = ap (image hit) (sym h.atom) ∙ agrees.sees h.place h.within ∙ h.is
 
   -- the bond of a number is met by each hit
-  bond_met : (number : ℕ) (bond : GraphBond) → slice_get graph.bonds (number - 1) ≡ Some bond → (hit : List ℕ) → Agrees graph mol first order chosen hit → LiesOn mol bond (image hit bond.first) (image hit bond.second)
+  bond_met : (number : ℕ) (bond : GraphBond) → slice_get graph.bonds (number - 1) ≡ Some bond → (hit : List ℕ)
+      → Agrees graph mol first order chosen hit → LiesOn mol bond (image hit bond.first) (image hit bond.second)
   bond_met number bond at hit agrees = all_at (λ (b : GraphBond). LiesOn mol b (image hit b.first) (image hit b.second)) graph.bonds (number - 1) bond agrees.is.bonds at
 
   -- ---- an anchor
@@ -111,7 +112,9 @@ module _ (graph : GraphView) (mol : Molecule) (first order chosen : List ℕ) wh
       let Q : ℕ → Type 0 = λ n. LiesOn mol bond (image hit bond.first) n in
       fails fits not_fits (tells (subst P here (subst Q there met)))
 
-  pub never_back : (number x y a b : ℕ) (bond : GraphBond) (fits : Bool) → slice_get graph.bonds (number - 1) ≡ Some bond → EndsAt graph number x → (bond.first ≡ x → ⊥) → y ≡ cond (eqb bond.first x) bond.second bond.first
+  pub never_back : (number x y a b : ℕ) (bond : GraphBond) (fits : Bool)
+      → slice_get graph.bonds (number - 1) ≡ Some bond → EndsAt graph number x → (bond.first ≡ x → ⊥)
+      → y ≡ cond (eqb bond.first x) bond.second bond.first
       → IsPut first order chosen y b → (LiesOn mol bond b a → fits ≡ true) → not fits ≡ true → LiesNever graph mol first order chosen x a
   never_back number x y a b bond fits at ends apart_from other put tells not_fits hit agrees lies =
       let met = bond_met number bond at hit agrees in
@@ -139,7 +142,8 @@ module _ (graph : GraphView) (mol : Molecule) (first order chosen : List ℕ) wh
       apart hit stands.place (x - 1) a agrees.is (omega arith) (omega arith) (omega arith) (agrees.begins stands.place within ∙ stands.is) lies
 
   -- another one is chosen to lie there
-  pub never_taken : (x a : ℕ) → AreLater graph (length first) order → length chosen ≤ length order → length first < x → x ≤ length graph.atoms → IsTaken order chosen x a → LiesNever graph mol first order chosen x a
+  pub never_taken : (x a : ℕ) → AreLater graph (length first) order → length chosen ≤ length order → length first < x
+      → x ≤ length graph.atoms → IsTakenBy order chosen x a → LiesNever graph mol first order chosen x a
   never_taken x a all room later most taken hit agrees lies =
       let whole = agrees.is.one_each in
       let c = taken.chosen_for in
@@ -253,10 +257,14 @@ module _ (graph : GraphView) (mol : Molecule) (first order : List ℕ) where
       look_misses above none b more up seen = none_beside b more (none b (omega arith)) seen
 
     -- where nothing is left, no hit begins with the first atoms
-    pub look_ends : (above : ℕ) → 0 < length order → SameFrom (IsSeen graph mol first order) [] ((above + 1) ∷ []) → ((b : ℕ) (more : List ℕ) → above + 1 ≤ b → IsSeen graph mol first order (b ∷ more) → ⊥) → IsNoHitBehind graph mol first
+    pub look_ends : (above : ℕ) → 0 < length order → SameFrom (IsSeen graph mol first order) [] ((above + 1) ∷ [])
+        → ((b : ℕ) (more : List ℕ) → above + 1 ≤ b → IsSeen graph mol first order (b ∷ more) → ⊥)
+        → IsNoHitBehind graph mol first
     look_ends above some same none others hit =
         let seen : IsSeen graph mol first order (map (image (first ++ others)) order) = record { hit = first ++ others; others = others; is = hit; behind = refl; sees = refl } in
-        none_left (IsSeen graph mol first order) (above + 1) (λ s. omega (arith, seen_long [] s)) none (map (image (first ++ others)) order) seen (same.on (map (image (first ++ others)) order) seen (λ below. below))
+        none_left (IsSeen graph mol first order) (above + 1) (λ s. omega (arith, seen_long [] s)) none
+        (map (image (first ++ others)) order) seen (same.on (map (image (first ++ others)) order) seen
+        (λ below. below))
 
   pub looking_starts : AreLater graph (length first) order → (chosen : List ℕ) → 0 < length order → length order ≤ length chosen → IsLooking graph mol first order chosen 0 0
   looking_starts later chosen some room = record {
@@ -286,7 +294,8 @@ module _ (graph : GraphView) (mol : Molecule) (first order : List ℕ) where
         room = looking.room;
         high = most;
         within = looking.within;
-        same = same_through (IsSeen graph mol first order) [] (place_of chosen d above) (place_of chosen d a) looking.same (look_skips later (take d chosen) short anchor beside_next above a over between never);
+        same = same_through (IsSeen graph mol first order) [] (place_of chosen d above) (place_of chosen d a)
+            looking.same (look_skips later (take d chosen) short anchor beside_next above a over between never);
       }
 
       -- a candidate is put
@@ -306,7 +315,8 @@ module _ (graph : GraphView) (mol : Molecule) (first order : List ℕ) where
                 ];
             same = rw front
                 (same_through (IsSeen graph mol first order) [] (take d chosen ++ a ∷ []) ((take d chosen ++ a ∷ []) ++ 1 ∷ [])
-                (same_through (IsSeen graph mol first order) [] (place_of chosen d above) (take d chosen ++ a ∷ []) looking.same (look_puts later (take d chosen) short anchor beside_next above a over between))
+                (same_through (IsSeen graph mol first order) [] (place_of chosen d above) (take d chosen ++ a ∷ [])
+                looking.same (look_puts later (take d chosen) short anchor beside_next above a over between))
                 (look_goes_in later (take d chosen ++ a ∷ []) shorter));
           }
 

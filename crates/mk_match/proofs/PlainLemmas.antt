@@ -25,7 +25,8 @@ use Rattle.mk_match.proofs.ListTestLemmas.{all_found, all_given, all_places, all
 
 module _ (graph : GraphView) (mol : Molecule) where
   -- what passes the test fits
-  fits_found_by : (x m : ℕ) (asked : Option GraphAtom) (atom : Option Atom) → slice_get graph.atoms (x - 1) ≡ asked → slice_get mol.atoms (m - 1) ≡ atom → meets_some graph mol x m asked atom ≡ true → FitsAtom graph mol x m
+  fits_found_by : (x m : ℕ) (asked : Option GraphAtom) (atom : Option Atom) → slice_get graph.atoms (x - 1) ≡ asked
+      → slice_get mol.atoms (m - 1) ≡ atom → meets_some graph mol x m asked atom ≡ true → FitsAtom graph mol x m
   fits_found_by x m None atom asked_at atom_at met = absurd cc
   fits_found_by x m (Some asked) None asked_at atom_at met = absurd cc
   fits_found_by x m (Some asked) (Some atom) asked_at atom_at met =

@@ -22,7 +22,9 @@ use Rattle.mk_match.proofs.TurnLemmas.{node_below, node_short}
 pub over_not : (xs ys : List ℕ) → IsBelow xs ys → IsBelow ys xs → ⊥
 over_not xs ys over under = not_below_itself xs (below_through xs ys xs over under)
 
-module _ (graph : GraphView) (mol : Molecule) (place : List ℕ) (debt : ℕ) (from : List ℕ) (left : SameFrom (IsHit graph mol) place from) (up : IsBelow from place → ⊥) (owed : debt ≡ 0 → IsBelow place from) where
+module _ (graph : GraphView) (mol : Molecule) (place : List ℕ) (debt : ℕ) (from : List ℕ)
+    (left : SameFrom (IsHit graph mol) place from) (up : IsBelow from place → ⊥)
+    (owed : debt ≡ 0 → IsBelow place from) where
   -- ---- a hit
 
   pub item_least : (hit : List ℕ) → SameFrom (IsHit graph mol) from hit → IsHit graph mol hit → IsLeast place (IsHit graph mol) hit
@@ -66,7 +68,8 @@ below_some : (p : List ℕ) (x : ℕ) → IsBelow [] (p ++ x ∷ [])
 below_some [] x = tt
 below_some (y ∷ p) x = tt
 
-owed_by : (graph : GraphView) (mol : Molecule) (place : List ℕ) (debt : ℕ) (stage : Stage) (fits : List Bool) (images levels : List ℕ) (depth above : ℕ) → IsStage graph mol stage fits images levels depth above
+owed_by : (graph : GraphView) (mol : Molecule) (place : List ℕ) (debt : ℕ) (stage : Stage) (fits : List Bool)
+    (images levels : List ℕ) (depth above : ℕ) → IsStage graph mol stage fits images levels depth above
     → IsOwedAt place 1 stage images depth above → IsDebt graph place debt → IsOwedAt place debt stage images depth above
 owed_by graph mol place debt stage fits images levels depth above is owed (inl one) = subst (λ (n : ℕ). IsOwedAt place n stage images depth above) (sym one.0) owed
 owed_by graph mol place debt Walking fits images levels depth above is owed (inr none) =
@@ -74,6 +77,7 @@ owed_by graph mol place debt Walking fits images levels depth above is owed (inr
 owed_by graph mol place debt Once fits images levels depth above is owed (inr none) = absurd (omega (arith, is.1, none.2))
 owed_by graph mol place debt Ended fits images levels depth above is owed (inr none) = tt
 
-pub owed_at : (graph : GraphView) (mol : Molecule) (place : List ℕ) (debt : ℕ) (search : Search) → IsSearch graph mol search → IsOwed place 1 search → IsDebt graph place debt → IsOwed place debt search
+pub owed_at : (graph : GraphView) (mol : Molecule) (place : List ℕ) (debt : ℕ) (search : Search)
+    → IsSearch graph mol search → IsOwed place 1 search → IsDebt graph place debt → IsOwed place debt search
 owed_at graph mol place debt search is owed debt_is =
     owed_by graph mol place debt search.stage search.fits.items search.walk.images.items search.walk.levels.items search.walk.depth search.walk.above is owed debt_is

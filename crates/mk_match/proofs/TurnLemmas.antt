@@ -34,7 +34,9 @@ node_short images depth (suc above) n short room =
     let long = length-take-le depth images (omega arith) in
     omega (arith, long, length-append (take depth images) (suc above ∷ []))
 
-module _ (graph : GraphView) (mol : Molecule) (images levels : List ℕ) (depth above : ℕ) (walk : IsWalk graph mol images levels depth) (a : ℕ) (over : above < a) (most : a ≤ length mol.atoms) (new : Contains (take depth images) a → ⊥) where
+module _ (graph : GraphView) (mol : Molecule) (images levels : List ℕ) (depth above : ℕ)
+    (walk : IsWalk graph mol images levels depth) (a : ℕ) (over : above < a) (most : a ≤ length mol.atoms)
+    (new : Contains (take depth images) a → ⊥) where
   long : length (take depth images) ≡ depth
   long = length-take-le depth images (omega (arith, walk.room, walk.short))
 
@@ -76,7 +78,8 @@ module _ (graph : GraphView) (mol : Molecule) (images levels : List ℕ) (depth 
 -- ---- the order of places
 
 -- where the last image is taken back the place is further on
-pub back_up : (images : List ℕ) (depth above last : ℕ) → (depth ≡ 0 → ⊥) → depth ≤ length images → last ≡ get_or images (depth - 1) last → IsBelow (place_of images depth above) (place_of images (depth - 1) last)
+pub back_up : (images : List ℕ) (depth above last : ℕ) → (depth ≡ 0 → ⊥) → depth ≤ length images
+    → last ≡ get_or images (depth - 1) last → IsBelow (place_of images depth above) (place_of images (depth - 1) last)
 back_up images depth above last some room is =
     subst (λ (p : List ℕ). IsBelow (p ++ (above + 1) ∷ []) (place_of images (depth - 1) last)) (sym (take_last images depth last some room is))
     (rw (append_assoc (take (depth - 1) images) (last ∷ []) ((above + 1) ∷ [])) (below_next (take (depth - 1) images) last (last + 1) ((above + 1) ∷ []) [] (omega arith)))

@@ -38,7 +38,9 @@ candidate_of graph mol first a (Some anchor) is stands =
     subst P same (lies.bond, lies.joins)
 
 -- the anchor is an atom of the molecule
-pub anchor_within : (graph : GraphView) (mol : Molecule) (first : List ℕ) (anchor : Option ℕ) → IsGraph graph → All (λ a. (1 ≤ a) × (a ≤ length mol.atoms)) first → IfSome anchor (IsAnchor graph first) → ForSome anchor (λ a. (1 ≤ a) × (a ≤ length mol.atoms))
+pub anchor_within : (graph : GraphView) (mol : Molecule) (first : List ℕ) (anchor : Option ℕ) → IsGraph graph
+    → All (λ a. (1 ≤ a) × (a ≤ length mol.atoms)) first → IfSome anchor (IsAnchor graph first)
+    → ForSome anchor (λ a. (1 ≤ a) × (a ≤ length mol.atoms))
 anchor_within graph mol first None drawing within is = λ x e. absurd cc
 anchor_within graph mol first (Some anchor) drawing within is =
     let k = is.drawn.0 in
@@ -192,7 +194,8 @@ module _ (graph : GraphView) (mol : Molecule) (drawing : IsGraph graph) (molecul
       found_is : depth + 1 ≡ length graph.atoms → set images depth a ≡ take depth images ++ a ∷ []
       found_is whole = sym (take_all (depth + 1) (set images depth a) (omega (arith, length-set images depth a, walk.room))) ∙ one_more
 
-      module _ (anchor : Option ℕ) (anchors : IfSome anchor (IsAnchor graph (take depth images))) (over : above < a) (between : (b : ℕ) → above < b → b < a → IsCandidate mol anchor b → b ≤ length mol.atoms → ⊥) where
+      module _ (anchor : Option ℕ) (anchors : IfSome anchor (IsAnchor graph (take depth images))) (over : above < a)
+          (between : (b : ℕ) → above < b → b < a → IsCandidate mol anchor b → b ≤ length mol.atoms → ⊥) where
         pub least_found : depth + 1 ≡ length graph.atoms → SameFrom (IsHit graph mol) (place_of images depth above) (set images depth a)
         least_found whole = rw (found_is whole) (walk_puts (take depth images) anchor anchors above a over between)
 
@@ -214,7 +217,8 @@ module _ (graph : GraphView) (mol : Molecule) (drawing : IsGraph graph) (molecul
       behind_found whole = rw (take-set images depth a, found_is whole) (walk_behind (take depth images) a (omega (arith, long)))
 
     -- an atom that may not stand is passed
-    pub moved_past : (anchor : Option ℕ) → IfSome anchor (IsAnchor graph (take depth images)) → (a : ℕ) → above < a → ((b : ℕ) → above < b → b < a → IsCandidate mol anchor b → b ≤ length mol.atoms → ⊥)
+    pub moved_past : (anchor : Option ℕ) → IfSome anchor (IsAnchor graph (take depth images)) → (a : ℕ) → above < a
+        → ((b : ℕ) → above < b → b < a → IsCandidate mol anchor b → b ≤ length mol.atoms → ⊥)
         → (MayStand graph mol (take depth images) a → ⊥) → SameFrom (IsHit graph mol) (place_of images depth above) (place_of images depth a)
     moved_past anchor anchors a over between not = walk_skips (take depth images) anchor anchors above a over between (never_stands (take depth images) a not)
 
@@ -242,7 +246,9 @@ module _ (graph : GraphView) (mol : Molecule) (drawing : IsGraph graph) (molecul
         stand = λ j below. walk.stand j (omega arith);
       }
 
-      pub moved_back : (anchor : Option ℕ) → IfSome anchor (IsAnchor graph (take depth images)) → ((b : ℕ) → above < b → IsCandidate mol anchor b → b ≤ length mol.atoms → ⊥) → SameFrom (IsHit graph mol) (place_of images depth above) (place_of images (depth - 1) last)
+      pub moved_back : (anchor : Option ℕ) → IfSome anchor (IsAnchor graph (take depth images))
+          → ((b : ℕ) → above < b → IsCandidate mol anchor b → b ≤ length mol.atoms → ⊥)
+          → SameFrom (IsHit graph mol) (place_of images depth above) (place_of images (depth - 1) last)
       moved_back anchor anchors none =
           let misses = walk_misses (take depth images) anchor anchors above none in
           subst (λ (q : List ℕ). SameFrom (IsHit graph mol) (q ++ (above + 1) ∷ []) (place_of images (depth - 1) last)) (sym back_front)
@@ -250,7 +256,9 @@ module _ (graph : GraphView) (mol : Molecule) (drawing : IsGraph graph) (molecul
           (λ b more up hit. misses b more up (subst (λ (q : List ℕ). IsHit graph mol (q ++ b ∷ more)) (sym back_front) hit)))
 
     -- nothing is left
-    pub ended : (anchor : Option ℕ) → IfSome anchor (IsAnchor graph (take depth images)) → ((b : ℕ) → above < b → IsCandidate mol anchor b → b ≤ length mol.atoms → ⊥) → depth ≡ 0 → IsLeastFrom (place_of images depth above) (IsHit graph mol) None
+    pub ended : (anchor : Option ℕ) → IfSome anchor (IsAnchor graph (take depth images))
+        → ((b : ℕ) → above < b → IsCandidate mol anchor b → b ≤ length mol.atoms → ⊥) → depth ≡ 0
+        → IsLeastFrom (place_of images depth above) (IsHit graph mol) None
     ended anchor anchors none none_put =
         let nothing : take depth images ≡ [] = ap (λ (n : ℕ). take n images) none_put in
         let misses = walk_misses (take depth images) anchor anchors above none in
@@ -287,7 +295,9 @@ module _ (graph : GraphView) (mol : Molecule) (drawing : IsGraph graph) (molecul
   module _ (front : List ℕ) (i : ℕ) (images levels : List ℕ) (depth above : ℕ) (seeking : IsSeeking graph mol front i images levels depth above) where
     -- the front goes on with its next number
     pub front_is : i < length front → front ≡ take depth images ++ get_or front i 0 ∷ drop (i + 1) front
-    front_is below = sym (take-append-drop i front) ∙ ap (λ (xs : List ℕ). take i front ++ xs) (drop_more front i 0 below) ∙ ap (λ (xs : List ℕ). xs ++ get_or front i 0 ∷ drop (i + 1) front) (sym seeking.begins)
+    front_is below = sym (take-append-drop i front) ∙ ap (λ (xs : List ℕ). take i front ++ xs)
+        (drop_more front i 0 below) ∙ ap (λ (xs : List ℕ). xs ++ get_or front i 0 ∷ drop (i + 1) front)
+        (sym seeking.begins)
 
     first_long : length (take depth images) ≡ i
     first_long = length-take-le depth images (omega (arith, seeking.walk.room, seeking.walk.short)) ∙ seeking.at
@@ -306,7 +316,8 @@ module _ (graph : GraphView) (mol : Molecule) (drawing : IsGraph graph) (molecul
         subst (λ (xs : List ℕ). IsBelow (place_of images depth above') xs → ⊥) (sym whole) (not_below_at (take depth images) (above' + 1) (get_or front i 0) (omega (arith, is)))
 
     -- the front goes through the last place
-    pub seek_last : i < length front → (i + 1 ≡ length front → ⊥) → i + 1 ≡ length graph.atoms → (number : ℕ) → number ≡ get_or front i 0 → SameFrom (IsHit graph mol) front (place_of images depth number)
+    pub seek_last : i < length front → (i + 1 ≡ length front → ⊥) → i + 1 ≡ length graph.atoms → (number : ℕ)
+        → number ≡ get_or front i 0 → SameFrom (IsHit graph mol) front (place_of images depth number)
     seek_last below more last number is =
         let whole' : length (take depth images) + 1 ≡ length graph.atoms = omega (arith, first_long, last) in
         let some : 0 < length (drop (i + 1) front) = omega (arith, length-drop (i + 1) front, below, more) in
@@ -328,10 +339,14 @@ module _ (graph : GraphView) (mol : Molecule) (drawing : IsGraph graph) (molecul
     seek_past_up below number is =
         let whole : front ≡ take depth images ++ number ∷ drop (i + 1) front = front_is below ∙ ap (λ (n : ℕ). take depth images ++ n ∷ drop (i + 1) front) (sym is) in
         subst (λ (xs : List ℕ). IsBelow (place_of images depth number) xs → ⊥) (sym whole)
-        (λ under. not_below_itself (place_of images depth number) (below_through (place_of images depth number) (take depth images ++ number ∷ drop (i + 1) front) (place_of images depth number) under (below_next (take depth images) number (number + 1) (drop (i + 1) front) [] (omega arith))))
+        (λ under. not_below_itself (place_of images depth number)
+        (below_through (place_of images depth number) (take depth images ++ number ∷ drop (i + 1) front)
+        (place_of images depth number) under (below_next (take depth images) number (number + 1)
+        (drop (i + 1) front) [] (omega arith))))
 
     -- the front goes on with a number that stands
-    pub seek_more : i < length front → (number : ℕ) → number ≡ get_or front i 0 → 1 ≤ number → number ≤ length mol.atoms → MayStand graph mol (take depth images) number → (i + 1 ≡ length graph.atoms → ⊥)
+    pub seek_more : i < length front → (number : ℕ) → number ≡ get_or front i 0 → 1 ≤ number → number ≤ length mol.atoms
+        → MayStand graph mol (take depth images) number → (i + 1 ≡ length graph.atoms → ⊥)
         → IsSeeking graph mol front (i + 1) (set images depth number) (set levels (number - 1) depth) (depth + 1) above
     seek_more below number is least most stands more = record {
       walk = walk_put graph mol drawing molecule images levels depth above seeking.walk number least most stands (λ whole. more (omega (arith, seeking.at)));
@@ -354,7 +369,9 @@ module _ (graph : GraphView) (mol : Molecule) (drawing : IsGraph graph) (molecul
         rw same (not_below_front front ((above + 1) ∷ []))
 
 -- nothing of a front stands yet
-pub seek_starts : (graph : GraphView) (mol : Molecule) (front images levels : List ℕ) (depth above : ℕ) → IsWalk graph mol images levels depth → depth ≡ 0 → above ≡ 0 → IsSeeking graph mol front 0 images levels depth above
+pub seek_starts : (graph : GraphView) (mol : Molecule) (front images levels : List ℕ) (depth above : ℕ)
+    → IsWalk graph mol images levels depth → depth ≡ 0 → above ≡ 0
+    → IsSeeking graph mol front 0 images levels depth above
 seek_starts graph mol front images levels depth above walk none first = record { walk = walk; at = none; first = first; begins = ap (λ (n : ℕ). take n images) none }
 
 -- ---- a graph without atoms

@@ -40,7 +40,7 @@ abbrev pub IsPut : List ℕ → List ℕ → List ℕ → ℕ → ℕ → Type 0
 IsPut first order chosen y a = ((1 ≤ y) × (y ≤ length first) × (slice_index first (y - 1) ≡ a)) ⊎ IsChosen order chosen y a
 
 -- an atom of the order other than x has a chosen for it
-pub record IsTaken (order chosen : List ℕ) (x a : ℕ) : Type 0 where
+pub record IsTakenBy (order chosen : List ℕ) (x a : ℕ) : Type 0 where
   pub y : ℕ
   pub other : y ≢ x
   pub chosen_for : IsChosen order chosen y a

@@ -36,7 +36,7 @@ pub record MovesOn (graph : GraphView) (mol : Molecule) (place : List ℕ) (debt
   pub room : length new.walk.images.items ≡ length graph.atoms
 
 -- none is left
-pub record Ends (graph : GraphView) (mol : Molecule) (place : List ℕ) (debt : ℕ) (new : Search) : Type 0 where
+pub record IsAtItsEnd (graph : GraphView) (mol : Molecule) (place : List ℕ) (debt : ℕ) (new : Search) : Type 0 where
   pub none : IsLeastFrom place (IsHit graph mol) None
   pub left : IsLeft graph mol place new
   pub owed : IsOwed place debt new
@@ -45,4 +45,4 @@ pub record Ends (graph : GraphView) (mol : Molecule) (place : List ℕ) (debt : 
 abbrev pub Turns : GraphView → Molecule → List ℕ → ℕ → Search → Turn → Type 0
 Turns graph mol place debt new Item = TakesOut graph mol place debt new
 Turns graph mol place debt new Moved = MovesOn graph mol place debt new
-Turns graph mol place debt new End = Ends graph mol place debt new
+Turns graph mol place debt new End = IsAtItsEnd graph mol place debt new

@@ -5,6 +5,7 @@ ghost use Rattle.mk_model.specs.Hits.{IsHit};
 ghost use Rattle.mk_text.specs.Rising.{IsLeastFrom};
 ghost use Rattle.mk_match.specs.Search.{IsDebt};
 
+use crate::counts::has_too_few;
 use crate::search::Search;
 use mk_model::{Graph, Map, Memory, Mol, Place, Steps, Turn};
 use std::alloc::Global;
@@ -23,6 +24,9 @@ pub fn least_map<L: Ledger>(
     ensures begin { steps.new ≡ steps.old + 1 }
 {
     steps.tick();
+    if has_too_few(graph, mol) {
+        return Ok(None);
+    }
     let mut search = Search::of(alloc, graph, mol, front)?;
     if search.go_on(graph, mol) {
         let walk = search.walk;
@@ -59,7 +63,8 @@ impl<'a> Maps<'a> {
     ghost use Rattle.mk_match.specs.Lending.{Ends};
     ghost use Rattle.std.specs.Prelude.{List, ℕ};
 
-    /// The hits that aren't below the place. It takes the graph over, and ticks one begin.
+    /// The hits that aren't below the place. It takes the graph over, and ticks one begin. Elements
+    /// aren't counted here: a caller that meets many molecules counts before (`cannot_hold`).
     pub fn from_place<L: Ledger>(
         alloc: Global,
         graph: Graph,

@@ -2,7 +2,7 @@
 ghost use Rattle.std.specs.Prelude.{◌≡◌, ◌<◌, ◌≤◌, ◌+◌, ◌-◌, ◌++◌, ℕ, List, IfSome, IsTrue, length, slice_index, All};
 ghost use Rattle.mk_model.specs.Graphs.{IsGraph};
 ghost use Rattle.mk_match.specs.Table.{IsTable};
-ghost use Rattle.mk_match.specs.Outlook.{AreLater, EndsAt, IsBeside, IsNoHitBehind, IsPut, IsTaken, LiesNever, StandsIn};
+ghost use Rattle.mk_match.specs.Outlook.{AreLater, EndsAt, IsBeside, IsNoHitBehind, IsPut, IsTakenBy, LiesNever, StandsIn};
 
 use crate::candidates::next_atom;
 use crate::order::{Order, number_at, put_at};
@@ -242,7 +242,7 @@ fn stands_in(first: &[u32], fixed: &[u32], a: u32) -> bool
 // Tells that the atom is chosen for another atom than x.
 fn is_taken(order: &[u32], chosen: &[u32], levels: &[u32], x: u32, a: u32) -> bool
     requires { length chosen.now ≤ length order.now }
-    ensures { IsTrue result → IsTaken order.now chosen.now x a }
+    ensures { IsTrue result → IsTakenBy order.now chosen.now x a }
 {
     let level = number_at(levels, a) as usize;
     if level >= chosen.len() || order[level] == x {

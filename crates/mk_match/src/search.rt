@@ -3,7 +3,6 @@ ghost use Rattle.std.specs.Prelude.{◌≡◌, IfOk, IsTrue};
 ghost use Rattle.mk_model.specs.Hits.{IsHit};
 ghost use Rattle.mk_text.specs.Rising.{IsLeast, IsLeastFrom};
 
-use crate::counts::has_too_few;
 use crate::outlook::Outlook;
 use crate::table::table_of;
 use crate::walk::Walk;
@@ -43,9 +42,6 @@ impl Search {
             if front.is_empty() {
                 return Ok(Search::at_rest(alloc, Stage::Once));
             }
-            return Ok(Search::at_rest(alloc, Stage::Ended));
-        }
-        if has_too_few(graph, mol) {
             return Ok(Search::at_rest(alloc, Stage::Ended));
         }
         let fits = table_of(alloc, graph, mol)?;

@@ -7,7 +7,7 @@ use mk_fixtures::{
     asked_atoms, asked_bonds, elements_of, graph_of, graph_of_sketch, mol_of, mol_of_sketch,
 };
 use mk_model::{
-    Atom, AtomTest, Edge, Graph, GraphAtom, GraphBond, Kind, Map, Memory, Mol, Place, Steps,
+    Atom, AtomTest, Edge, Graph, GraphAtom, GraphBond, Kind, Map, Memory, Mol, Place, Steps, Turn,
 };
 use mk_tests::{atom_fits, bond_fits};
 use std::alloc::Global;
@@ -164,6 +164,59 @@ fn place_at_end<L: Ledger>(
     assert!(rt; maps.next().is_some());
     assert!(rt; maps.next().is_none());
     maps.place(alloc)
+}
+
+// Places, and the turns of C-O in C-O-C from each: `M` comes to a list that is no hit, `I` takes a
+// hit out, and `E` finds nothing left. The carbon is looked for on each atom, and the oxygen on the
+// neighbours of its image.
+static TURNS: [(&str, &[u32], &str); 4] = [
+    ("the empty place", &[], "MI12MMI32E"),
+    ("behind a hit", &[1, 2, 0], "MMI32E"),
+    ("a hit itself", &[3, 2], "I32E"),
+    ("above all atoms", &[10], "E"),
+];
+
+#[test]
+fn turns(rt: HostRuntime) -> Result<(), Fail> {
+    let mol = mol_of_sketch(rt.alloc(), COC)?;
+    for (name, place, want) in &TURNS {
+        let graph = graph_of_sketch(rt.alloc(), CO)?;
+        let told = turns_from::<Brand>(rt.alloc(), graph, &mol, place, Blank::new(1))?;
+        assert!(rt; told.as_slice() == want.as_bytes(), "{name}");
+    }
+    Ok(())
+}
+
+fn turns_from<L: Ledger>(
+    alloc: Global,
+    graph: Graph,
+    mol: &Mol,
+    place: &[u32],
+    blank: Blank,
+) -> Result<Vec<u8>, Memory>
+    requires name { blank.name ≡ L.name }
+    requires parts { blank.parts ≡ L.parts }
+    requires one { 0 < L.parts }
+{
+    let mut steps = Steps::<L>::new(blank);
+    let mut maps = Maps::from_place(alloc, graph, mol, place, &mut steps)?;
+    let mut told = Vec::new(alloc);
+    for _ in 0..32 {
+        match maps.advance() {
+            Turn::Item => {
+                told.push(b'I')?;
+                for number in maps.item() {
+                    told.push(b'0'.saturating_add((*number).min(9) as u8))?;
+                }
+            }
+            Turn::Moved => told.push(b'M')?,
+            Turn::End => {
+                told.push(b'E')?;
+                return Ok(told);
+            }
+        }
+    }
+    Ok(told)
 }
 
 // ---- the search beside the plain program

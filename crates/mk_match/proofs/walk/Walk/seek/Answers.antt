@@ -49,9 +49,11 @@ loop-i-preserved c =
 pub returns-clause-same : goal.returns-clause-same
 returns-clause-same c =
     let w = c.loop-i.self in
-    seek_whole c.args.graph.now c.args.mol.now c.requires.kept.drawing c.requires.kept.molecule c.args.front.now c.loop-i.i w.images.items w.levels.items w.depth w.above c.loop-i.invariant c.loop-i-test.false
+    seek_whole c.args.graph.now c.args.mol.now c.requires.kept.drawing c.requires.kept.molecule c.args.front.now
+    c.loop-i.i w.images.items w.levels.items w.depth w.above c.loop-i.invariant c.loop-i-test.false
 
 pub returns-clause-up : goal.returns-clause-up
 returns-clause-up c =
     let w = c.loop-i.self in
-    seek_whole_up c.args.graph.now c.args.mol.now c.requires.kept.drawing c.requires.kept.molecule c.args.front.now c.loop-i.i w.images.items w.levels.items w.depth w.above c.loop-i.invariant c.loop-i-test.false
+    seek_whole_up c.args.graph.now c.args.mol.now c.requires.kept.drawing c.requires.kept.molecule c.args.front.now
+    c.loop-i.i w.images.items w.levels.items w.depth w.above c.loop-i.invariant c.loop-i-test.false

@@ -22,7 +22,9 @@ returns-in-Node-clause-node c = λ _.
     let visit = c.in-Node.ensures.node refl in
     record {
       is = visit.is;
-      not_below = not_below_through (node_of new.images.items new.depth new.above) (place_of old.images.items old.depth old.above) (place_of w.images.items w.depth w.above) visit.not_below c.turn.invariant.2;
+      not_below = not_below_through (node_of new.images.items new.depth new.above)
+          (place_of old.images.items old.depth old.above) (place_of w.images.items w.depth w.above) visit.not_below
+          c.turn.invariant.2;
     }
 
 pub turn-preserved : goal.turn-preserved
