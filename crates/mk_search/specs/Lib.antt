@@ -1,5 +1,11 @@
 pub mod Starts
 pub mod Kept
-pub mod Listing
 pub mod Pages
+pub mod Records
+pub mod Begins
+pub mod Begun
+pub mod Levels
+pub mod Occurrences
+pub mod Stages
+pub mod Hits
 pub mod Laws

@@ -1,23 +1,29 @@
 // Expansions, and those that are kept for the next record.
-ghost use Rattle.std.specs.Prelude.{◌≡◌, ◌∷◌, ◌++◌, [], ℕ, All, IfNone, IfOk, IfSome, drop};
+ghost use Rattle.std.specs.Prelude.{◌≡◌, ◌<◌, ◌↔◌, ◌∷◌, ◌++◌, [], ℕ, false, All, IfNone, IfOk, IfSome, IsTrue, drop};
 ghost use Rattle.mk_model.specs.Codes.{IsCode};
-ghost use Rattle.mk_search.specs.Kept.{IsKept};
+ghost use Rattle.mk_model.specs.Screens.{Covers, IsNeedOf};
+ghost use Rattle.mk_match.specs.Asked.{AreAsked};
+ghost use Rattle.mk_search.specs.Kept.{HoldsNone, IsKept};
 
 use mk_expand::expand;
-use mk_match::{Asked, counts_asked};
-use mk_model::{Graph, Memory, Query};
+use mk_match::{Asked, Counts, cannot_hold, counts_asked};
+use mk_model::{Graph, Memory, Query, Steps};
+use mk_screen::{Screen, covers, need_of};
 use std::alloc::Global;
 use std::collections::VecDeque;
+use std::marker::Brand;
+use std::sync::ledger::{Blank, Ledger};
 
 // How many expansions are kept at most.
 const MOST_KEPT: usize = 64;
 
-/// The graph of a code, and what it asks for.
+/// The graph of a code, what it asks for, and what it needs of a screen.
 #[derive(Debug, Drop)]
 pub struct Expansion {
     pub code: Vec<u32>,
     pub graph: Graph,
     pub asked: Asked,
+    pub need: Screen,
 }
 
 /// The expansion by a code, out of those that are kept where it is the first of them.
@@ -41,10 +47,12 @@ pub fn expansion_by(
     }
     let graph = expand(alloc, query, code)?;
     let asked = counts_asked(alloc, &graph)?;
+    let need = need_of(&graph);
     Ok(Expansion {
         code: Vec::from_slice(alloc, code)?,
         graph,
         asked,
+        need,
     })
 }
 
@@ -80,4 +88,34 @@ fn make_room(kept: &mut VecDeque<Expansion>)
         return;
     }
     let _oldest = kept.pop_front();
+}
+
+// ---- whether an expansion is searched for
+
+/// Tells that a molecule's screen covers the need, and that it has enough atoms of each element.
+/// Where it says no there is no hit.
+pub fn may_hold(expansion: &Expansion, counts: &Counts, screen: &Screen) -> bool
+    requires asked { AreAsked expansion.now.graph expansion.now.asked }
+    requires need { IsNeedOf expansion.now.graph expansion.now.need }
+    ensures covers { IsTrue result → Covers screen.now expansion.now.need }
+    ensures none { result ≡ false → HoldsNone screen.now counts.now expansion.now.graph }
+{
+    if !is_covered::<Brand>(screen, &expansion.need, Blank::new(1)) {
+        return false;
+    }
+    if cannot_hold(&expansion.asked, counts) {
+        return false;
+    }
+    true
+}
+
+// Tells that a screen covers a need. The look is counted on a ledger of its own.
+fn is_covered<L: Ledger>(screen: &Screen, need: &Screen, blank: Blank) -> bool
+    requires name { blank.name ≡ L.name }
+    requires parts { blank.parts ≡ L.parts }
+    requires one { 0 < L.parts }
+    ensures { IsTrue result ↔ Covers screen.now need.now }
+{
+    let mut looks = Steps::<L>::new(blank);
+    covers(screen, need, &mut looks)
 }

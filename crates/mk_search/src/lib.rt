@@ -5,24 +5,31 @@
 //! in mk_model's `specs/Keys.antt`, and the order in mk_text's `specs/Rising.antt`. `least_hit`
 //! gives the least of them, and `least_key_of` is the plain program on one molecule.
 //!
-//! A page goes from record to record, from code to code and from hit to hit. The hits of one
-//! expansion are listed by one search; each code is looked for anew from the place behind the last,
-//! which takes no memory. The expansions that were made last are kept for the next record. A
-//! molecule with too few atoms of an element isn't searched.
+//! A page is a loop over `Hits`, which goes from record to record, from code to code and from hit to
+//! hit. The matcher of a code stays open from key to key; each code is looked for anew from the
+//! place behind the last, which takes no memory. The expansions that were made last are kept for the
+//! next record. A molecule isn't searched where its screen doesn't cover what an expansion needs, or
+//! where it has too few atoms of an element.
 //!
 //! How codes, expansions and hits are found is left to mk_choice, mk_expand and mk_match.
 #![tactic(auto)]
 
 mod expansions;
+mod finding;
+mod hits;
 mod laws;
-mod listing;
+mod needs;
+mod occurrences;
 mod pages;
 mod paging;
 mod plain;
+mod records;
+mod stages;
 mod starts;
 #[cfg(test)]
 mod tests;
 
+pub use hits::Hits;
 pub use laws::{
     keys_are_listed, keys_are_short, no_held_key_begins_another, nothing_is_behind_a_key,
     one_page_from_a_place, page_and_others_are_all, page_and_others_are_listed, places_are_short,

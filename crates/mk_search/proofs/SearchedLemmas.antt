@@ -1,0 +1,194 @@
+-- What is begun in the records of a shelf, one after another.
+--     begun_in, begun_key               what is begun in a record
+--     searched_none .. searched_all     what is begun in the records below a number
+--     behind_open, none_last            what is found behind a record that was open
+--     ok_same                           what holds of an answer, in other words
+use Rattle.std.proofs.Common.{◌≡◌, ℕ, ◌+◌, ◌≤◌, inl, inr, Bool, false, List, [], ◌∷◌, ◌++◌, map, Option, Some, None, Result, Ok, Err, refl, sym, ap, subst, ◌∙◌, arith}
+use Rattle.std.specs.Prelude.{IfOk}
+use Rattle.std.proofs.lemmas.List.{length-map}
+use Rattle.mk_text.specs.Rising.{IsBelow}
+use Rattle.mk_text.proofs.ForCallers.{holds_append, holds_before_map, holds_mapped, not_below_itself, rises_mapped}
+use Rattle.mk_model.specs.Molecules.{Molecule}
+use Rattle.mk_model.specs.Queries.{QueryView}
+use Rattle.mk_model.proofs.ForCallers.{not_below_through}
+use Rattle.mk_rows.specs.declared.by_number.Numbered.{Numbered}
+use Rattle.mk_rows.specs.Rows.{NoneFrom}
+use Rattle.mk_choice.specs.Codes.{CodesLeft}
+use Rattle.mk_search.specs.declared.occurrences.Open.{Open}
+use Rattle.mk_search.specs.declared.stages.Found.{Found}
+use Rattle.mk_search.specs.Begins.{IsLeftBy}
+use Rattle.mk_search.specs.Begun.{Begun, IsPairLeft}
+use Rattle.mk_search.specs.Levels.{AtFronts}
+use Rattle.mk_search.specs.Starts.{rest_in}
+use Rattle.mk_search.specs.Occurrences.{IsBegunFor, IsCodeFrom, is_open}
+use Rattle.mk_search.specs.Pages.{IsHeldIn}
+use Rattle.mk_search.specs.Records.{NoRecord}
+use Rattle.mk_search.specs.Stages.{Finds, FindsKey, FindsNoKey, FindsNone, IsBegunKey, IsRecord, OccursIn, pairs_from}
+use Rattle.mk_search.proofs.BegunLemmas.{begun_append, begun_none}
+use Rattle.mk_search.proofs.StartsLemmas.{behind_same}
+use Rattle.mk_search.proofs.StagesLemmas.{at_next, behind_number, no_key, no_record_held}
+
+-- ---- what is begun
+
+-- what is begun in a record, with its number before it
+module _ (rows : List (Numbered Molecule)) (query : QueryView) (n : ℕ) (mol : Molecule) (held : IsHeldIn rows n mol) (place : List ℕ) (front_from : IsLeftBy place (n ∷ [])) where
+  -- a pair whose code isn't below the rest isn't below the place
+  pub pair_from : (code : List ℕ) → IsLeftBy (rest_in place n) code → IsLeftBy place (n ∷ code)
+  pair_from code from =
+      elim (behind_number place n) [
+        | inl whole ↦ elim from [
+          | inl not ↦ inl (λ below. not (behind_same (n ∷ []) code (rest_in place n) (subst (λ (zs : List ℕ). IsBelow (n ∷ code) zs) whole below)))
+          | inr begins ↦ inr (begins.0, whole ∙ ap (λ (zs : List ℕ). n ∷ zs) begins.1)
+        ]
+        | inr apart ↦ elim front_from [
+          | inl not ↦ inl (not_lower place not apart.1)
+          | inr begins ↦ absurd (apart.1 begins.0 begins.1)
+        ]
+      ]
+    where
+      not_lower : (place : List ℕ) → (IsBelow (n ∷ []) place → ⊥) → ((behind : List ℕ) → place ≡ n ∷ behind → ⊥) → IsBelow (n ∷ code) place → ⊥
+      not_lower [] not apart below = below
+      not_lower (p ∷ place) not apart (inl less) = not (inl less)
+      not_lower (p ∷ place) not apart (inr h) = apart place (ap (λ (m : ℕ). m ∷ place) (sym h.0))
+
+  unfoldable pub begun_in : (from to : List ℕ) (before after : ℕ) → Begun (IsCodeFrom query mol (rest_in place n)) from to before after
+      → Begun (IsPairLeft rows query place) (n ∷ from) (n ∷ to) before after
+  begun_in from to before after b = record {
+    begun = map (λ code. n ∷ code) b.begun;
+    rise = rises_mapped (λ code. n ∷ code) (λ x y below. inr (refl, below)) b.begun b.rise;
+    each = λ xs is. (let m = holds_before_map (λ code. n ∷ code) b.begun xs is in record {
+      of = record { number = n; mol = mol; code = m.0; held = held; covered = (b.each m.0 m.2).covered; is = sym m.1 };
+      from = subst (IsLeftBy place) m.1 (pair_from m.0 (b.each m.0 m.2).from);
+    });
+    from_is = λ xs is below.
+        (let m = holds_before_map (λ code. n ∷ code) b.begun xs is in b.from_is m.0 m.2
+        (behind_same (n ∷ []) m.0 from (subst (λ (zs : List ℕ). IsBelow zs (n ∷ from)) (sym m.1) below)));
+    to_is = λ xs is. (let m = holds_before_map (λ code. n ∷ code) b.begun xs is in subst (λ (zs : List ℕ). IsBelow zs (n ∷ to)) m.1 (inr (refl, b.to_is m.0 m.2)));
+    up = λ below. b.up (behind_same (n ∷ []) to from below);
+    ticked = omega (arith, length-map b.begun (λ code. n ∷ code), b.ticked);
+  }
+
+-- the key's pair is begun, or was open
+pub begun_key : (n : ℕ) (old : CodesLeft) (opened : Option Open) (new : CodesLeft) (begun : List (List ℕ)) (numbers : List ℕ) → IsBegunFor old opened new begun numbers
+    → IsBegunKey (n ∷ old.place) (is_open opened) (n ∷ new.place) (map (λ code. n ∷ code) begun) (n ∷ numbers)
+begun_key n old opened new begun numbers for_it = record {
+  number = n;
+  code = for_it.code;
+  hit = for_it.hit;
+  whole = ap (λ (zs : List ℕ). n ∷ zs) for_it.whole;
+  placed = ap (λ (zs : List ℕ). n ∷ zs) for_it.placed;
+  begun_for = elim for_it.begun_for [
+    | inl here ↦ inl (holds_mapped (λ code. n ∷ code) begun for_it.code here)
+    | inr was ↦ inr (was.0, ap (λ (zs : List ℕ). n ∷ zs) was.1)
+  ];
+}
+
+-- a key's pair that is begun among others is begun with those before them
+begun_later : (from start to : List ℕ) (others begun : List (List ℕ)) (key : List ℕ) → IsBegunKey from false to begun key → (opened : Bool) → IsBegunKey start opened to (others ++ begun) key
+begun_later from start to others begun key is opened = record {
+  number = is.number;
+  code = is.code;
+  hit = is.hit;
+  whole = is.whole;
+  placed = is.placed;
+  begun_for = elim is.begun_for [
+    | inl here ↦ inl (holds_append others begun (is.number ∷ is.code) (inr here))
+    | inr was ↦ absurd (let never = was.0 in cc)
+  ];
+}
+
+-- ---- the records from a number on
+
+-- what has been begun in the records below a number
+pub record HasSearched (rows : List (Numbered Molecule)) (query : QueryView) (place : List ℕ) (start : List ℕ) (next before now : ℕ) : Type 0 where
+  pub at : AtFronts (IsRecord rows) (OccursIn rows query) place (next ∷ [])
+  pub to : List ℕ
+  pub begun : Begun (IsPairLeft rows query place) start to before now
+  pub up : IsBelow (next ∷ []) to → ⊥
+
+module _ (rows : List (Numbered Molecule)) (query : QueryView) (place start : List ℕ) (before : ℕ) where
+  pub searched_none : (next : ℕ) → AtFronts (IsRecord rows) (OccursIn rows query) place (next ∷ []) → start ≡ next ∷ [] → HasSearched rows query place start next before before
+  searched_none next at is = record {
+    at = at;
+    to = start;
+    begun = begun_none (IsPairLeft rows query place) start before before refl;
+    up = rw is (not_below_itself (next ∷ []));
+  }
+
+  module _ (next now : ℕ) (h : HasSearched rows query place start next before now) where
+    -- from where a record is searched
+    record_up : (n : ℕ) (from : List ℕ) → next ≤ n → IsBelow (n ∷ from) h.to → ⊥
+    record_up n from up below = not_below_through (n ∷ from) (next ∷ []) h.to not_less h.up below
+      where
+        not_less : IsBelow (n ∷ from) (next ∷ []) → ⊥
+        not_less (inl less) = omega (arith, less, up)
+        not_less (inr h) = h.1
+
+    -- nothing is found in one more
+    pub searched_more : (n : ℕ) (from : List ℕ) (after : ℕ) → next ≤ n → FindsNone rows query place n (n ∷ from) now after → HasSearched rows query place start (n + 1) before after
+    searched_more n from after up f = record {
+      at = at_next rows query place n f.at;
+      to = n ∷ f.to;
+      begun = begun_append (IsPairLeft rows query place) start h.to (n ∷ from) (n ∷ f.to) before now after h.begun (record_up n from up) f.begun;
+      up = later;
+    }
+      where
+        later : IsBelow ((n + 1) ∷ []) (n ∷ f.to) → ⊥
+        later (inl less) = omega (arith, less)
+        later (inr g) = omega (arith, g.0)
+
+    -- a key is found in the next
+    pub searched_found : (n : ℕ) (from : List ℕ) (after : ℕ) (found : Found) → next ≤ n → FindsKey rows query place (n ∷ from) false now after found
+        → FindsKey rows query place start false before after found
+    unfolding begun_append
+    searched_found n from after found up f = record {
+      least = f.least;
+      behind = f.behind;
+      ready = f.ready;
+      begun = begun_append (IsPairLeft rows query place) start h.to (n ∷ from) (pairs_from found.stage) before now after h.begun (record_up n from up) f.begun;
+      taken = begun_later (n ∷ from) start (pairs_from found.stage) h.begun.begun f.begun.begun found.key.items f.taken false;
+    }
+
+    -- no record is left
+    pub searched_all : NoRecord rows query next → FindsNoKey rows query place start before now
+    searched_all none = record {
+      none = no_key rows query place next h.at none;
+      to = h.to;
+      begun = h.begun;
+    }
+
+-- the number behind a record isn't below what was begun in it
+next_up : (n : ℕ) (to : List ℕ) → IsBelow ((n + 1) ∷ []) (n ∷ to) → ⊥
+next_up n to (inl less) = omega (arith, less)
+next_up n to (inr g) = omega (arith, g.0)
+
+-- what is found behind a record that was open
+pub behind_open : (rows : List (Numbered Molecule)) (query : QueryView) (place : List ℕ) (n : ℕ) (from : List ℕ) (opened : Bool) (before now after : ℕ) (found : Option Found)
+    → FindsNone rows query place n from before now → Finds rows query place ((n + 1) ∷ []) false now after found → Finds rows query place from opened before after found
+unfolding begun_append
+behind_open rows query place n from opened before now after None f k = record {
+  none = k.none;
+  to = k.to;
+  begun = begun_append (IsPairLeft rows query place) from (n ∷ f.to) ((n + 1) ∷ []) k.to before now after f.begun (next_up n f.to) k.begun;
+}
+behind_open rows query place n from opened before now after (Some found) f k = record {
+  least = k.least;
+  behind = k.behind;
+  ready = k.ready;
+  begun = begun_append (IsPairLeft rows query place) from (n ∷ f.to) ((n + 1) ∷ []) (pairs_from found.stage) before now after f.begun (next_up n f.to) k.begun;
+  taken = begun_later ((n + 1) ∷ []) from (pairs_from found.stage) f.begun.begun k.begun.begun found.key.items k.taken opened;
+}
+
+-- no record is behind it
+pub none_last : (rows : List (Numbered Molecule)) (query : QueryView) (place : List ℕ) (n : ℕ) (from : List ℕ) (before now : ℕ)
+    → FindsNone rows query place n from before now → NoneFrom (n + 1) rows → FindsNoKey rows query place from before now
+none_last rows query place n from before now f none = record {
+  none = no_key rows query place (n + 1) (at_next rows query place n f.at) (no_record_held rows query (n + 1) none);
+  to = n ∷ f.to;
+  begun = f.begun;
+}
+
+-- what holds of an answer, in other words
+pub ok_same : {A E : Type 0} (r : Result A E) (P Q : A → Type 0) → ((x : A) → P x → Q x) → IfOk r P → IfOk r Q
+ok_same (Ok x) P Q to is = to x is
+ok_same (Err e) P Q to is = tt

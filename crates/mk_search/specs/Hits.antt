@@ -1,0 +1,68 @@
+-- The keys that are left from a place on, as `Hits` gives them, and for which pairs of a record and
+-- a code it begins a matcher.
+--     HitsLeft                        what is seen of a `Hits`
+--     IsMadeFrom rows query place left      as it is made from a place
+--     IsSameSearch old new            the rows and the query stay
+--     IsNextKey old new .. key        the least key that is left is taken, and the place is behind
+--                                     it; or there is none
+use Rattle.std.specs.Prelude.{◌≡◌, ◌⊎◌, ℕ, List, [], ◌∷◌, ◌++◌, Option, Some, None}
+use Rattle.mk_text.specs.Rising.{Holds, IsLeast, IsLeastFrom}
+use Rattle.mk_model.specs.Keys.{IsKey}
+use Rattle.mk_model.specs.Molecules.{Molecule}
+use Rattle.mk_model.specs.Queries.{QueryView}
+use Rattle.mk_rows.specs.declared.by_number.Numbered.{Numbered}
+use Rattle.mk_search.specs.Begun.{Begun, IsPairLeft}
+use Rattle.mk_search.specs.Starts.{first_number}
+use Rattle.mk_search.specs.Pages.{IsHeldIn}
+
+-- what is seen of a `Hits`: the rows, the query and the place from which keys are left; and the list
+-- from which on pairs of a record's number and a code are still to be begun
+pub record HitsLeft : Type 0 where
+  pub rows : List (Numbered Molecule)
+  pub query : QueryView
+  pub place : List ℕ
+  pub from : List ℕ
+
+-- the keys are those from the place on, and no matcher is begun
+pub record IsMadeFrom (rows : List (Numbered Molecule)) (query : QueryView) (place : List ℕ)
+    (left : HitsLeft) : Type 0 where
+  pub rows_is : left.rows ≡ rows
+  pub query_is : left.query ≡ query
+  pub place_is : left.place ≡ place
+  pub from_is : left.from ≡ first_number place ∷ []
+
+-- the rows and the query stay
+pub record IsSameSearch (old new : HitsLeft) : Type 0 where
+  pub rows : new.rows ≡ old.rows
+  pub query : new.query ≡ old.query
+
+-- the key begins with a pair for which a matcher was begun, now or before
+pub record IsOfPair (old new : HitsLeft) (begun : List (List ℕ)) (key : List ℕ) : Type 0 where
+  pub number : ℕ
+  pub code : List ℕ
+  pub hit : List ℕ
+  pub whole : key ≡ number ∷ (code ++ hit)
+  pub placed : new.from ≡ number ∷ (code ++ 0 ∷ [])
+  pub begun_for : Holds begun (number ∷ code) ⊎ (old.from ≡ number ∷ (code ++ 0 ∷ []))
+
+-- the least key that is left is taken, and the place is behind it; there is one begin for each of
+-- some pairs, and the key begins with one of them or with the one that was begun last
+pub record TakesKey (old new : HitsLeft) (before after : ℕ) (key : List ℕ) : Type 0 where
+  pub same : IsSameSearch old new
+  pub least : IsLeast old.place (IsKey (IsHeldIn old.rows) old.query) key
+  pub place : new.place ≡ key ++ 0 ∷ []
+  pub begun : Begun (IsPairLeft old.rows old.query old.place) old.from new.from before after
+  pub taken : IsOfPair old new begun.begun key
+
+-- there is none, and the place stays
+pub record TakesNone (old new : HitsLeft) (before after : ℕ) : Type 0 where
+  pub same : IsSameSearch old new
+  pub none : IsLeastFrom old.place (IsKey (IsHeldIn old.rows) old.query) None
+  pub place : new.place ≡ old.place
+  pub to : List ℕ
+  pub begun : Begun (IsPairLeft old.rows old.query old.place) old.from to before after
+
+-- the next key is taken, or there is none
+abbrev pub IsNextKey : HitsLeft → HitsLeft → ℕ → ℕ → Option (List ℕ) → Type 0
+IsNextKey old new before after None = TakesNone old new before after
+IsNextKey old new before after (Some key) = TakesKey old new before after key

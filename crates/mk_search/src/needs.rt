@@ -1,0 +1,80 @@
+// What the expansions of all codes need of a screen.
+ghost use Rattle.std.specs.Prelude.{All, IfOk, IfSome};
+ghost use Rattle.mk_model.specs.Screens.{Covers};
+ghost use Rattle.mk_screen.specs.Covering.{CoversBits, CoversCounts};
+ghost use Rattle.mk_search.specs.Kept.{IsKept};
+ghost use Rattle.mk_search.specs.Records.{IsNeedOfAll};
+
+use crate::expansions::{Expansion, expansion_by, keep};
+use mk_choice::Codes;
+use mk_model::{Memory, Query, Screen};
+use std::alloc::Global;
+use std::collections::VecDeque;
+
+// How many codes may share a need at most: as many as there are expansions that are kept.
+const MOST_CODES: usize = 64;
+
+/// What the expansions of all codes need, where there are few codes. These expansions are kept.
+pub fn need_of_all(
+    alloc: Global,
+    query: &Query,
+    kept: &mut VecDeque<Expansion>,
+) -> Result<Option<Screen>, Memory>
+    requires kept { All (IsKept query.now) kept.old.items }
+    ensures kept { IfOk result (λ _. All (IsKept query.now) kept.new.items) }
+    ensures need { IfOk result (λ found. IfSome found (IsNeedOfAll query.now)) }
+{
+    // The reader's clause says what every query keeps.
+    let _kept = query.templates();
+    let mut codes = Codes::from_place(alloc, query, &[])?;
+    let Some(code) = codes.next() else {
+        return Ok(None);
+    };
+    let expansion = expansion_by(alloc, query, code, kept)?;
+    let mut need = expansion.need;
+    keep(expansion, kept)?;
+    for _ in 1..MOST_CODES {
+        let Some(code) = codes.next() else {
+            return Ok(Some(need));
+        };
+        let expansion = expansion_by(alloc, query, code, kept)?;
+        need = meet(&need, &expansion.need);
+        keep(expansion, kept)?;
+    }
+    Ok(None)
+}
+
+// What two needs have in common: what covers one of them covers it.
+fn meet(a: &Screen, b: &Screen) -> Screen
+    ensures first { Covers a.now result }
+    ensures second { Covers b.now result }
+{
+    Screen {
+        counts: least_counts(&a.counts, &b.counts),
+        bits: common_bits(&a.bits, &b.bits),
+    }
+}
+
+// The lesser of both counts at each place.
+fn least_counts(a: &[u8; 16], b: &[u8; 16]) -> [u8; 16]
+    ensures first { CoversCounts a.now result }
+    ensures second { CoversCounts b.now result }
+{
+    let mut counts = [0; 16];
+    for i in 0..16 {
+        counts[i] = a[i].min(b[i]);
+    }
+    counts
+}
+
+// The bits that are set in both.
+fn common_bits(a: &[u64; 8], b: &[u64; 8]) -> [u64; 8]
+    ensures first { CoversBits a.now result }
+    ensures second { CoversBits b.now result }
+{
+    let mut bits = [0; 8];
+    for i in 0..8 {
+        bits[i] = a[i] & b[i];
+    }
+    bits
+}
