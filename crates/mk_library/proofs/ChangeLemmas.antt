@@ -60,14 +60,17 @@ over_keeps texts rows bytes next number text former kept held is fits =
       short = let bytes_are = bytes_replaced (record { number = number; item = text }) former texts is in
           let within = former_within number former texts is in
           omega (arith, bytes_are, within, kept.counted, kept.limits.short, fits);
-      numbers = all_of_records (λ n. n ≤ most_number) _ (all_replaced (λ n. n ≤ most_number) (record { number = number; item = text }) texts (all_of_rows (λ n. n ≤ most_number) texts kept.limits.numbers));
+      numbers = all_of_records (λ n. n ≤ most_number) _
+          (all_replaced (λ n. n ≤ most_number) (record { number = number; item = text }) texts
+          (all_of_rows (λ n. n ≤ most_number) texts kept.limits.numbers));
     })
 
 -- and where the limits are kept, the bytes suffice
 pub over_fits : (texts : List (Numbered (List ℕ))) (rows : List (Numbered Molecule)) (bytes next number : ℕ) (text former : List ℕ) → IsKept texts rows bytes next → holds number texts ≡ true
     → item_at number texts ≡ Some former → KeepsLimits (PutRecord number text) (record_tables (records_of texts) next) → length text ≤ most_bytes - (bytes - length former)
 over_fits texts rows bytes next number text former kept held is keeps =
-    let limits : IsWithinLimits (records_of (replaced (record { number = number; item = text }) texts)) = subst IsWithinLimits (sym (put_held (record { number = number; item = text }) texts held)) keeps in
+    let limits : IsWithinLimits (records_of (replaced (record { number = number; item = text }) texts)) =
+    subst IsWithinLimits (sym (put_held (record { number = number; item = text }) texts held)) keeps in
     let short = limits.short in
     let bytes_are = bytes_replaced (record { number = number; item = text }) former texts is in
     let within = former_within number former texts is in
@@ -105,7 +108,9 @@ pub new_kept : (texts : List (Numbered (List ℕ))) (rows : List (Numbered Molec
 new_kept texts rows bytes next number text mol kept new numbered molecule limits = record {
   rising = put_rising (record { number = number; item = text }) texts kept.rising new;
   below_next = let is : number ≡ next = number_next texts next number text new numbered in
-      all_of_records (λ n. n < number + 1) _ (all_put (λ n. n < number + 1) (record { number = number; item = text }) texts (omega arith) (all_below next (number + 1) texts (omega (arith, is)) (all_of_rows (λ n. n < next) texts kept.below_next)));
+      all_of_records (λ n. n < number + 1) _ (all_put (λ n. n < number + 1) (record { number = number; item = text })
+      texts (omega arith) (all_below next (number + 1) texts (omega (arith, is))
+      (all_of_rows (λ n. n < next) texts kept.below_next)));
   limits = subst IsWithinLimits (sym (put_new (record { number = number; item = text }) texts new)) limits;
   held = held_put number text mol texts rows molecule kept.held;
   counted = let bytes_are = bytes_put (record { number = number; item = text }) texts in

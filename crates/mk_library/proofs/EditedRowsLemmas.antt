@@ -19,7 +19,7 @@ use Rattle.mk_mol.proofs.LawLemmas.{keeps_text}
 use Rattle.mk_library.specs.Limits.{IsWithinLimits, file_bytes}
 use Rattle.mk_library.specs.Library.{record_tables}
 use Rattle.mk_library.specs.Edits.{Edit, Load, Remove, Replace, puts_from, texts_of}
-use Rattle.mk_library.specs.FirstRefusal.{IsAllowed, IsMoleculeRecord, held_number, kept_limits, molecules, short_file}
+use Rattle.mk_library.specs.FirstRefusal.{IsAllowedEdit, IsMoleculeRecord, held_number, kept_limits, molecules, short_file}
 use Rattle.mk_library.specs.Pending.{IsOfRecords}
 use Rattle.mk_library.specs.EditedRows.{EditsAreOfRecords, EditsKeepReading, ReadOn}
 use Rattle.mk_library.proofs.LoadLemmas.{within_keeps}
@@ -69,7 +69,7 @@ edits_of_records records next (Remove number) changes allowed =
 abbrev GoOn : Tables → Type 0
 GoOn t = AreGood t.next_record t.records × (1 ≤ t.next_record)
 
-good_edited : (records : List RecordRow) (next : ℕ) (edit : Edit) (changes : List Change) → AreGood next records → 1 ≤ next → IsAllowed records next edit changes
+good_edited : (records : List RecordRow) (next : ℕ) (edit : Edit) (changes : List Change) → AreGood next records → 1 ≤ next → IsAllowedEdit records next edit changes
     → GoOn (after_batch changes (record_tables records next))
 good_edited records next (Load text) changes good least allowed =
     let (raws, is, same) = allowed.are in

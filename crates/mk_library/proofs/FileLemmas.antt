@@ -6,9 +6,9 @@ use Rattle.mk_text.specs.Columns.{are_blank}
 use Rattle.mk_form.specs.Rows.{Series}
 use Rattle.mk_ctab.specs.TableLines.{Line}
 use Rattle.mk_sdfile.specs.declared.raw_record.RawRecord.{RawRecord}
-use Rattle.mk_sdfile.specs.Sdfile.{IsBlock, IsRecord, IsSdfile}
+use Rattle.mk_sdfile.specs.Sdfile.{IsRecordBlock, IsRecord, IsSdfile}
 
-blocks_few : (lines : List Line) (blocks : List RawRecord) → Series IsBlock lines blocks → length blocks ≤ length lines
+blocks_few : (lines : List Line) (blocks : List RawRecord) → Series IsRecordBlock lines blocks → length blocks ≤ length lines
 blocks_few lines [] h = omega arith
 blocks_few lines (raw ∷ blocks) (front, back, whole, block, rest) =
     let few = blocks_few back blocks rest in

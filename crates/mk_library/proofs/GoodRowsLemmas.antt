@@ -168,7 +168,9 @@ all_in_place P row [] p all = tt
 all_in_place P row (x ∷ rows) p all =
     cond_both (nat_eq x.number row.number) (row ∷ rows) (x ∷ in_place record_number row rows) (AllByRecursion P) (λ _. (p, all.1)) (λ _. (all.0, all_in_place P row rows p all.1))
 
-above_in_place : (n : ℕ) (row : RecordRow) (rows : List RecordRow) → AllByRecursion (λ (later : RecordRow). n < later.number) rows → AllByRecursion (λ (later : RecordRow). n < later.number) (in_place record_number row rows)
+above_in_place : (n : ℕ) (row : RecordRow) (rows : List RecordRow)
+    → AllByRecursion (λ (later : RecordRow). n < later.number) rows
+    → AllByRecursion (λ (later : RecordRow). n < later.number) (in_place record_number row rows)
 above_in_place n row [] all = tt
 above_in_place n row (x ∷ rows) all =
     cond_both (nat_eq x.number row.number) (row ∷ rows) (x ∷ in_place record_number row rows) (AllByRecursion (λ (later : RecordRow). n < later.number))
@@ -258,6 +260,8 @@ pub good_loaded : (texts : List (List ℕ)) (n : ℕ) (records : List RecordRow)
     × (1 ≤ (after_batch (puts_from n texts) (record_tables records n)).next_record)
 good_loaded [] n records least good are keeps = (good, least)
 good_loaded (text ∷ texts) n records least good are keeps =
-    subst (λ (t : Tables). AreGood (after_batch (puts_from (n + 1) texts) t).next_record (after_batch (puts_from (n + 1) texts) t).records × (1 ≤ (after_batch (puts_from (n + 1) texts) t).next_record))
+    subst (λ (t : Tables). AreGood (after_batch (puts_from (n + 1) texts) t).next_record
+    (after_batch (puts_from (n + 1) texts) t).records × (1 ≤ (after_batch (puts_from (n + 1) texts) t).next_record))
     (sym (change_behind n text records (each_below n records good.each)))
-    (good_loaded texts (n + 1) (records ++ record { number = n; text = text } ∷ []) (omega arith) (good_behind_all n text texts records least good are.0 keeps) are.1 (others_keep records texts n text keeps))
+    (good_loaded texts (n + 1) (records ++ record { number = n; text = text } ∷ []) (omega arith)
+    (good_behind_all n text texts records least good are.0 keeps) are.1 (others_keep records texts n text keeps))

@@ -4,7 +4,9 @@ pub mod PendingLemmas
 pub mod StepsLemmas
 pub mod FileLemmas
 pub mod LoadLemmas
+pub mod DemandLemmas
 pub mod EditLemmas
+pub mod OneMoleculeLemmas
 pub mod StoredLemmas
 pub mod RebuiltLemmas
 pub mod TextLengthLemmas

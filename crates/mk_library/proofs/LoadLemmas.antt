@@ -15,7 +15,7 @@ use Rattle.mk_sdfile.specs.Sdfile.{IsSdfile}
 use Rattle.mk_sdfile.proofs.ForCallers.{text_is_its_record}
 use Rattle.mk_text.specs.Lines.{lines_of}
 use Rattle.mk_ctab.specs.KeptTables.{KeepsItsText}
-use Rattle.mk_mol.specs.FirstFault.{PassesAll, known_atoms, known_properties}
+use Rattle.mk_mol.specs.FirstFault.{MeetsAllChecks, known_atoms, known_properties}
 use Rattle.mk_mol.specs.Filled.{IsFilled}
 use Rattle.mk_mol.proofs.ForCallers.{keeps_text}
 use Rattle.mk_library.specs.Records.{IsMoleculeOf, text_bytes}
@@ -152,7 +152,7 @@ within_keeps texts n records below limits =
 -- ---- their molecules
 
 -- the text of a record that passes is its own, and the molecule of its table is that of the text
-pub is_molecule : (raw : RawRecord) (mol : Molecule) → PassesAll raw.table → IsFilled raw.table mol → IsMolecule mol
+pub is_molecule : (raw : RawRecord) (mol : Molecule) → MeetsAllChecks raw.table → IsFilled raw.table mol → IsMolecule mol
     → (KeepsItsText raw.table → IsSdfile (lines_of raw.text) (raw ∷ [])) → IsMoleculeOf raw.text mol
 is_molecule raw mol passes filled kept again = record {
   is = record {

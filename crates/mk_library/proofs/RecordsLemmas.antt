@@ -12,7 +12,7 @@ use Rattle.mk_outside.specs.declared.tables.RecordRow.{RecordRow}
 use Rattle.mk_outside.specs.Rows.{put, in_place, in_order}
 use Rattle.mk_outside.specs.Rows as outside
 use Rattle.mk_outside.specs.Tables.{record_number}
-use Rattle.mk_library.specs.Records.{AreHeld, AreRising, IsMoleculeOf, is_held, record_of, records_of, text_bytes, text_of}
+use Rattle.mk_library.specs.Records.{AreHeld, AreRising, IsMoleculeOf, is_held, record_of, records_of, text_bytes, text_under}
 
 -- ---- texts as record rows
 
@@ -20,7 +20,7 @@ pub held_of : (n : ℕ) (rows : List (Numbered (List ℕ))) → holds n rows ≡
 held_of n [] = refl
 held_of n (row ∷ rows) = grind (arith, common_steps, held_of n rows)
 
-pub text_there : (n : ℕ) (rows : List (Numbered (List ℕ))) → item_at n rows ≡ text_of n (records_of rows)
+pub text_there : (n : ℕ) (rows : List (Numbered (List ℕ))) → item_at n rows ≡ text_under n (records_of rows)
 text_there n [] = refl
 text_there n (row ∷ rows) = grind (arith, common_steps, text_there n rows)
 

@@ -4,7 +4,7 @@ use Rattle.std.proofs.lemmas.List.Elements.{All-cons, All-head, All-tail}
 use Rattle.mk_model.specs.Molecules.{IsMolecule, Molecule}
 use Rattle.mk_sdfile.specs.declared.raw_record.RawRecord.{RawRecord}
 use Rattle.mk_mol.specs.Filled.{IsFilled}
-use Rattle.mk_mol.specs.FirstFault.{IsFirstFault, PassesAll}
+use Rattle.mk_mol.specs.FirstFault.{IsFirstMoleculeFault, MeetsAllChecks}
 use Rattle.mk_library.specs.Edits.{texts_of}
 use Rattle.mk_library.specs.FirstRefusal.{IsFirstFailing, IsMoleculeRecord}
 use Rattle.mk_library.specs.Steps.{AreMolecules}
@@ -20,7 +20,7 @@ pub record IsPart (all left : List RawRecord) (number : ℕ) (texts : List (List
 pub part-none : (all : List RawRecord) → IsPart all all 0 [] []
 part-none all = record { done = []; whole = refl; counted = refl; texts_are = refl; molecules = tt }
 
-molecules_more : (done : List RawRecord) (mols : List Molecule) (raw : RawRecord) (mol : Molecule) → AreMolecules done mols → PassesAll raw.table → IsFilled raw.table mol
+molecules_more : (done : List RawRecord) (mols : List Molecule) (raw : RawRecord) (mol : Molecule) → AreMolecules done mols → MeetsAllChecks raw.table → IsFilled raw.table mol
     → IsMolecule mol → AreMolecules (done ++ raw ∷ []) (mols ++ mol ∷ [])
 molecules_more [] [] raw mol are passes filled kept = (passes, filled, kept, tt)
 molecules_more [] (m ∷ mols) raw mol are passes filled kept = absurd are
@@ -36,7 +36,7 @@ behind [] left raw = refl
 behind (r ∷ done) left raw = ap (λ xs. r ∷ xs) (behind done left raw)
 
 pub part-more : (all left : List RawRecord) (raw : RawRecord) (number : ℕ) (texts : List (List ℕ)) (mols : List Molecule) (mol : Molecule) → IsPart all (raw ∷ left) number texts mols
-    → PassesAll raw.table → IsFilled raw.table mol → IsMolecule mol → IsPart all left (number + 1) (texts ++ raw.text ∷ []) (mols ++ mol ∷ [])
+    → MeetsAllChecks raw.table → IsFilled raw.table mol → IsMolecule mol → IsPart all left (number + 1) (texts ++ raw.text ∷ []) (mols ++ mol ∷ [])
 part-more all left raw number texts mols mol part passes filled kept = record {
   done = part.done ++ raw ∷ [];
   whole = part.whole ∙ behind part.done left raw;
@@ -67,7 +67,7 @@ all_pass (raw ∷ raws) (mol ∷ mols) are = All-cons IsMoleculeRecord raw raws 
 
 -- the next one is the first that fails
 pub part-fails : (all left : List RawRecord) (raw : RawRecord) (number check item : ℕ) (texts : List (List ℕ)) (mols : List Molecule) → IsPart all (raw ∷ left) number texts mols
-    → IsFirstFault raw.table check item → IsFirstFailing all (number + 1) check item
+    → IsFirstMoleculeFault raw.table check item → IsFirstFailing all (number + 1) check item
 part-fails all left raw number check item texts mols part fails = record {
   earlier = part.done;
   raw = raw;

@@ -14,7 +14,7 @@ use Rattle.mk_outside.specs.declared.tables.RecordRow.{RecordRow}
 use Rattle.mk_sdfile.specs.declared.raw_record.RawRecord.{RawRecord}
 use Rattle.mk_sdfile.specs.Sdfile.{IsBadSdfileLine, IsSdfile}
 use Rattle.mk_sdfile.proofs.ForCallers.{bad_where_none, one}
-use Rattle.mk_mol.specs.FirstFault.{IsFirstFault}
+use Rattle.mk_mol.specs.FirstFault.{IsFirstMoleculeFault}
 use Rattle.mk_mol.proofs.ForCallers.{no_fault}
 use Rattle.mk_library.specs.Records.{IsMoleculeOf, IsRecordText, records_of, text_bytes}
 use Rattle.mk_library.specs.Limits.{IsWithinLimits}
@@ -40,9 +40,9 @@ same_raw text raw are is = only_same raw is.raw (one (lines_of text) (raw ∷ []
 pub other_text : (text : List ℕ) (raw : RawRecord) → IsSdfile (lines_of text) (raw ∷ []) → raw.text ≢ text → IsRecordText text → ⊥
 other_text text raw are differs is = differs (ap (λ (r : RawRecord). r.text) (same_raw text raw are is) ∙ is.own)
 
-pub fails_check : (text : List ℕ) (raw : RawRecord) (check item : ℕ) → IsSdfile (lines_of text) (raw ∷ []) → IsFirstFault raw.table check item → IsRecordText text → ⊥
+pub fails_check : (text : List ℕ) (raw : RawRecord) (check item : ℕ) → IsSdfile (lines_of text) (raw ∷ []) → IsFirstMoleculeFault raw.table check item → IsRecordText text → ⊥
 fails_check text raw check item are fails is =
-    no_fault is.raw.table check item is.passes (subst (λ (r : RawRecord). IsFirstFault r.table check item) (same_raw text raw are is) fails)
+    no_fault is.raw.table check item is.passes (subst (λ (r : RawRecord). IsFirstMoleculeFault r.table check item) (same_raw text raw are is) fails)
 
 -- ---- a row behind all that are held
 

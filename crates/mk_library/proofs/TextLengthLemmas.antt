@@ -11,7 +11,7 @@ use Rattle.mk_text.specs.Columns.{are_blank}
 use Rattle.mk_text.specs.KeptLines.{is_cr, kept_lines, without_crs}
 use Rattle.mk_text.specs.Lines.{lines_of, onto_first_piece, pieces, without_cr}
 use Rattle.mk_sdfile.specs.declared.raw_record.RawRecord.{RawRecord}
-use Rattle.mk_sdfile.specs.Sdfile.{IsBlock, IsRecord, IsSdfile}
+use Rattle.mk_sdfile.specs.Sdfile.{IsRecordBlock, IsRecord, IsSdfile}
 
 -- how many bytes the lines have, each with LF behind it
 abbrev pub size_of : List (List ℕ) → ℕ
@@ -31,7 +31,9 @@ pub kept_shorter : (lines : List (List ℕ)) → length (kept_lines lines) ≤ s
 kept_shorter [] = omega arith
 kept_shorter (line ∷ lines) =
     let first : length (without_crs line ++ 10 ∷ []) ≡ length (without_crs line) + 1 = length-append (without_crs line) (10 ∷ []) in
-    let both : length ((without_crs line ++ 10 ∷ []) ++ kept_lines lines) ≡ length (without_crs line ++ 10 ∷ []) + length (kept_lines lines) = length-append (without_crs line ++ 10 ∷ []) (kept_lines lines) in
+    let both : length ((without_crs line ++ 10 ∷ []) ++ kept_lines lines) ≡ length
+    (without_crs line ++ 10 ∷ []) + length (kept_lines lines) =
+    length-append (without_crs line ++ 10 ∷ []) (kept_lines lines) in
     omega (arith, first, both, without_shorter line, kept_shorter lines)
 
 -- ---- the lines of a text
@@ -77,7 +79,7 @@ kept_lines_are_short text = let kept = kept_shorter (lines_of text) in omega (ar
 record_shorter : (lines : List (List ℕ)) (of : RawRecord) → IsRecord lines of → length of.text ≤ size_of lines
 record_shorter lines of is = let kept = kept_shorter lines in let same = ap length is.text in omega (arith, kept, same)
 
-block_shorter : (lines : List (List ℕ)) (of : RawRecord) → IsBlock lines of → length of.text ≤ size_of lines
+block_shorter : (lines : List (List ℕ)) (of : RawRecord) → IsRecordBlock lines of → length of.text ≤ size_of lines
 block_shorter lines of is =
     let first = record_shorter is.record_lines of is.is in
     let whole = ap size_of is.whole ∙ size_more is.record_lines (is.separator ∷ []) in
@@ -87,7 +89,8 @@ all_more : (P : RawRecord → Type 0) (xs ys : List RawRecord) → AllByRecursio
 all_more P [] ys p q = q
 all_more P (x ∷ xs) ys p q = (p.0, all_more P xs ys p.1 q)
 
-blocks_short : (most : ℕ) (lines : List (List ℕ)) (blocks : List RawRecord) → Series IsBlock lines blocks → size_of lines ≤ most → AllByRecursion (λ (of : RawRecord). length of.text ≤ most) blocks
+blocks_short : (most : ℕ) (lines : List (List ℕ)) (blocks : List RawRecord) → Series IsRecordBlock lines blocks
+    → size_of lines ≤ most → AllByRecursion (λ (of : RawRecord). length of.text ≤ most) blocks
 blocks_short most lines [] each le = tt
 blocks_short most lines (of ∷ blocks) (front, back, whole, is, rest) le =
     let sizes : size_of lines ≡ size_of front + size_of back = ap size_of whole ∙ size_more front back in
@@ -99,7 +102,8 @@ last_short : (most : ℕ) (lines : List (List ℕ)) (last : Option RawRecord) �
 last_short most lines None ended le = tt
 last_short most lines (Some of) ended le = let first = record_shorter lines of ended in (omega (arith, first, le), tt)
 
-pub records_are_short : (most : ℕ) (lines : List (List ℕ)) (records : List RawRecord) → IsSdfile lines records → size_of lines ≤ most → AllByRecursion (λ (of : RawRecord). length of.text ≤ most) records
+pub records_are_short : (most : ℕ) (lines : List (List ℕ)) (records : List RawRecord) → IsSdfile lines records
+    → size_of lines ≤ most → AllByRecursion (λ (of : RawRecord). length of.text ≤ most) records
 records_are_short most lines records is le =
     let sizes : size_of lines ≡ size_of is.block_lines + size_of is.last_lines = ap size_of is.whole ∙ size_more is.block_lines is.last_lines in
     subst (AllByRecursion (λ (of : RawRecord). length of.text ≤ most)) (sym is.all)

@@ -8,7 +8,7 @@ use Rattle.mk_outside.specs.declared.tables.RecordRow.{RecordRow}
 use Rattle.mk_outside.specs.declared.tables.Tables.{Tables}
 use Rattle.mk_outside.specs.Tables.{after_batch}
 use Rattle.mk_library.specs.Edits.{Edit}
-use Rattle.mk_library.specs.FirstRefusal.{IsAllowed}
+use Rattle.mk_library.specs.FirstRefusal.{IsAllowedEdit}
 use Rattle.mk_library.specs.Pending.{IsOfRecords}
 use Rattle.mk_library.specs.StoredRows.{AllRead}
 
@@ -20,9 +20,9 @@ pub record ReadOn (next : ℕ) (rows : List RecordRow) : Type 0 where
 -- an edit that is allowed leaves rows that read, where those before it did and their next number
 -- was at least 1
 abbrev pub EditsKeepReading : Type 0
-EditsKeepReading = (t : Tables) (edit : Edit) (changes : List Change) → ReadOn t.next_record t.records → IsAllowed t.records t.next_record edit changes
+EditsKeepReading = (t : Tables) (edit : Edit) (changes : List Change) → ReadOn t.next_record t.records → IsAllowedEdit t.records t.next_record edit changes
     → ReadOn (after_batch changes t).next_record (after_batch changes t).records
 
 -- the changes of an edit that is allowed are of records
 abbrev pub EditsAreOfRecords : Type 0
-EditsAreOfRecords = (records : List RecordRow) (next : ℕ) (edit : Edit) (changes : List Change) → IsAllowed records next edit changes → All IsOfRecords changes
+EditsAreOfRecords = (records : List RecordRow) (next : ℕ) (edit : Edit) (changes : List Change) → IsAllowedEdit records next edit changes → All IsOfRecords changes

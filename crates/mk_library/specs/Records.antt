@@ -1,11 +1,10 @@
 -- Records: rows of numbers and texts, and the molecule of each.
---     IsRecordText text            the text is that of one record, which passes the checks of
---                                  molecules
---     IsMoleculeOf text mol        the molecule is that record's, filled
---     is_held n records            some record has the number
---     text_of n records            the text under the number
---     AreHeld records rows         beside each record stands its molecule, under its number
---     AreRising records            each number is below all later ones
+--     IsRecordText text      the text is that of one record, which passes the checks of molecules
+--     IsMoleculeOf text mol  the molecule is that record's, filled
+--     is_held n records      some record has the number
+--     text_under n records   the text under the number
+--     AreHeld records rows   beside each record stands its molecule, under its number
+--     AreRising records      each number is below all later ones
 use Rattle.std.specs.Prelude.{◌≡◌, ℕ, ◌+◌, ◌<◌, nat_eq, Bool, if◌then◌else◌, List, [], ◌∷◌, length, map, Option, Some, None, ⊤}
 use Rattle.std.specs.List.{AllByRecursion, list_any}
 use Rattle.mk_text.specs.Lines.{lines_of}
@@ -14,7 +13,7 @@ use Rattle.mk_sdfile.specs.declared.raw_record.RawRecord.{RawRecord}
 use Rattle.mk_sdfile.specs.Sdfile.{IsSdfile}
 use Rattle.mk_model.specs.Molecules.{IsMolecule, Molecule}
 use Rattle.mk_mol.specs.Filled.{IsFilled}
-use Rattle.mk_mol.specs.FirstFault.{PassesAll}
+use Rattle.mk_mol.specs.FirstFault.{MeetsAllChecks}
 use Rattle.mk_rows.specs.declared.by_number.Numbered.{Numbered}
 
 -- the text is an SDfile of one record, is that record's own text, and its table passes the checks
@@ -23,7 +22,7 @@ pub record IsRecordText (text : List ℕ) : Type 0 where
   pub raw : RawRecord
   pub read : IsSdfile (lines_of text) (raw ∷ [])
   pub own : raw.text ≡ text
-  pub passes : PassesAll raw.table
+  pub passes : MeetsAllChecks raw.table
 
 -- the molecule is the filled molecule of the text's one record
 pub record IsMoleculeOf (text : List ℕ) (mol : Molecule) : Type 0 where
@@ -36,9 +35,9 @@ abbrev pub is_held : ℕ → List RecordRow → Bool
 is_held n records = list_any (λ row. nat_eq row.number n) records
 
 -- the text under the number, if it is held
-abbrev pub text_of : ℕ → List RecordRow → Option (List ℕ)
-text_of n [] = None
-text_of n (row ∷ records) = if nat_eq row.number n then Some row.text else text_of n records
+abbrev pub text_under : ℕ → List RecordRow → Option (List ℕ)
+text_under n [] = None
+text_under n (row ∷ records) = if nat_eq row.number n then Some row.text else text_under n records
 
 -- beside each record stands its molecule, under its number
 abbrev pub AreHeld : List RecordRow → List (Numbered Molecule) → Type 0

@@ -3,19 +3,22 @@
 --     AreMolecules raws mols           the molecules are those of the records
 --     ArePreparedOf raws answer        the texts and molecules of the records, or the first that is
 --                                      no molecule
+--     IsOnlyAnswer raws answer         the text and the molecule of the only record, or why there is
+--                                      none
 --     IsTextAnswer text answer         the molecule of a stored text, or none
 --     GoesBehind next records row      the row may be put behind these, where this is the next
 --                                      number
 --     LoadKeeps records next texts     the limits are kept where these texts are added
-use Rattle.std.specs.Prelude.{◌≡◌, ◌↔◌, ℕ, ◌+◌, ◌<◌, ◌≤◌, List, [], ◌∷◌, length, IsTrue, Option, Some, None, Result, Ok, Err, ⊤}
+use Rattle.std.specs.Prelude.{◌≡◌, ◌≢◌, ◌↔◌, ℕ, ◌+◌, ◌<◌, ◌≤◌, List, [], ◌∷◌, length, IsTrue, Option, Some, None, Result, Ok, Err, ⊤}
 use Rattle.std.specs.List.{AllByRecursion}
 use Rattle.mk_text.specs.Lines.{lines_of}
 use Rattle.mk_model.specs.Molecules.{IsMolecule, Molecule}
 use Rattle.mk_outside.specs.declared.tables.RecordRow.{RecordRow}
 use Rattle.mk_sdfile.specs.declared.raw_record.RawRecord.{RawRecord}
-use Rattle.mk_sdfile.specs.Sdfile.{IsBadSdfileLine, IsSdfile, IsV3000Line}
+use Rattle.mk_sdfile.specs.Sdfile.{IsBadSdfileLine, IsSdfile, IsNamedV3000}
 use Rattle.mk_mol.specs.Filled.{IsFilled}
-use Rattle.mk_mol.specs.FirstFault.{PassesAll}
+use Rattle.mk_mol.specs.FirstFault.{MeetsAllChecks}
+use Rattle.mk_library.specs.declared.molecules.OneRecord.{OneRecord}
 use Rattle.mk_library.specs.declared.molecules.Prepared.{Prepared}
 use Rattle.mk_library.specs.declared.refusal.LoadRefusal.{LoadRefusal}
 use Rattle.mk_library.specs.declared.refusal.LoadRefusal.TheVariants as refusal
@@ -28,7 +31,7 @@ use Rattle.mk_library.specs.FirstRefusal.{IsFirstFailing}
 abbrev pub IsFileRefused : List ℕ → LoadRefusal → Type 0
 IsFileRefused text refusal.FileLarge = file_bytes < length text
 IsFileRefused text (refusal.Layout line v3000) =
-    (length text ≤ file_bytes) × IsBadSdfileLine (lines_of text) line × (IsTrue v3000 ↔ IsV3000Line (lines_of text) line)
+    (length text ≤ file_bytes) × IsBadSdfileLine (lines_of text) line × (IsTrue v3000 ↔ IsNamedV3000 (lines_of text) line)
 IsFileRefused text refusal.Memory = ⊤
 IsFileRefused text refusal.NoRecord = ⊥
 IsFileRefused text (refusal.NotOne count) = ⊥
@@ -45,7 +48,7 @@ abbrev pub AreMolecules : List RawRecord → List Molecule → Type 0
 AreMolecules [] [] = ⊤
 AreMolecules [] (mol ∷ mols) = ⊥
 AreMolecules (raw ∷ raws) [] = ⊥
-AreMolecules (raw ∷ raws) (mol ∷ mols) = PassesAll raw.table × IsFilled raw.table mol × IsMolecule mol × AreMolecules raws mols
+AreMolecules (raw ∷ raws) (mol ∷ mols) = MeetsAllChecks raw.table × IsFilled raw.table mol × IsMolecule mol × AreMolecules raws mols
 
 -- the texts and the molecules of the records, or the first that is no molecule
 abbrev pub ArePreparedOf : List RawRecord → Result Prepared LoadRefusal → Type 0
@@ -57,6 +60,26 @@ ArePreparedOf raws (Err refusal.FileLarge) = ⊥
 ArePreparedOf raws (Err (refusal.Layout line v3000)) = ⊥
 ArePreparedOf raws (Err (refusal.NotOne count)) = ⊥
 ArePreparedOf raws (Err refusal.Full) = ⊥
+
+-- the record is the only one, and these are its text and its molecule
+pub record IsOnly (raws : List RawRecord) (one : OneRecord) : Type 0 where
+  pub raw : RawRecord
+  pub alone : raws ≡ raw ∷ []
+  pub text : one.text ≡ raw.text
+  pub passes : MeetsAllChecks raw.table
+  pub filled : IsFilled raw.table one.mol
+  pub kept : IsMolecule one.mol
+
+-- the text and the molecule of the only record, or the check that it fails, or how many there are
+abbrev pub IsOnlyAnswer : List RawRecord → Result OneRecord LoadRefusal → Type 0
+IsOnlyAnswer raws (Ok one) = IsOnly raws one
+IsOnlyAnswer raws (Err (refusal.NotOne count)) = (count ≡ length raws) × (length raws ≢ 1)
+IsOnlyAnswer raws (Err (refusal.Meaning number check item)) = (length raws ≡ 1) × IsFirstFailing raws number check item
+IsOnlyAnswer raws (Err refusal.Memory) = ⊤
+IsOnlyAnswer raws (Err refusal.NoRecord) = ⊥
+IsOnlyAnswer raws (Err refusal.FileLarge) = ⊥
+IsOnlyAnswer raws (Err (refusal.Layout line v3000)) = ⊥
+IsOnlyAnswer raws (Err refusal.Full) = ⊥
 
 -- how many bytes texts have together
 abbrev pub bytes_of : List (List ℕ) → ℕ

@@ -1,12 +1,12 @@
 // Edits made ready: what a load, a replacement or a removal would change.
 ghost use Rattle.std.specs.Prelude.{◌≡◌, ◌+◌, ◌<◌, ◌≤◌, ℕ, IfOk, OnErr, length};
 ghost use Rattle.mk_library.specs.Edits.{Load, Replace, Remove, puts_from};
-ghost use Rattle.mk_library.specs.FirstRefusal.{IfRefused, IsAllowed, IsFirstRefusal};
+ghost use Rattle.mk_library.specs.FirstRefusal.{IfRefused, IsAllowedEdit, IsFirstRefusal};
 ghost use Rattle.mk_library.specs.Library.{IsSame};
 ghost use Rattle.mk_library.specs.Limits.{most_number};
 ghost use Rattle.mk_library.specs.Pending.{PendingFits};
 
-use crate::molecules::{Prepared, molecules_of, records_of};
+use crate::molecules::{OneRecord, Prepared, molecules_of, one_molecule, records_of};
 use crate::{Library, LoadRefusal, Pending};
 use mk_outside::{Bytes, Change, Memory};
 use std::alloc::Global;
@@ -29,7 +29,7 @@ fn puts_from(alloc: Global, first: u32, texts: Vec<Bytes>) -> Result<Vec<Change>
 impl Library {
     /// Makes ready to add the records of a file, under the numbers from the next one on.
     pub fn load(&mut self, alloc: Global, text: &[u8]) -> Result<Pending, LoadRefusal>
-        ensures changes { IfOk result (λ p. IsAllowed self.old.records self.old.next_record (Load text.now) p.changes) }
+        ensures changes { IfOk result (λ p. IsAllowedEdit self.old.records self.old.next_record (Load text.now) p.changes) }
         ensures fits { IfOk result (PendingFits self.new) }
 
         ensures refused { IfRefused result (IsFirstRefusal self.old.records self.old.next_record (Load text.now)) }
@@ -63,7 +63,7 @@ impl Library {
         number: u32,
         text: &[u8],
     ) -> Result<Pending, LoadRefusal>
-        ensures changes { IfOk result (λ p. IsAllowed self.old.records self.old.next_record (Replace number text.now) p.changes) }
+        ensures changes { IfOk result (λ p. IsAllowedEdit self.old.records self.old.next_record (Replace number text.now) p.changes) }
         ensures fits { IfOk result (PendingFits self.new) }
 
         ensures refused { IfRefused result (IsFirstRefusal self.old.records self.old.next_record (Replace number text.now)) }
@@ -75,32 +75,25 @@ impl Library {
         if !self.holds(number) {
             return Err(LoadRefusal::NoRecord);
         }
-        let raws = match records_of(alloc, text) {
-            Ok(raws) => raws,
+        let one = match one_molecule(alloc, text) {
+            Ok(one) => one,
             Err(said) => return Err(said),
         };
-        let count = raws.as_slice().len();
-        if count != 1 {
-            return Err(LoadRefusal::NotOne {
-                count: count as u32,
-            });
-        }
-        let prepared = match molecules_of(alloc, raws) {
-            Ok(prepared) => prepared,
-            Err(said) => return Err(said),
-        };
-        if !self.keeps_over(number, prepared.texts[0].as_slice()) {
+        let OneRecord { text: kept, mol } = one;
+        if !self.keeps_over(number, kept.as_slice()) {
             return Err(LoadRefusal::Full);
         }
-        let Prepared { texts, mols } = prepared;
-        let changes = puts_from(alloc, number, texts)?;
+        let mut changes = Vec::with_capacity(alloc, 1)?;
+        changes.push(Change::PutRecord { number, text: kept })?;
+        let mut mols = Vec::with_capacity(alloc, 1)?;
+        mols.push(mol)?;
         self.reserve(1)?;
         Ok(Pending::of(changes, mols))
     }
 
     /// Makes ready to take out the record that is held.
     pub fn remove(&mut self, alloc: Global, number: u32) -> Result<Pending, LoadRefusal>
-        ensures changes { IfOk result (λ p. IsAllowed self.old.records self.old.next_record (Remove number) p.changes) }
+        ensures changes { IfOk result (λ p. IsAllowedEdit self.old.records self.old.next_record (Remove number) p.changes) }
         ensures fits { IfOk result (PendingFits self.new) }
 
         ensures refused { IfRefused result (IsFirstRefusal self.old.records self.old.next_record (Remove number)) }

@@ -3,12 +3,13 @@ ghost use Rattle.std.specs.Prelude.{◌≡◌, ◌↔◌, ◌+◌, ◌≤◌, �
 ghost use Rattle.mk_rows.specs.Rows.{holds};
 ghost use Rattle.mk_outside.specs.Tables.{after_change};
 ghost use Rattle.mk_outside.specs.declared.tables.Change.TheVariants.{PutRecord, DropRecord};
-ghost use Rattle.mk_library.specs.Records.{IsMoleculeOf, AreHeld, is_held, records_of, text_of};
+ghost use Rattle.mk_library.specs.Records.{IsMoleculeOf, AreHeld, is_held, records_of, text_under};
 ghost use Rattle.mk_library.specs.Library.{IsLibrary, IsSame, tables_of, IsLeastHeld, NoneHeld};
 ghost use Rattle.mk_library.specs.Pending.{IsNumbered, KeepsLimits};
 ghost use Rattle.mk_library.specs.Steps.{GoesBehind, LoadKeeps, bytes_of};
 ghost use Rattle.mk_library.specs.StoredRows.{HasPlace};
 
+use crate::FILE_BYTES;
 use mk_index::Shelf;
 use mk_model::Mol;
 use mk_outside::{Bytes, Memory, RecordRow};
@@ -17,8 +18,6 @@ use std::alloc::Global;
 use std::marker::Model;
 
 // How much a library may hold.
-const FILE_BYTES: usize = 67_108_864;
-
 const MOST_RECORDS: usize = 100_000;
 
 const MOST_BYTES: usize = 134_217_728;
@@ -94,7 +93,7 @@ impl Library {
 
     /// The text of a record.
     pub fn text(&self, number: u32) -> Option<&[u8]>
-        ensures some { IfSome result (λ text. text_of number self.now.records ≡ Some text.now) }
+        ensures some { IfSome result (λ text. text_under number self.now.records ≡ Some text.now) }
         ensures none { IfNone result (is_held number self.now.records ≡ false) }
     {
         match self.texts.get(number) {

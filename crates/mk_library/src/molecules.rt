@@ -2,7 +2,8 @@
 ghost use Rattle.std.specs.Prelude.{◌≡◌, ◌≢◌, ◌<◌, ◌^◌, true, false, All, IfOk, length};
 ghost use Rattle.mk_text.specs.Lines.{lines_of};
 ghost use Rattle.mk_ctab.specs.TableFacts.{IsRawTable};
-ghost use Rattle.mk_library.specs.Steps.{ArePreparedOf, IsFileAnswer, IsTextAnswer};
+ghost use Rattle.mk_library.specs.FirstRefusal.{HoldsMolecule, HoldsText, IfRefused, IsFirstFileRefusal};
+ghost use Rattle.mk_library.specs.Steps.{ArePreparedOf, IsFileAnswer, IsOnlyAnswer, IsTextAnswer};
 
 use crate::LoadRefusal;
 use mk_ctab::TableFault;
@@ -12,14 +13,21 @@ use mk_outside::{Bytes, Memory};
 use mk_sdfile::{RawRecord, RawRecords, read_sdfile};
 use std::alloc::Global;
 
-// How many bytes a molecules' file may have.
-const FILE_BYTES: usize = 67_108_864;
+/// How many bytes a molecules' file may have.
+pub const FILE_BYTES: usize = 67_108_864;
 
 /// The texts of records, and their molecules.
 #[derive(Drop)]
 pub struct Prepared {
     pub texts: Vec<Bytes>,
     pub mols: Vec<Mol>,
+}
+
+/// The text of a record, and its molecule.
+#[derive(Drop)]
+pub struct OneRecord {
+    pub text: Bytes,
+    pub mol: Mol,
 }
 
 /// The records of a molecules' file, or why it is refused.
@@ -71,6 +79,50 @@ pub fn molecules_of(alloc: Global, records: RawRecords) -> Result<Prepared, Load
         }
     }
     Ok(Prepared { texts, mols })
+}
+
+/// The one record of a file with its molecule, or the first demand on such a file that it doesn't
+/// meet.
+pub fn one_molecule(alloc: Global, text: &[u8]) -> Result<OneRecord, LoadRefusal>
+    ensures molecule { IfOk result (λ one. HoldsMolecule text.now one.mol) }
+    ensures text { IfOk result (λ one. HoldsText text.now one.text) }
+
+    ensures refused { IfRefused result (IsFirstFileRefusal text.now) }
+{
+    let raws = match records_of(alloc, text) {
+        Ok(raws) => raws,
+        Err(said) => return Err(said),
+    };
+    only_of(alloc, raws)
+}
+
+// The text and the molecule of the only record, or why there is none.
+fn only_of(alloc: Global, records: RawRecords) -> Result<OneRecord, LoadRefusal>
+    requires keeps { All (λ raw. IsRawTable raw.table) records }
+    requires fewer { All (λ raw. length raw.table.props < 2 ^ 32) records }
+    requires few { length records < 2 ^ 32 }
+    ensures { IsOnlyAnswer records result }
+{
+    let count = records.as_slice().len();
+    if count != 1 {
+        return Err(LoadRefusal::NotOne {
+            count: count as u32,
+        });
+    }
+    let mut records = records.into_vec().into_iter();
+    let Some(raw) = records.next() else {
+        unreachable!()
+    };
+    let RawRecord { table, text } = raw;
+    match prepare(alloc, &table) {
+        Ok(mol) => Ok(OneRecord { text, mol }),
+        Err(PrepareFault::Check { check, item }) => Err(LoadRefusal::Meaning {
+            number: 1,
+            check,
+            item,
+        }),
+        Err(PrepareFault::Memory) => Err(LoadRefusal::Memory),
+    }
 }
 
 fn are_same(a: &[u8], b: &[u8]) -> bool

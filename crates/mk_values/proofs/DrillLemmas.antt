@@ -32,7 +32,7 @@ use Rattle.mk_library.specs.Records.{AreHeld, IsMoleculeOf}
 use Rattle.mk_search.specs.Pages.{IsHeldIn}
 use Rattle.mk_search.proofs.AllKeysLemmas.{keys_listed}
 use Rattle.mk_drill.specs.Draws.{drilled_table, state_for}
-use Rattle.mk_drill.specs.Drill.{AreHits, IsDrill, IsHeld, IsLeft, drill_line}
+use Rattle.mk_drill.specs.Drill.{AreHits, IsDrill, HoldsDrilled, IsLeft, drill_line}
 use Rattle.mk_drill.specs.DrillQuery.{IsDrillQuery}
 use Rattle.mk_drill.specs.DrilledRecords.{IsLoadable, drilled_record, drilled_text, is_left, left_below, record_text}
 use Rattle.mk_drill.proofs.DrilledTableLemmas.{drilled_is_fit}
@@ -51,7 +51,8 @@ use Rattle.mk_values.proofs.TableMoleculeLemmas.{filled_molecule}
 -- the text of a record is a file of that record
 text_again : (table : RawTable) → IsLoadable table → IsSdfile (lines_of (record_text table)) (record_of table ∷ [])
 text_again table fits =
-    All-head (λ (r : RawRecord). KeepsItsText r.table → IsSdfile (lines_of r.text) (r ∷ [])) (record_of table) [] (text_is_its_record (drilled_text table) (record_of table ∷ []) (is_sdfile table fits.can))
+    All-head (λ (r : RawRecord). KeepsItsText r.table → IsSdfile (lines_of r.text) (r ∷ [])) (record_of table) []
+    (text_is_its_record (drilled_text table) (record_of table ∷ []) (is_sdfile table fits.can))
     (keeps_text table (fits.passes known_atoms) (fits.passes known_properties)).0
 
 -- the text of a drilled table is that of a molecule
@@ -59,8 +60,19 @@ drilled_molecule : (state : ℕ) → (mol : Molecule) × IsMoleculeOf (record_te
 drilled_molecule state =
     let fits = drilled_is_loadable state in
     let fit = drilled_is_fit state in
-    let made = filled_molecule (drilled_table state) (omega (arith, fit.few)) (omega (arith, fit.few, fit.fit.as_many)) fits.passes in
-    (made.0, record { is = record { raw = record_of (drilled_table state); read = text_again (drilled_table state) fits; own = refl; passes = fits.passes }; filled = made.1.filled; kept = made.1.kept })
+    let made = filled_molecule (drilled_table state) (omega (arith, fit.few)) (omega (arith, fit.few, fit.fit.as_many)) fits.passes in (
+      made.0,
+      record {
+        is = record {
+          raw = record_of (drilled_table state);
+          read = text_again (drilled_table state) fits;
+          own = refl;
+          passes = fits.passes;
+        };
+        filled = made.1.filled;
+        kept = made.1.kept;
+      },
+    )
 
 -- the text of the row is that of a molecule
 abbrev HasMolecule : RecordRow → Type 0
@@ -82,7 +94,9 @@ left_molecules : (keep : ℕ → Bool) (records : List RecordRow) → AllByRecur
 left_molecules keep [] all = tt
 left_molecules keep (row ∷ records) all = by_test (keep row.number) (left_molecules keep records all.1)
   where
-    by_test : (b : Bool) → AllByRecursion HasMolecule (filter (λ (r : RecordRow). keep r.number) records) → AllByRecursion HasMolecule (cond b (row ∷ filter (λ (r : RecordRow). keep r.number) records) (filter (λ (r : RecordRow). keep r.number) records))
+    by_test : (b : Bool) → AllByRecursion HasMolecule (filter (λ (r : RecordRow). keep r.number) records)
+        → AllByRecursion HasMolecule (cond b (row ∷ filter (λ (r : RecordRow). keep r.number) records)
+        (filter (λ (r : RecordRow). keep r.number) records))
     by_test true later = (all.0, later)
     by_test false later = later
 
@@ -105,11 +119,11 @@ drill_query =
 
 module _ (start count : ℕ) (query : QueryView) (fits : QueryFits query) where
   -- the keys that remain, over the molecules that are held at first and over those that are left
-  at_first : (place : List ℕ) → (keys : List (List ℕ)) × IsRisingListOfAll (Remains (IsHeld start count) query place) keys
+  at_first : (place : List ℕ) → (keys : List (List ℕ)) × IsRisingListOfAll (Remains (HoldsDrilled start count) query place) keys
   at_first place =
       let rows = rows_beside (records_from start 1 count) (all_molecules start 1 count) in
       let keys = keys_listed rows.0 query place fits in
-      (keys.0, list_by (IsHeldIn rows.0) (IsHeld start count) query place keys.0 (all_held start count rows.0 (one_filled one_list_of_mol_bonds) rows.1) keys.1)
+      (keys.0, list_by (IsHeldIn rows.0) (HoldsDrilled start count) query place keys.0 (all_held start count rows.0 (one_filled one_list_of_mol_bonds) rows.1) keys.1)
 
   behind : (place : List ℕ) → (keys : List (List ℕ)) × IsRisingListOfAll (Remains (IsLeft start count) query place) keys
   behind place =
@@ -122,7 +136,7 @@ module _ (start count : ℕ) (query : QueryView) (fits : QueryFits query) where
   hits_there =
       let all = at_first [] in
       let page = take 100 all.0 in
-      let first : AreFirst 100 (Remains (IsHeld start count) query []) page = taken_first 100 (Remains (IsHeld start count) query []) all.0 all.1 in
+      let first : AreFirst 100 (Remains (HoldsDrilled start count) query []) page = taken_first 100 (Remains (HoldsDrilled start count) query []) all.0 all.1 in
       elim (cases_lt (length page) 100) [
         | inl few ↦ (page ++ [], record { page = page; others = []; whole = refl; first = first; ended = λ _. refl; behind = λ full. absurd (omega (arith, full, few)) })
         | inr full ↦ (let left = behind (place_behind [] page) in

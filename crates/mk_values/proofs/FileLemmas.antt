@@ -13,16 +13,16 @@ use Rattle.mk_model.specs.Molecules.{Molecule}
 use Rattle.mk_ctab.specs.TableFacts.{IsRawTable}
 use Rattle.mk_ctab.specs.TableLines.{Line}
 use Rattle.mk_sdfile.specs.declared.raw_record.RawRecord.{RawRecord}
-use Rattle.mk_sdfile.specs.Sdfile.{IsBadSdfileLine, IsSdfile, IsV3000Line}
+use Rattle.mk_sdfile.specs.Sdfile.{IsBadSdfileLine, IsSdfile, IsNamedV3000}
 use Rattle.mk_sdfile.proofs.SdfileFactLemmas.{keeps_by}
 use Rattle.mk_sdfile.proofs.SdfileLemmas.{exact-sdfile, one}
 use Rattle.mk_outside.specs.declared.tables.RecordRow.{RecordRow}
 use Rattle.mk_rows.specs.declared.by_number.Numbered.{Numbered}
 use Rattle.mk_rows.specs.Rows.{item_at, without}
-use Rattle.mk_library.specs.Records.{IsMoleculeOf, IsRecordText, text_of}
+use Rattle.mk_library.specs.Records.{IsMoleculeOf, IsRecordText, text_under}
 use Rattle.mk_query.proofs.KnownLemmas.{Known, known_bytes}
 use Rattle.mk_mol.specs.Filled.{IsFilled}
-use Rattle.mk_mol.specs.FirstFault.{PassesAll}
+use Rattle.mk_mol.specs.FirstFault.{MeetsAllChecks}
 use Rattle.mk_mol.proofs.ForCallers.{no_fault, one_filled}
 use Rattle.mk_rings.proofs.ForCallers.{one_list_of_mol_bonds}
 use Rattle.mk_values.proofs.TableMoleculeLemmas.{fault_or_molecule}
@@ -31,7 +31,7 @@ use Rattle.mk_values.proofs.TableMoleculeLemmas.{fault_or_molecule}
 
 -- the first bad line of lines, and whether it says V3000
 abbrev pub IsStopOfSdfile : List Line → Type 0
-IsStopOfSdfile lines = (k : ℕ) × ((named : Bool) × (IsBadSdfileLine lines k × (IsTrue named ↔ IsV3000Line lines k)))
+IsStopOfSdfile lines = (k : ℕ) × ((named : Bool) × (IsBadSdfileLine lines k × (IsTrue named ↔ IsNamedV3000 lines k)))
 
 pub sdfile_or_bad : (lines : List Line) → ((records : List RawRecord) × IsSdfile lines records) ⊎ IsStopOfSdfile lines
 sdfile_or_bad lines =
@@ -61,7 +61,9 @@ own_record text raw read =
     elim (known_bytes raw.text text) [
       | inl own ↦ (let kept = All-head (λ (r : RawRecord). IsRawTable r.table) raw [] (read_keeps (lines_of text) (raw ∷ []) read) in
           elim (fault_or_molecule raw.table kept.few_atoms kept.few_bonds) [
-            | inl fault ↦ inr (λ found. no_fault raw.table fault.0 fault.1.0 (subst (λ (r : RawRecord). PassesAll r.table) (one_record (lines_of text) raw found.1.is.raw read found.1.is.read) found.1.is.passes) fault.1.1)
+            | inl fault ↦ inr (λ found. no_fault raw.table fault.0 fault.1.0
+                (subst (λ (r : RawRecord). MeetsAllChecks r.table)
+                (one_record (lines_of text) raw found.1.is.raw read found.1.is.read) found.1.is.passes) fault.1.1)
             | inr made ↦ inl (made.0, record { is = record { raw = raw; read = read; own = own; passes = made.1.passes }; filled = made.1.filled; kept = made.1.kept })
           ])
       | inr other ↦ inr (λ found. other (subst (λ (r : RawRecord). r.text ≡ text) (one_record (lines_of text) raw found.1.is.raw read found.1.is.read) found.1.is.own))
@@ -118,7 +120,7 @@ rows_of (row ∷ records) = with_row (molecule_or_none row.text) row.number (row
 -- the molecule is that of the text under the number
 pub record IsAtNumber (records : List RecordRow) (n : ℕ) (mol : Molecule) : Type 0 where
   pub text : List ℕ
-  pub held : text_of n records ≡ Some text
+  pub held : text_under n records ≡ Some text
   pub is : IsMoleculeOf text mol
 
 -- what is left where a row was left out
@@ -152,16 +154,27 @@ one_row row records rows n mol later (inl found) = by_test (eqb row.number n) re
     by_test true is = (
       λ there. record {
         text = row.text;
-        held = here (eqb row.number n) row.text (text_of n records) is;
+        held = here (eqb row.number n) row.text (text_under n records) is;
         is = subst (IsMoleculeOf row.text) (same_some found.0 mol (sym (here (eqb row.number n) found.0 (item_at n rows) is) ∙ there)) found.1;
       },
       λ at.
-          let same : row.text ≡ at.text = same_some row.text at.text (sym (here (eqb row.number n) row.text (text_of n records) is) ∙ at.held) in
+          let same : row.text ≡ at.text = same_some row.text at.text (sym (here (eqb row.number n) row.text (text_under n records) is) ∙ at.held) in
           here (eqb row.number n) found.0 (item_at n rows) is ∙ ap (λ (m : Molecule). Some m) (one_of_text row.text found.0 mol found.1 (subst (λ (t : List ℕ). IsMoleculeOf t mol) (sym same) at.is)),
     )
     by_test false is = (
-      λ there. (let at = later.0 (sym (later_on (eqb row.number n) found.0 (item_at n rows) is) ∙ there) in record { text = at.text; held = later_on (eqb row.number n) row.text (text_of n records) is ∙ at.held; is = at.is }),
-      λ at. later_on (eqb row.number n) found.0 (item_at n rows) is ∙ later.1 (record { text = at.text; held = sym (later_on (eqb row.number n) row.text (text_of n records) is) ∙ at.held; is = at.is }),
+      λ there. (let at = later.0 (sym (later_on (eqb row.number n) found.0 (item_at n rows) is) ∙ there)
+          in record {
+            text = at.text;
+            held = later_on (eqb row.number n) row.text (text_under n records) is ∙ at.held;
+            is = at.is;
+          }),
+      λ at. later_on (eqb row.number n) found.0 (item_at n rows) is
+          ∙ later.1 (record {
+            text = at.text;
+            held = sym
+                (later_on (eqb row.number n) row.text (text_under n records) is) ∙ at.held;
+            is = at.is;
+          }),
     )
 one_row row records rows n mol later (inr none) = by_test (eqb row.number n) refl
   where
@@ -169,16 +182,22 @@ one_row row records rows n mol later (inr none) = by_test (eqb row.number n) ref
     by_test true is = (
       λ there. absurd (cut_true (eqb row.number n) (item_at n rows) mol is (sym (item_without row.number n rows) ∙ there)),
       λ at.
-          let same : row.text ≡ at.text = same_some row.text at.text (sym (here (eqb row.number n) row.text (text_of n records) is) ∙ at.held) in
+          let same : row.text ≡ at.text = same_some row.text at.text (sym (here (eqb row.number n) row.text (text_under n records) is) ∙ at.held) in
           absurd (none (mol, subst (λ (t : List ℕ). IsMoleculeOf t mol) (sym same) at.is)),
     )
     by_test false is = (
       λ there.
           let at = later.0 ((cut_false (eqb row.number n) (item_at n rows) mol is).0 (sym (item_without row.number n rows) ∙ there)) in
-          record { text = at.text; held = later_on (eqb row.number n) row.text (text_of n records) is ∙ at.held; is = at.is },
+          record { text = at.text; held = later_on (eqb row.number n) row.text (text_under n records) is ∙ at.held; is = at.is },
       λ at.
           item_without row.number n rows
-          ∙ (cut_false (eqb row.number n) (item_at n rows) mol is).1 (later.1 (record { text = at.text; held = sym (later_on (eqb row.number n) row.text (text_of n records) is) ∙ at.held; is = at.is })),
+          ∙ (cut_false (eqb row.number n) (item_at n rows) mol is).1
+          (later.1 (record {
+            text = at.text;
+            held = sym
+                (later_on (eqb row.number n) row.text (text_under n records) is) ∙ at.held;
+            is = at.is;
+          })),
     )
 
 -- the rows hold exactly the molecules of the texts under their numbers

@@ -11,7 +11,7 @@ use Rattle.std.proofs.lemmas.Int.{ints}
 use Rattle.std.proofs.lemmas.List.{length-append, length-replicate, length-map, take_all}
 use Rattle.std.proofs.lemmas.List.Elements.{All-cons, All-head, All-map, All-nil, All-tail}
 use Rattle.std.proofs.lemmas.Option.{slice_get-get_or, slice_get_within}
-use Rattle.mk_elements.specs.Symbols.{Names, symbols}
+use Rattle.mk_elements.specs.Symbols.{NamesElement, symbols}
 use Rattle.mk_elements.specs.Valences.{Row, negative, positive, row_of, rows_at, uncharged, valences_of}
 use Rattle.mk_text.specs.Items.{IsLeastFailing, OfItem}
 use Rattle.mk_text.proofs.ForCallers.{all_of, of_item-past}
@@ -28,15 +28,15 @@ use Rattle.mk_valence.specs.Hydrogens.{added_hydrogens, bond_orders_sum, marked_
 use Rattle.mk_ctab.specs.declared.raw.RawAtom.{RawAtom}
 use Rattle.mk_ctab.specs.declared.raw.RawBond.{RawBond}
 use Rattle.mk_ctab.specs.declared.raw.RawTable.{RawTable}
-use Rattle.mk_ctab.specs.Bonds.{HasTwoEnds, IsEdgeFront, IsNewBond, JoinSame, edge_of, edges_of}
+use Rattle.mk_ctab.specs.Bonds.{HasTwoEnds, IsEdgeFront, IsNewBond, JoinSame, raw_edge, edges_of}
 use Rattle.mk_ctab.proofs.BondLemmas.{is_graph}
 use Rattle.mk_ctab.proofs.EdgeLemmas.{IsBetween-edge_of}
 use Rattle.mk_ctab.specs.Charges.{charge_at, charge_of_column, lists_values, last_or, radical_at, radical_of_column, radical_pairs, radicals_of, values_for}
 use Rattle.mk_ctab.specs.Numbers.{IsAtom, IsWithin, natural}
 use Rattle.mk_ctab.specs.Values.{AreForAtoms, HasKnownValues, HaveValues, NamesAtoms}
-use Rattle.mk_mol.specs.Checks.{HasKnownType, IsKnownAtom, IsNamed, IsOfMolecules}
-use Rattle.mk_mol.specs.Filled.{AreGains, AreWrittenAtoms, IsFilled, IsWrittenAtom, gained_by, hydrogen, hydrogen_bonds, kinds_at, owners}
-use Rattle.mk_mol.specs.FirstFault.{Check, Demands, IsFirstFault, Passes, PassesAll, PassesBelow, few_bonds, known_atoms, known_properties, known_types, known_values, named_atoms, new_bonds, number}
+use Rattle.mk_mol.specs.Checks.{HasKnownType, IsKnownAtom, IsElementSymbol, IsOfMolecules}
+use Rattle.mk_mol.specs.Filled.{AreGains, AreWrittenAtoms, IsFilled, IsWrittenAtom, gained_by, hydrogen_atom, hydrogen_bonds, kinds_at, owners}
+use Rattle.mk_mol.specs.FirstFault.{MoleculeCheck, MoleculeDemands, IsFirstMoleculeFault, MeetsCheck, MeetsAllChecks, MeetsChecksBelow, few_bonds, known_atoms, known_properties, known_types, known_values, named_atoms, new_bonds, molecule_check_number}
 use Rattle.mk_mol.specs.Putting.{IsSound}
 use Rattle.mk_mol.proofs.FaultLemmas.{below_all, below_more, below_none, fault}
 use Rattle.mk_mol.proofs.FilledLemmas.{filled_graph, is_filled, molecule}
@@ -59,18 +59,18 @@ known_place (x ∷ xs) symbol = known_as (known_either (known_bytes x symbol) (k
     back (suc k, at) = inr (k, at)
 
 -- some element has the symbol
-known_name : (symbol : List ℕ) → Known (IsNamed symbol)
+known_name : (symbol : List ℕ) → Known (IsElementSymbol symbol)
 known_name symbol = known_as (known_either (known_place symbols symbol) (known_either (known_bytes symbol (codes "D")) (known_bytes symbol (codes "T")))) to back
   where
-    to : ((k : ℕ) × (slice_get symbols k ≡ Some symbol)) ⊎ ((symbol ≡ codes "D") ⊎ (symbol ≡ codes "T")) → IsNamed symbol
+    to : ((k : ℕ) × (slice_get symbols k ≡ Some symbol)) ⊎ ((symbol ≡ codes "D") ⊎ (symbol ≡ codes "T")) → IsElementSymbol symbol
     to (inl (k, at)) = (let place : k + 1 - 1 ≡ k = omega arith in record { element = k + 1; names = inl (omega arith, rw place at) })
     to (inr heavy) = record { element = 1; names = inr (refl, heavy) }
 
-    by_name : (z : ℕ) → Names symbol z → ((k : ℕ) × (slice_get symbols k ≡ Some symbol)) ⊎ ((symbol ≡ codes "D") ⊎ (symbol ≡ codes "T"))
+    by_name : (z : ℕ) → NamesElement symbol z → ((k : ℕ) × (slice_get symbols k ≡ Some symbol)) ⊎ ((symbol ≡ codes "D") ⊎ (symbol ≡ codes "T"))
     by_name z (inl is) = inl (z - 1, is.1)
     by_name z (inr heavy) = inr heavy.1
 
-    back : IsNamed symbol → ((k : ℕ) × (slice_get symbols k ≡ Some symbol)) ⊎ ((symbol ≡ codes "D") ⊎ (symbol ≡ codes "T"))
+    back : IsElementSymbol symbol → ((k : ℕ) × (slice_get symbols k ≡ Some symbol)) ⊎ ((symbol ≡ codes "D") ⊎ (symbol ≡ codes "T"))
     back is = by_name is.element is.names
 
 known_atom : (atom : RawAtom) → Known (IsKnownAtom atom)
@@ -88,7 +88,8 @@ known_new atoms earlier bond =
   where
     known_same_ends : (other : RawBond) → Known (JoinSame other bond)
     known_same_ends other =
-        known_either (known_both (known_integers other.first bond.first) (known_integers other.second bond.second)) (known_both (known_integers other.first bond.second) (known_integers other.second bond.first))
+        known_either (known_both (known_integers other.first bond.first) (known_integers other.second bond.second))
+        (known_both (known_integers other.first bond.second) (known_integers other.second bond.first))
 
 known_atoms_of : (atoms : ℕ) (pairs : List Pair) → Known (AreForAtoms atoms pairs)
 known_atoms_of atoms pairs = known_all (λ (pair : Pair). IsAtom atoms pair.atom) (λ pair. known_within (pos 1) (pos atoms) pair.atom) pairs
@@ -116,7 +117,7 @@ known_property other = inr (λ never. never)
 -- ---- the checks
 
 module _ (table : RawTable) where
-  known_demand : (check : Check) (item : ℕ) → Known (Demands table check item)
+  known_demand : (check : MoleculeCheck) (item : ℕ) → Known (MoleculeDemands table check item)
   known_demand known_atoms item = known_item IsKnownAtom known_atom table.atoms item
   known_demand new_bonds item = known_item (IsNewBond (length table.atoms) (take (item - 1) table.bonds)) (known_new (length table.atoms) (take (item - 1) table.bonds)) table.bonds item
   known_demand known_types item = known_item HasKnownType (λ bond. known_within (pos 1) (pos 4) bond.kind) table.bonds item
@@ -126,7 +127,7 @@ module _ (table : RawTable) where
   known_demand known_properties item = known_both (known_if (known_equal item 0) (known_some_items table.lists)) (known_item IsOfMolecules known_property table.props item)
 
   -- the numbers of a check's items
-  last_of : Check → ℕ
+  last_of : MoleculeCheck → ℕ
   last_of known_atoms = length table.atoms + 1
   last_of new_bonds = length table.bonds + 1
   last_of known_types = length table.bonds + 1
@@ -134,7 +135,7 @@ module _ (table : RawTable) where
   last_of other = length table.props + 1
 
   -- past the last item none fails
-  past_last : (check : Check) → ((j : ℕ) → j < last_of check → Demands table check j) → (k : ℕ) → last_of check ≤ k → Demands table check k
+  past_last : (check : MoleculeCheck) → ((j : ℕ) → j < last_of check → MoleculeDemands table check j) → (k : ℕ) → last_of check ≤ k → MoleculeDemands table check k
   unfolding last_of
   past_last known_atoms before k past = of_item-past IsKnownAtom table.atoms k (omega (arith, past))
   past_last new_bonds before k past = of_item-past (IsNewBond (length table.atoms) (take (k - 1) table.bonds)) table.bonds k (omega (arith, past))
@@ -146,19 +147,19 @@ module _ (table : RawTable) where
 
   -- the checks of lower numbers pass, or a first fault was found
   SoFar : ℕ → Type 0
-  SoFar n = PassesBelow table n ⊎ ((check : ℕ) × ((item : ℕ) × IsFirstFault table check item))
+  SoFar n = MeetsChecksBelow table n ⊎ ((check : ℕ) × ((item : ℕ) × IsFirstMoleculeFault table check item))
 
-  one_more : (check : Check) → SoFar (number check) → SoFar (number check + 1)
+  one_more : (check : MoleculeCheck) → SoFar (molecule_check_number check) → SoFar (molecule_check_number check + 1)
   unfolding SoFar
   one_more check (inr found) = inr found
-  one_more check (inl before) = by_items (least_failing (Demands table check) (known_demand check) (last_of check) (past_last check))
+  one_more check (inl before) = by_items (least_failing (MoleculeDemands table check) (known_demand check) (last_of check) (past_last check))
     where
-      by_items : ((k : ℕ) → Demands table check k) ⊎ ((k : ℕ) × IsLeastFailing (Demands table check) k) → SoFar (number check + 1)
+      by_items : ((k : ℕ) → MoleculeDemands table check k) ⊎ ((k : ℕ) × IsLeastFailing (MoleculeDemands table check) k) → SoFar (molecule_check_number check + 1)
       by_items (inl passes) = inl (below_more table check passes before)
-      by_items (inr (item, least)) = inr (number check, (item, fault table check item before least))
+      by_items (inr (item, least)) = inr (molecule_check_number check, (item, fault table check item before least))
 
   -- every check passes, or there is a first that fails
-  pub first_fault : PassesAll table ⊎ ((check : ℕ) × ((item : ℕ) × IsFirstFault table check item))
+  pub first_fault : MeetsAllChecks table ⊎ ((check : ℕ) × ((item : ℕ) × IsFirstMoleculeFault table check item))
   unfolding SoFar
   first_fault =
       ⊎_elim (λ all. inl (below_all table all)) (λ found. inr found)
@@ -210,11 +211,13 @@ column_known column = by_test (column == 4)
     by_test true = within_three 2 (omega arith)
     by_test false = within_three 0 (omega arith)
 
-radical_known : (table : RawTable) → PassesAll table → (n : ℕ) (line : RawAtom) → IsWithin (pos 0) (pos 3) (radical_at table n line)
+radical_known : (table : RawTable) → MeetsAllChecks table → (n : ℕ) (line : RawAtom) → IsWithin (pos 0) (pos 3) (radical_at table n line)
 radical_known table passes n line = by_test (lists_values table.props)
   where
     by_test : (b : Bool) → IsWithin (pos 0) (pos 3) (cond b (last_or (pos 0) (values_for n (radical_pairs table.props))) (radical_of_column (natural line.charge)))
-    by_test true = last_known (pos 0) (values_for n (radical_pairs table.props)) (within_three 0 (omega arith)) (values_known n (radical_pairs table.props) (pairs_known table.props (all_of HasKnownValues table.props (passes known_values))))
+    by_test true = last_known (pos 0) (values_for n (radical_pairs table.props)) (within_three 0 (omega arith))
+        (values_known n (radical_pairs table.props) (pairs_known table.props
+        (all_of HasKnownValues table.props (passes known_values))))
     by_test false = column_known (natural line.charge)
 
 natural_is : (z : ℤ) → IsWithin (pos 0) (pos 3) z → (pos (natural z) ≡ z) × (natural z ≤ 3)
@@ -229,11 +232,11 @@ unfolding symbols
 many = refl
 
 -- the number of an element
-is_element : (symbol : List ℕ) (z : ℕ) → Names symbol z → IsElement z
+is_element : (symbol : List ℕ) (z : ℕ) → NamesElement symbol z → IsElement z
 is_element symbol z (inl is) = (is.0, (let below = slice_get_within symbols (z - 1) symbol is.1 in omega (arith, below, many)))
 is_element symbol z (inr heavy) = (omega (arith, heavy.0), omega (arith, heavy.0))
 
-module _ (table : RawTable) (passes : PassesAll table) where
+module _ (table : RawTable) (passes : MeetsAllChecks table) where
   -- the atom of an atom line
   written : (n : ℕ) (line : RawAtom) → IsKnownAtom line → Atom
   written n line known = record { element = known.symbol.element; charge = charge_at table n line; radical = natural (radical_at table n line) }
@@ -259,9 +262,12 @@ module _ (table : RawTable) (passes : PassesAll table) where
   sound_written n [] all = All-nil IsSound
   sound_written n (line ∷ lines) all =
       let known = All-head IsKnownAtom line lines all in
-      All-cons IsSound (written n line known) (all_written (n + 1) lines (All-tail IsKnownAtom line lines all)) (is_written n line known).1 (sound_written (n + 1) lines (All-tail IsKnownAtom line lines all))
+      All-cons IsSound (written n line known) (all_written (n + 1) lines (All-tail IsKnownAtom line lines all))
+      (is_written n line known).1 (sound_written (n + 1) lines (All-tail IsKnownAtom line lines all))
 
-  each_written : (n : ℕ) (lines : List RawAtom) (all : All IsKnownAtom lines) (i : ℕ) (line : RawAtom) (atom : Atom) → slice_get lines i ≡ Some line → slice_get (all_written n lines all) i ≡ Some atom → IsWrittenAtom table (n + i) line atom
+  each_written : (n : ℕ) (lines : List RawAtom) (all : All IsKnownAtom lines) (i : ℕ) (line : RawAtom) (atom : Atom)
+      → slice_get lines i ≡ Some line → slice_get (all_written n lines all) i ≡ Some atom
+      → IsWrittenAtom table (n + i) line atom
   unfolding all_written
   each_written n [] all i line atom at there = absurd cc
   each_written n (first ∷ lines) all zero line atom at there =
@@ -288,7 +294,9 @@ module _ (table : RawTable) (passes : PassesAll table) where
   length_gains n (line ∷ lines) [] = ap suc (length_gains (n + 1) lines [])
   length_gains n (line ∷ lines) (atom ∷ atoms) = ap suc (length_gains (n + 1) lines atoms)
 
-  each_gained : (n : ℕ) (lines : List RawAtom) (atoms : List Atom) (i : ℕ) (line : RawAtom) (atom : Atom) → slice_get lines i ≡ Some line → slice_get atoms i ≡ Some atom → slice_get (all_gains n lines atoms) i ≡ Some (gained_by table (n + i) line atom)
+  each_gained : (n : ℕ) (lines : List RawAtom) (atoms : List Atom) (i : ℕ) (line : RawAtom) (atom : Atom)
+      → slice_get lines i ≡ Some line → slice_get atoms i ≡ Some atom
+      → slice_get (all_gains n lines atoms) i ≡ Some (gained_by table (n + i) line atom)
   unfolding all_gains
   each_gained n [] atoms i line atom at there = absurd cc
   each_gained n (first ∷ lines) [] i line atom at there = absurd cc
@@ -353,12 +361,15 @@ few_gained element charge radical mark ks most = by_test (mark == 0)
     marked true = omega arith
     marked false = most
 
-    by_test : (b : Bool) → cond b (up_to_valence (bond_orders_sum ks + radical_share radical) (find (λ v. nat_le (bond_orders_sum ks + radical_share radical) v) (valences_of element charge))) (marked_valence mark - bond_orders_sum ks) ≤ 15
+    by_test : (b : Bool) → cond b (up_to_valence (bond_orders_sum ks + radical_share radical)
+        (find (λ v. nat_le (bond_orders_sum ks + radical_share radical) v) (valences_of element charge)))
+        (marked_valence mark - bond_orders_sum ks) ≤ 15
     by_test true = (let few = small_up (bond_orders_sum ks + radical_share radical) (valences_of element charge) (small_valences element charge) in omega (arith, few))
     by_test false = (let few = marked (mark == 15) in omega (arith, few))
 
 -- so few hydrogens are added
-few_owners : (table : RawTable) (passes : PassesAll table) (n : ℕ) (lines : List RawAtom) (atoms : List Atom) (k : ℕ) → All IsKnownAtom lines → length (owners k (all_gains table passes n lines atoms)) ≤ 15 * length lines
+few_owners : (table : RawTable) (passes : MeetsAllChecks table) (n : ℕ) (lines : List RawAtom) (atoms : List Atom)
+    (k : ℕ) → All IsKnownAtom lines → length (owners k (all_gains table passes n lines atoms)) ≤ 15 * length lines
 unfolding all_gains
 few_owners table passes n [] atoms k all = omega arith
 few_owners table passes n (line ∷ lines) [] k all = (let later = few_owners table passes (n + 1) lines [] (k + 1) (All-tail IsKnownAtom line lines all) in omega (arith, later))
@@ -375,7 +386,7 @@ few_owners table passes n (line ∷ lines) (atom ∷ atoms) k all =
 
 -- ---- the molecule
 
-module _ (table : RawTable) (few_atoms : length table.atoms ≤ 999) (few : length table.bonds ≤ 999) (passes : PassesAll table) where
+module _ (table : RawTable) (few_atoms : length table.atoms ≤ 999) (few : length table.bonds ≤ 999) (passes : MeetsAllChecks table) where
   known_lines : All IsKnownAtom table.atoms
   known_lines = all_of IsKnownAtom table.atoms (passes known_atoms)
 
@@ -389,36 +400,53 @@ module _ (table : RawTable) (few_atoms : length table.atoms ≤ 999) (few : leng
           (passes new_bonds (k + 1) (get_or table.bonds k d) (omega arith) (rw place (slice_get-get_or table.bonds k d below))).ends
 
       whole : take (length (edges_of table.bonds)) table.bonds ≡ table.bonds
-      whole = take_all (length (edges_of table.bonds)) table.bonds (omega (arith, length-map table.bonds edge_of))
+      whole = take_all (length (edges_of table.bonds)) table.bonds (omega (arith, length-map table.bonds raw_edge))
 
       front : IsEdgeFront (length table.atoms) table.bonds (edges_of table.bonds)
       front = record {
-        few = omega (arith, length-map table.bonds edge_of);
+        few = omega (arith, length-map table.bonds raw_edge);
         edges_are = ap edges_of (sym whole);
         ends = subst (All (HasTwoEnds (length table.atoms))) (sym whole) ends;
-        between = All-map (IsBetween (length table.atoms)) edge_of table.bonds (λ k d below. IsBetween-edge_of (length table.atoms) (get_or table.bonds k d) (ends k d below));
-        stops = λ short. absurd (omega (arith, short, length-map table.bonds edge_of));
+        between = All-map (IsBetween (length table.atoms)) raw_edge table.bonds (λ k d below. IsBetween-edge_of (length table.atoms) (get_or table.bonds k d) (ends k d below));
+        stops = λ short. absurd (omega (arith, short, length-map table.bonds raw_edge));
       }
 
   pub filled_molecule : (mol : Molecule) × IsMoleculeOfTable table mol
   filled_molecule =
       let atoms = all_written table passes 1 table.atoms known_lines in
       let size : length atoms ≡ length table.atoms = length_written table passes 1 table.atoms known_lines in
-      let are : AreWrittenAtoms table atoms = record { size = size; each = λ i line atom at there. (let e : 1 + i ≡ i + 1 = omega arith in rw e at (each_written table passes 1 table.atoms known_lines i line atom at there)) } in
+      let are : AreWrittenAtoms table atoms = record {
+        size = size;
+        each = λ i line atom at there. (let e : 1 + i ≡ i + 1 = omega arith
+            in rw e at (each_written table passes 1 table.atoms known_lines i line atom at there));
+      } in
       let gains = all_gains table passes 1 table.atoms atoms in
-      let gained : AreGains table atoms gains = record { size = length_gains table passes 1 table.atoms atoms; each = λ i line atom at there. (let e : 1 + i ≡ i + 1 = omega arith in rw e at (each_gained table passes 1 table.atoms atoms i line atom at there)) } in
+      let gained : AreGains table atoms gains = record {
+        size = length_gains table passes 1 table.atoms atoms;
+        each = λ i line atom at there. (let e : 1 + i ≡ i + 1 = omega arith
+            in rw e at (each_gained table passes 1 table.atoms atoms i line atom at there));
+      } in
       let os = owners 1 gains in
-      let new = atoms ++ replicate (length os) hydrogen in
+      let new = atoms ++ replicate (length os) hydrogen_atom in
       let plain = edges_of table.bonds ++ hydrogen_bonds (length atoms + 1) os in
       let drawn : IsSimple (length atoms) (edges_of table.bonds) = subst (λ (n : ℕ). IsSimple n (edges_of table.bonds)) (sym size) simple_bonds in
       let many : length gains ≡ length atoms = gained.size ∙ sym size in
       let graph : IsSimple (length new) plain = filled_graph atoms new (edges_of table.bonds) plain gains many drawn refl refl in
-      let few_old : length (edges_of table.bonds) ≤ 999 = omega (arith, few, length-map table.bonds edge_of) in
+      let few_old : length (edges_of table.bonds) ≤ 999 = omega (arith, few, length-map table.bonds raw_edge) in
       let few_new : length new < 2 ^ 20 =
-      (let few_os = few_owners table passes 1 table.atoms atoms 1 known_lines in omega (arith, few_os, few_atoms, size, length-append atoms (replicate (length os) hydrogen), length-replicate (length os) hydrogen)) in
+      (let few_os = few_owners table passes 1 table.atoms atoms 1 known_lines
+      in omega (
+        arith,
+        few_os,
+        few_atoms,
+        size,
+        length-append atoms (replicate (length os) hydrogen_atom),
+        length-replicate (length os) hydrogen_atom,
+      )) in
       let marked = mol_bonds_have_marks (length new) plain graph in
       let mol : Molecule = record { written = length atoms; atoms = new; bonds = marked.0 } in
-      let kept : IsMolecule mol = molecule atoms new (edges_of table.bonds) plain gains (length atoms) marked.0 refl many few_old few_new (sound_written table passes 1 table.atoms known_lines) drawn refl refl marked.1
+      let kept : IsMolecule mol = molecule atoms new (edges_of table.bonds) plain gains (length atoms) marked.0 refl
+      many few_old few_new (sound_written table passes 1 table.atoms known_lines) drawn refl refl marked.1
       (λ b bond at. subst (λ (es : List Edge). HasMarks es b bond) marked.1 (marked.2 b bond at)) in (
         mol,
         record {

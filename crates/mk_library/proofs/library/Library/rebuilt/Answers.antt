@@ -35,14 +35,18 @@ loop-row-preserved c =
     }
 
 pub have_same_molecules-requires : goal.have_same_molecules-requires
-have_same_molecules-requires c = all_again c.args.self.now.records c.loop-row.library.records c.texts-row-items.result.now c.loop-row.row-index c.texts-row-items.ensures.texts c.loop-row.invariant.records (search rules)
+have_same_molecules-requires c = all_again c.args.self.now.records c.loop-row.library.records
+    c.texts-row-items.result.now c.loop-row.row-index c.texts-row-items.ensures.texts c.loop-row.invariant.records
+    (search rules)
 
 pub returns : goal.returns
 returns c = record {
   same = record {
-    records = all_again c.args.self.now.records c.loop-row.library.records c.texts-row-items.result.now c.loop-row.row-index c.texts-row-items.ensures.texts c.loop-row.invariant.records (search rules);
+    records = all_again c.args.self.now.records c.loop-row.library.records c.texts-row-items.result.now
+        c.loop-row.row-index c.texts-row-items.ensures.texts c.loop-row.invariant.records (search rules);
     rows = c.have_same_molecules.ensures;
     next_record = c.loop-row.invariant.next;
   };
-  postings = λ bit numbers. subst (λ (rows : List (Numbered Molecule)). IsPosting c.args.self.now.rows bit numbers ↔ IsPosting rows bit numbers) (sym c.have_same_molecules.ensures) ((λ h. h), (λ h. h));
+  postings = λ bit numbers. subst (λ (rows : List (Numbered Molecule)). IsPosting c.args.self.now.rows bit
+      numbers ↔ IsPosting rows bit numbers) (sym c.have_same_molecules.ensures) ((λ h. h), (λ h. h));
 }

@@ -7,8 +7,12 @@ use Rattle.mk_library.proofs.library.Library.restore.Goals as goal
 
 pub loop-row-preserved : goal.loop-row-preserved
 loop-row-preserved c =
-    let there : slice_get c.args.rows.now c.loop-row.row-index ≡ Some c.row-item.result = slice_get_read c.args.rows.now (length c.args.rows.now) c.loop-row.row-index c.row-item.result refl (search rules) c.row-item.is in
-    let place : HasPlace c.args.next (take c.loop-row.row-index c.args.rows.now) c.row-item.result = rw (c.loop-row.invariant.next, c.loop-row.invariant.records) at c.has_place.ensures.place c.if-not-has_place.false in
+    let there : slice_get c.args.rows.now c.loop-row.row-index ≡ Some c.row-item.result =
+    slice_get_read c.args.rows.now (length c.args.rows.now) c.loop-row.row-index c.row-item.result refl
+    (search rules) c.row-item.is in
+    let place : HasPlace c.args.next (take c.loop-row.row-index c.args.rows.now) c.row-item.result =
+    rw (c.loop-row.invariant.next, c.loop-row.invariant.records) at c.has_place.ensures.place
+    c.if-not-has_place.false in
     let molecule = rw c.as_slice.ensures at rw c.in-Some.is at c.in_ok-mol.ensures in
     record {
       records = records_more c.args.rows.now c.reserve.new.self.records c.put_stored.new.self.records c.loop-row.row-index c.row-item.result c.in_ok-text.text

@@ -29,7 +29,9 @@ pub invariant_of-self-2 : goal.invariant_of-self-2
 invariant_of-self-2 c =
     let held : holds c.args.number c.self.inside.texts.rows ≡ true = held_of c.args.number c.self.inside.texts.rows ∙ ap (λ v. is_held c.args.number v.records) c.self.view_is ∙ c.requires in
     let beside : holds c.args.number c.self.inside.shelf.rows ≡ true = holds_beside c.args.number c.self.inside.texts.rows c.self.inside.shelf.rows c.self.invariant.0.held ∙ held in
-    let freed : c.self.inside.shelf.spare + 1 ≤ c.remove-2.new.self.spare = freed_there c.remove-2.result _ _ (λ none. held_has c.args.number c.self.inside.shelf.rows beside (c.remove-2.ensures.item ∙ none)) c.remove-2.ensures.freed in
+    let freed : c.self.inside.shelf.spare + 1 ≤ c.remove-2.new.self.spare =
+    freed_there c.remove-2.result _ _ (λ none. held_has c.args.number c.self.inside.shelf.rows beside
+    (c.remove-2.ensures.item ∙ none)) c.remove-2.ensures.freed in
     let room : HasRoom c.remove.new.self.spare c.remove-2.new.self.spare c.saturating_add-self-inside.result = record {
       in_texts = omega (arith, c.in-Some.ensures.freed, c.self.invariant.1.in_texts, c.saturating_add-self-inside.ensures);
       on_shelf = omega (arith, freed, c.self.invariant.1.on_shelf, c.saturating_add-self-inside.ensures);
