@@ -8,7 +8,7 @@ use Rattle.mk_outside.specs.declared.tables.Change.TheVariants.{PutQuery, DropQu
 use Rattle.mk_outside.specs.declared.tables.CursorRow.{CursorRow}
 use Rattle.mk_outside.specs.declared.tables.QueryRow.{QueryRow}
 use Rattle.mk_outside.specs.declared.tables.Tables.{Tables}
-use Rattle.mk_outside.specs.Tables.{after_batch, after_change, cursor_number}
+use Rattle.mk_outside.specs.Tables.{after_batch, after_change}
 use Rattle.mk_rgfile.specs.KeptQueries.{KeptLinesAreKept}
 use Rattle.mk_rgfile.proofs.ForCallers.{query_keeps}
 use Rattle.mk_query.specs.Laws.{KeptTextIsTheQuery, PassedQueriesFit}
@@ -19,7 +19,8 @@ use Rattle.mk_model.specs.QueryFits.{QueryFits}
 use Rattle.mk_search.proofs.ForCallers.{place_has_few}
 use Rattle.mk_library.specs.EditedRows.{EditsAreOfRecords, EditsKeepReading}
 use Rattle.mk_library.specs.Edits.{Edit, Remove, Replace}
-use Rattle.mk_library.specs.FirstRefusal.{Demand, Demands, IsAllowed}
+use Rattle.mk_library.specs.declared.refusal.LoadRefusal.{LoadRefusal}
+use Rattle.mk_library.specs.FirstRefusal.{Demand, EditDemands, IsAllowedEdit, IsFirstFileRefusal, IsFirstRefusal}
 use Rattle.mk_library.specs.FirstRefusal as demand
 use Rattle.mk_library.specs.Pending.{InTurn, RecordsChangeAlone}
 use Rattle.mk_library.specs.Records.{is_held}
@@ -28,8 +29,9 @@ use Rattle.mk_kept.specs.Names.{IsName}
 use Rattle.mk_effects.specs.Effects.{Answers, Effect, Refuses, after_effect}
 use Rattle.mk_effects.specs.Files.{Look}
 use Rattle.mk_kept.specs.StoredRows.{CanGoOn, EachReads, ReadsCursor, ReadsQuery}
-use Rattle.mk_effects.specs.Loading.{EditRefused, EditTooLong, Edits, IsEdited, IsReplace, NoRecordReplaced, ReplacesHeld}
-use Rattle.mk_effects.specs.Match.{IsMatch, IsSearchOfFile, Lists, MoleculesRefused, QueryRefused, Searches}
+use Rattle.mk_effects.specs.Loading.{IsEditMade, IsEdited, IsReplace, NoRecordReplaced, ReplacesHeld}
+use Rattle.mk_effects.specs.Match.{IsMatch, ListsKeys, QueryRefused, Searches}
+use Rattle.mk_effects.specs.MoleculeFiles.{ComesByFile, GoesByMolecules, MoleculesRefused, MoleculesTooLong}
 use Rattle.mk_effects.specs.Queries.{FileIsRefused, Forgets, IsForget, IsKeep, Keeps, NameIsHeld, NoQueryForgotten, QueriesAreFull, TextsAreFull, drop_of, forget_changes, kept_text}
 use Rattle.mk_effects.specs.Records.{IsRemove, IsShow, NoRecordRemoved, NoRecordShown, Removes, Shows}
 use Rattle.mk_kept.specs.Saved.{IsMeant, greatest_number, kept_tables, longest_place}
@@ -50,7 +52,7 @@ pub record KeepingLaws : Type 0 where
 
 -- ---- records
 
-pub edit_goes_on : KeepingLaws → (t : Tables) (edit : Edit) (changes : List Change) → CanGoOn t → IsAllowed t.records t.next_record edit changes → CanGoOn (after_batch changes t)
+pub edit_goes_on : KeepingLaws → (t : Tables) (edit : Edit) (changes : List Change) → CanGoOn t → IsAllowedEdit t.records t.next_record edit changes → CanGoOn (after_batch changes t)
 edit_goes_on laws t edit changes go allowed =
     let whole = laws.alone changes t (laws.of_records t.records t.next_record edit changes allowed) in
     let on = laws.reading t edit changes (record { read = go.reads.records; least = go.record_number }) allowed in
@@ -65,7 +67,7 @@ edit_goes_on laws t edit changes go allowed =
     }
 
 -- a record that is held may be removed
-removal : (t : Tables) (n : ℕ) → is_held n t.records ≡ true → (d : Demand) → Demands t.records t.next_record (Remove n) d
+removal : (t : Tables) (n : ℕ) → is_held n t.records ≡ true → (d : Demand) → EditDemands t.records t.next_record (Remove n) d
 removal t n held demand.held_number = held
 removal t n held demand.short_file = tt
 removal t n held demand.sdfile = tt
@@ -85,34 +87,40 @@ answered_goes_on t effect text is go = subst (λ (e : Effect). CanGoOn (after_ef
 changed_goes_on : (t : Tables) (effect : Effect) (batch : List Change) (text : List ℕ) → effect ≡ Answers batch text → CanGoOn (after_batch batch t) → CanGoOn (after_effect effect t)
 changed_goes_on t effect batch text is go = subst (λ (e : Effect). CanGoOn (after_effect e t)) (sym is) go
 
-file_goes_on : (t : Tables) (wanted : QueryView) (files : Option Look) (name : List ℕ) (effect : Effect) → IsSearchOfFile wanted files name effect → CanGoOn t → CanGoOn (after_effect effect t)
-file_goes_on t wanted files name effect (MoleculesRefused line refused is) go = refused_goes_on t effect line is go
-file_goes_on t wanted files name effect (Lists mol held keys first text hits is) go = answered_goes_on t effect text is go
+-- by a molecules' file a command leaves tables that read, where by its bytes it does
+by_file_goes_on : (files : Option Look) (t : Tables) (name : List ℕ) (First : List ℕ → LoadRefusal → Type 0) (Comes : List ℕ → Effect → Type 0) (effect : Effect)
+    → ((bytes : List ℕ) → Comes bytes effect → CanGoOn (after_effect effect t)) → ComesByFile files name First Comes effect → CanGoOn t → CanGoOn (after_effect effect t)
+by_file_goes_on files t name First Comes effect on (MoleculesTooLong long is) go = refused_goes_on t effect _ is go
+by_file_goes_on files t name First Comes effect on (MoleculesRefused bytes read said first line says is) go = refused_goes_on t effect line is go
+by_file_goes_on files t name First Comes effect on (GoesByMolecules bytes read comes) go = on bytes comes
 
 pub match_goes_on : (files : Option Look) (t : Tables) (query molecules : List ℕ) (effect : Effect) → IsMatch files query molecules effect → CanGoOn t → CanGoOn (after_effect effect t)
 match_goes_on files t query molecules effect (QueryRefused line refused is) go = refused_goes_on t effect line is go
-match_goes_on files t query molecules effect (Searches wanted held searched) go = file_goes_on t wanted files molecules effect searched go
+match_goes_on files t query molecules effect (Searches wanted held searched) go =
+    by_file_goes_on files t molecules IsFirstFileRefusal (ListsKeys wanted) effect (λ bytes lists. answered_goes_on t effect lists.text lists.answered go) searched go
 
 pub edited_goes_on : KeepingLaws → (files : Option Look) (t : Tables) (name : List ℕ) (edit : List ℕ → Edit) (answer : List Change → List ℕ) (effect : Effect)
-    → IsEdited files t name edit answer effect → CanGoOn t → CanGoOn (after_effect effect t)
-edited_goes_on laws files t name edit answer effect (EditTooLong long is) go = refused_goes_on t effect _ is go
-edited_goes_on laws files t name edit answer effect (EditRefused bytes read said first line says is) go = refused_goes_on t effect line is go
-edited_goes_on laws files t name edit answer effect (Edits bytes read changes allowed is) go = changed_goes_on t effect changes (answer changes) is (edit_goes_on laws t (edit bytes) changes go allowed)
+    → IsEdited files t.records t.next_record name edit answer effect → CanGoOn t → CanGoOn (after_effect effect t)
+edited_goes_on laws files t name edit answer effect edited go =
+    by_file_goes_on files t name (λ (bytes : List ℕ). IsFirstRefusal t.records t.next_record (edit bytes)) (λ (bytes : List ℕ). IsEditMade t.records t.next_record (edit bytes) answer) effect
+    (λ bytes made. changed_goes_on t effect made.changes (answer made.changes) made.answered (edit_goes_on laws t (edit bytes) made.changes go made.allowed)) edited go
 
-pub replace_goes_on : KeepingLaws → (files : Option Look) (t : Tables) (n : ℕ) (name : List ℕ) (effect : Effect) → IsReplace files t n name effect → CanGoOn t → CanGoOn (after_effect effect t)
+pub replace_goes_on : KeepingLaws → (files : Option Look) (t : Tables) (n : ℕ) (name : List ℕ) (effect : Effect) → IsReplace files t.records t.next_record n name effect
+    → CanGoOn t → CanGoOn (after_effect effect t)
 replace_goes_on laws files t n name effect (NoRecordReplaced none is) go = refused_goes_on t effect _ is go
 replace_goes_on laws files t n name effect (ReplacesHeld held edited) go = edited_goes_on laws files t name (Replace n) _ effect edited go
 
-pub remove_goes_on : KeepingLaws → (t : Tables) (n : ℕ) (effect : Effect) → IsRemove t n effect → CanGoOn t → CanGoOn (after_effect effect t)
+pub remove_goes_on : KeepingLaws → (t : Tables) (n : ℕ) (effect : Effect) → IsRemove t.records n effect → CanGoOn t → CanGoOn (after_effect effect t)
 remove_goes_on laws t n effect (NoRecordRemoved none is) go = refused_goes_on t effect _ is go
 remove_goes_on laws t n effect (Removes held is) go =
     changed_goes_on t effect (DropRecord n ∷ []) _ is (edit_goes_on laws t (Remove n) (DropRecord n ∷ []) go (record { met = removal t n held; are = refl }))
 
-pub show_goes_on : (t : Tables) (n : ℕ) (effect : Effect) → IsShow t n effect → CanGoOn t → CanGoOn (after_effect effect t)
+pub show_goes_on : (t : Tables) (n : ℕ) (effect : Effect) → IsShow t.records n effect → CanGoOn t → CanGoOn (after_effect effect t)
 show_goes_on t n effect (NoRecordShown none is) go = refused_goes_on t effect _ is go
 show_goes_on t n effect (Shows text there is) go = answered_goes_on t effect _ is go
 
-pub keep_goes_on : KeepingLaws → (files : Option Look) (t : Tables) (name file : List ℕ) (effect : Effect) → IsName name → IsKeep files t name file effect → CanGoOn t → CanGoOn (after_effect effect t)
+pub keep_goes_on : KeepingLaws → (files : Option Look) (t : Tables) (name file : List ℕ) (effect : Effect) → IsName name → IsKeep files t.queries name file effect
+    → CanGoOn t → CanGoOn (after_effect effect t)
 keep_goes_on laws files t name file effect is_name (NameIsHeld held is) go = refused_goes_on t effect _ is go
 keep_goes_on laws files t name file effect is_name (QueriesAreFull new full is) go = refused_goes_on t effect _ is go
 keep_goes_on laws files t name file effect is_name (FileIsRefused free line refused is) go = refused_goes_on t effect line is go
@@ -140,7 +148,7 @@ drops_go_on : (name : List ℕ) (drops : List CursorRow) (t : Tables) → InTurn
 drops_go_on name [] t places go = drop_query_goes_on t name go places.0
 drops_go_on name (drop ∷ drops) t places go = drops_go_on name drops (after_change (DropCursor drop.number) t) places.1 (drop_cursor_goes_on t drop.number go)
 
-pub forget_goes_on : (t : Tables) (name : List ℕ) (effect : Effect) → IsForget t name effect → CanGoOn t → CanGoOn (after_effect effect t)
+pub forget_goes_on : (t : Tables) (name : List ℕ) (effect : Effect) → IsForget t.queries t.cursors name effect → CanGoOn t → CanGoOn (after_effect effect t)
 forget_goes_on t name effect (NoQueryForgotten none is) go = refused_goes_on t effect _ is go
 forget_goes_on t name effect (Forgets held is) go =
     let drops = filter (λ (row : CursorRow). bytes_eq row.name name) t.cursors in

@@ -3,7 +3,8 @@
 --     lines_none, lines_more the lines of the first keys
 --     have_parts             the keys that are listed have parts
 --     one_hits_text          keys have one text
-use Rattle.std.proofs.Common.{◌≡◌, ℕ, ◌+◌, ◌<◌, inl, inr, List, [], ◌∷◌, ◌++◌, Some, None, length, get_or, take, drop, All, refl, sym, ap, subst, ◌∙◌, append_assoc, append-nil, add-one}
+--     ended_is, more_is      by the stop of a list it is whole or not
+use Rattle.std.proofs.Common.{◌≡◌, ℕ, ◌+◌, ◌<◌, Bool, true, false, inl, inr, List, [], ◌∷◌, ◌++◌, Some, None, length, get_or, take, drop, All, refl, sym, ap, subst, ◌∙◌, append_assoc, append-nil, add-one}
 use Rattle.std.specs.Prelude.{Result, Ok, Err, OnOk}
 use Rattle.std.proofs.lemmas.List.{append_cancel_left, take-append-drop}
 use Rattle.std.proofs.lemmas.List.Elements.{All-cons, All-nil}
@@ -14,7 +15,9 @@ use Rattle.mk_model.specs.Keys.{IsKey}
 use Rattle.mk_model.specs.Molecules.{Molecule}
 use Rattle.mk_model.specs.Queries.{QueryView}
 use Rattle.mk_model.proofs.ForCallers.{code_of_valid, one_code}
-use Rattle.mk_effects.specs.Hits.{AreHitLines, HasParts, HaveParts, IsHitLine, IsHitsText, PutsLine, hit_line, last_line}
+use Rattle.mk_effects.specs.declared.effect.Stop.{Stop}
+use Rattle.mk_effects.specs.declared.effect.Stop.TheVariants as stop
+use Rattle.mk_effects.specs.Hits.{AreHitLines, HasParts, HaveParts, IsHitLine, IsHitsText, PutsLine, hit_line, stop_line, stop_of}
 
 -- ---- one key
 
@@ -104,6 +107,19 @@ one_lines query [] a b p q = p ∙ sym q
 one_lines query (key ∷ keys) a b p q =
     p.4 ∙ ap (λ (xs : List ℕ). xs ++ p.1) (one_line query key p.0 q.0 p.2 q.2) ∙ ap (λ (xs : List ℕ). q.0 ++ xs) (one_lines query keys p.1 q.1 p.3 q.3) ∙ sym q.4
 
-pub one_hits_text : (query : QueryView) (keys : List (List ℕ)) (most c : ℕ) (a b : List ℕ) → IsHitsText query keys most c a → IsHitsText query keys most c b → a ≡ b
-one_hits_text query keys most c a b p q =
-    p.whole ∙ ap (λ (xs : List ℕ). xs ++ last_line (length keys) most c) (one_lines query keys p.lines q.lines p.are_lines q.are_lines) ∙ sym q.whole
+-- keys have one text, where they stop at one place
+pub one_hits_text : (query : QueryView) (keys : List (List ℕ)) (listed : Stop) (a b : List ℕ) → IsHitsText query keys listed a → IsHitsText query keys listed b → a ≡ b
+one_hits_text query keys listed a b p q =
+    p.whole ∙ ap (λ (xs : List ℕ). xs ++ stop_line listed) (one_lines query keys p.lines q.lines p.are_lines q.are_lines) ∙ sym q.whole
+
+-- ---- where they stop
+
+-- what ends is whole
+pub ended_is : (ended : Bool) (c : ℕ) → stop.Ended ≡ stop_of ended c → ended ≡ true
+ended_is true c same = refl
+ended_is false c same = absurd cc
+
+-- and what may go on isn't
+pub more_is : (ended : Bool) (c d : ℕ) → stop.More d ≡ stop_of ended c → ended ≡ false
+more_is true c d same = absurd cc
+more_is false c d same = refl

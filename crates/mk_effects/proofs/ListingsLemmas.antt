@@ -1,12 +1,16 @@
 -- The one molecule that `match` searches, which is record 1.
 --     first_of_record1    the first keys on its shelf are the first in the molecule
+--     begins_over         how often is begun over what is held, over what else is held so as well
 use Rattle.std.proofs.Common.{◌≡◌, ℕ, Bool, true, false, nat_eq, if◌then◌else◌, List, [], ◌∷◌, None, Some, refl, sym, ap, subst}
 use Rattle.std.proofs.lemmas.Bool.{eqb-true}
 use Rattle.mk_text.specs.Rising.{AreFirst, IsBelow}
+use Rattle.mk_text.proofs.ForCallers.{each_from}
 use Rattle.mk_rows.specs.declared.by_number.Numbered.{Numbered}
 use Rattle.mk_model.specs.Keys.{IsKey, Remains}
 use Rattle.mk_model.specs.Molecules.{Molecule}
 use Rattle.mk_model.specs.Queries.{QueryView}
+use Rattle.mk_search.specs.declared.pages.Page.{Page}
+use Rattle.mk_search.specs.Begins.{BeginsOfPage, IsPairFrom}
 use Rattle.mk_search.specs.Pages.{IsHeldIn}
 use Rattle.mk_effects.specs.Match.{IsRecord1}
 
@@ -37,6 +41,31 @@ key_of Held Other query key same is = record {
   whole = is.whole;
 }
 
+-- pairs of what is held are pairs of what is held so as well
+pub begins_over : (Held Other : ℕ → Molecule → Type 0) (query : QueryView) (place : List ℕ) (page : Page) (old new : ℕ) → ((n : ℕ) (mol : Molecule) → Held n mol → Other n mol)
+    → BeginsOfPage Held query place page old new → BeginsOfPage Other query place page old new
+begins_over Held Other query place page old new same begins = record {
+  pairs = begins.pairs;
+  rises = begins.rises;
+  each = each_from (IsPairFrom Held query place) (IsPairFrom Other query place) begins.pairs pair begins.each;
+  ticks = begins.ticks;
+  up_to = begins.up_to;
+  fronts = begins.fronts;
+}
+  where
+    pair : (xs : List ℕ) → IsPairFrom Held query place xs → IsPairFrom Other query place xs
+    pair xs is = record {
+      number = is.number;
+      mol = is.mol;
+      screen = is.screen;
+      code = is.code;
+      held = same is.number is.mol is.held;
+      shows = is.shows;
+      covered = is.covered;
+      left = is.left;
+      whole = is.whole;
+    }
+
 -- nothing is below the empty place
 none_below : (xs : List ℕ) → IsBelow xs [] → ⊥
 none_below xs below = below
@@ -51,7 +80,8 @@ first_there mol query most keys first = record {
 }
 
 -- on a shelf of that row
-pub first_of_record1 : (mol : Molecule) (query : QueryView) (most : ℕ) (rows : List (Numbered Molecule)) (keys : List (List ℕ)) → rows ≡ only_row mol → AreFirst most (Remains (IsHeldIn rows) query []) keys
+pub first_of_record1 : (mol : Molecule) (query : QueryView) (most : ℕ) (rows : List (Numbered Molecule))
+    (keys : List (List ℕ)) → rows ≡ only_row mol → AreFirst most (Remains (IsHeldIn rows) query []) keys
     → AreFirst most (IsKey (IsRecord1 mol) query) keys
 first_of_record1 mol query most rows keys same first =
     first_there mol query most keys (subst (λ (rs : List (Numbered Molecule)). AreFirst most (Remains (IsHeldIn rs) query []) keys) same first)

@@ -14,16 +14,16 @@ use Rattle.mk_outside.specs.declared.tables.RecordRow.{RecordRow}
 use Rattle.mk_rows.specs.declared.by_number.Numbered.{Numbered}
 use Rattle.mk_library.specs.declared.refusal.LoadRefusal.{LoadRefusal}
 use Rattle.mk_library.specs.declared.refusal.LoadRefusal.TheVariants as refusal
-use Rattle.mk_library.specs.Edits.{Edit as LibraryEdit}
-use Rattle.mk_library.specs.FirstRefusal.{Demand, Demands, IfRefused, IsFirstRefusal, Says, held_number, kept_limits, molecules, one_record, sdfile, short_file, text_of_edit}
-use Rattle.mk_library.specs.Records.{is_held, record_of, records_of, text_of}
-use Rattle.mk_effects.specs.Loading.{IsFileLine, loaded_text}
+use Rattle.mk_library.specs.FirstRefusal.{Demand, IfRefused, IsFirstUnmet, IsSaidOf, held_number, kept_limits, molecules, one_record, sdfile, short_file}
+use Rattle.mk_library.specs.Records.{is_held, record_of, records_of, text_under}
+use Rattle.mk_effects.specs.Loading.{loaded_text}
+use Rattle.mk_effects.specs.MoleculeFiles.{IsFileLine}
 use Rattle.mk_effects.specs.Records.{record_line, row_line}
 
 -- ---- refusals
 
-module _ (records : List RecordRow) (next : ℕ) (edit : LibraryEdit) where
-  by_demand : (demand : Demand) → (Demands records next edit demand → ⊥) → Says (text_of_edit edit) demand refusal.NoRecord → Demands records next edit held_number → ⊥
+module _ (Demands : Demand → Type 0) (text : List ℕ) where
+  by_demand : (demand : Demand) → (Demands demand → ⊥) → IsSaidOf text demand refusal.NoRecord → Demands held_number → ⊥
   by_demand held_number fails says held = fails held
   by_demand short_file fails says held = cc
   by_demand sdfile fails says held = let e = says.2 in cc
@@ -31,10 +31,10 @@ module _ (records : List RecordRow) (next : ℕ) (edit : LibraryEdit) where
   by_demand molecules fails says held = let e = says.5 in cc
   by_demand kept_limits fails says held = cc
 
-  -- where the number is held, it isn't what is refused
-  pub no_number : (T : Type 0) (said : LoadRefusal) → Demands records next edit held_number → IfRefused {T = T} (Err said) (IsFirstRefusal records next edit) → said ≢ refusal.NoRecord
+  -- where the number is held, or none is asked for, it isn't what is refused
+  pub no_number : (T : Type 0) (said : LoadRefusal) → Demands held_number → IfRefused {T = T} (Err said) (IsFirstUnmet Demands text) → said ≢ refusal.NoRecord
   no_number T said held refused e =
-      let first : IsFirstRefusal records next edit refusal.NoRecord = subst (λ (s : LoadRefusal). IfRefused {T = T} (Err s) (IsFirstRefusal records next edit)) e refused in
+      let first : IsFirstUnmet Demands text refusal.NoRecord = subst (λ (s : LoadRefusal). IfRefused {T = T} (Err s) (IsFirstUnmet Demands text)) e refused in
       by_demand first.demand first.fails first.says held
 
 -- what has a line is no want of memory
@@ -60,14 +60,15 @@ loaded_some next (change ∷ changes) count is some = ap (λ (k : ℕ). codes "l
 
 -- ---- what is held
 
-by_row : (here : Bool) (text row_text : List ℕ) (later : Option (List ℕ)) (held : Bool) → (later ≡ Some text → held ≡ true) → (if here then Some row_text else later) ≡ Some text → (here || held) ≡ true
+by_row : (here : Bool) (text row_text : List ℕ) (later : Option (List ℕ)) (held : Bool)
+    → (later ≡ Some text → held ≡ true) → (if here then Some row_text else later) ≡ Some text → (here || held) ≡ true
 by_row true text row_text later held others is = refl
 by_row false text row_text later held others is = others is
 
 -- a record that has a text is held
-pub text_is_held : (n : ℕ) (records : List RecordRow) (text : List ℕ) → text_of n records ≡ Some text → is_held n records ≡ true
+pub text_is_held : (n : ℕ) (records : List RecordRow) (text : List ℕ) → text_under n records ≡ Some text → is_held n records ≡ true
 text_is_held n [] text is = absurd cc
-text_is_held n (row ∷ records) text is = by_row _ text row.text (text_of n records) (is_held n records) (text_is_held n records text) is
+text_is_held n (row ∷ records) text is = by_row _ text row.text (text_under n records) (is_held n records) (text_is_held n records text) is
 
 -- there are as many texts as records
 pub rows_few : (records : List RecordRow) (rows : List (Numbered (List ℕ))) → records_of rows ≡ records → length rows ≡ length records

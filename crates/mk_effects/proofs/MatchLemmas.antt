@@ -1,38 +1,25 @@
 -- The command `match`, from what its parts answer.
---     held_if               the molecule of records that were read, or what they are refused with
+--     lists_of_file         the list of keys as what the file comes to
 --     matched, misses_both  the search as the command
-use Rattle.std.proofs.Common.{◌≡◌, ℕ, ◌≤◌, List, [], ◌∷◌, Option, refl, sym, subst, ◌∙◌, arith}
+use Rattle.std.proofs.Common.{◌≡◌, ℕ, ◌≤◌, List, Option, refl, sym, subst, ◌∙◌, arith}
 use Rattle.std.specs.Prelude.{Result, Ok, Err, IfOk}
-use Rattle.mk_text.specs.Lines.{lines_of}
 use Rattle.mk_outside.specs.Counts.{Rose}
 use Rattle.mk_model.specs.Queries.{QueryView}
-use Rattle.mk_sdfile.specs.declared.raw_record.RawRecord.{RawRecord}
-use Rattle.mk_sdfile.specs.Sdfile.{IsSdfile}
 use Rattle.mk_effects.specs.declared.effect.Found.{Found}
 use Rattle.mk_effects.specs.declared.effect.StepFail.{StepFail}
 use Rattle.mk_effects.specs.declared.effect.StepFail.TheVariants as fail
-use Rattle.mk_effects.specs.declared.files.Held.{Held}
-use Rattle.mk_effects.specs.declared.files.Held.TheVariants.{Molecule, Refused}
-use Rattle.mk_effects.specs.Files.{IsShort, IsThere, Look}
-use Rattle.mk_effects.specs.Match.{FailsCheck, IsMatch, IsSearchOfFile, IsTurnOfMatch, NotOne, Searches, TurnOfMolecules, TurnOfQuery, molecule_bytes}
-use Rattle.mk_effects.specs.Matching.{IsHeldBy, IsHeldOf, IsTurnOf}
+use Rattle.mk_library.specs.Limits.{file_bytes}
+use Rattle.mk_effects.specs.Files.{IsShort, IsThere, IsTurnOf, Look}
+use Rattle.mk_effects.specs.Match.{IsMatch, IsSearchOfFile, IsTurnOfMatch, ListsKeys, Searches, TurnOfMolecules, TurnOfQuery}
+use Rattle.mk_effects.specs.MoleculeFiles.{GoesByMolecules}
 use Rattle.mk_effects.specs.QueryFiles.{IsQueryHeld}
-use Rattle.mk_effects.specs.Findings.{MissesAt, SeeksSo}
+use Rattle.mk_effects.specs.Findings.{MissesAt, SeeksSo, effect_of}
 
--- the molecule of records that were read, or what they are refused with
-held_by : (files : Option Look) (name bytes : List ℕ) (records : List RawRecord) (held : Held) → IsShort files molecule_bytes name bytes → IsSdfile (lines_of bytes) records → IsHeldOf records held → IsHeldBy files name held
-held_by files name bytes [] held read is holds = subst (IsHeldBy files name) (sym holds) (NotOne bytes read [] is (λ same. absurd (omega (arith, same))) refl)
-held_by files name bytes (one ∷ two ∷ others) held read is holds =
-    subst (IsHeldBy files name) (sym holds) (NotOne bytes read (one ∷ two ∷ others) is (λ same. absurd (omega (arith, same))) refl)
-held_by files name bytes (only ∷ []) (Molecule mol) read is holds = record { bytes = bytes; read = read; only = only; sdfile = is; passes = holds.0; filled = holds.1; molecule = holds.2 }
-held_by files name bytes (only ∷ []) (Refused line) read is holds = FailsCheck bytes read only is holds.0 holds.1 holds.2 holds.3
-
-pub held_if : {E : Type 0} (files : Option Look) (name bytes : List ℕ) (records : List RawRecord) (r : Result Held E) → IsShort files molecule_bytes name bytes → IsSdfile (lines_of bytes) records → IfOk r (IsHeldOf records)
-    → IfOk r (IsHeldBy files name)
-held_if files name bytes records (Ok held) read is holds = held_by files name bytes records held read is holds
-held_if files name bytes records (Err e) read is holds = tt
-
--- ---- the search as the command
+-- the list of keys is what the molecules' file comes to
+pub lists_of_file : {E : Type 0} (wanted : QueryView) (files : Option Look) (name bytes : List ℕ) (r : Result Found E) → IsShort files file_bytes name bytes
+    → IfOk r (λ found. ListsKeys wanted bytes (effect_of found)) → IfOk r (λ found. IsSearchOfFile wanted files name (effect_of found))
+lists_of_file wanted files name bytes (Ok found) read lists = GoesByMolecules bytes read lists
+lists_of_file wanted files name bytes (Err e) read lists = tt
 
 module _ (files : Option Look) (query molecules : List ℕ) where
   pub matched : (wanted : QueryView) (old mid new : ℕ) (r : Result Found StepFail) → IsQueryHeld files query wanted → mid ≡ old

@@ -1,27 +1,30 @@
 -- Over told files an edit of the library comes to at most one effect.
 --     one_reading, long_not_read     a told file has one text, or is too long
---     one_refusal                    an edit is refused for one thing
+--     one_by_file                    by a molecules' file a command comes to one effect, if by its bytes it does
+--     one_refusal                    one thing is said of the first demand that isn't met
 --     one_edited, one_replace        so `load` and `replace` come to one effect
-use Rattle.std.proofs.Common.{◌≡◌, ℕ, zero, suc, Bool, true, false, inl, inr, List, [], ◌∷◌, ◌++◌, Some, length, refl, sym, ap, subst, ◌∙◌, arith}
+use Rattle.std.proofs.Common.{◌≡◌, ℕ, suc, Bool, true, false, inl, inr, List, [], ◌∷◌, ◌++◌, Some, length, refl, sym, ap, subst, ◌∙◌, arith}
 use Rattle.std.specs.Prelude.{◌↔◌, All, IsTrue}
 use Rattle.std.proofs.lemmas.Bool.Decides.{leb_tells}
 use Rattle.mk_text.specs.Lines.{lines_of}
 use Rattle.mk_outside.specs.declared.tables.Change.{Change}
 use Rattle.mk_outside.specs.declared.tables.Change.TheVariants.{PutRecord}
 use Rattle.mk_outside.specs.declared.tables.RecordRow.{RecordRow}
-use Rattle.mk_outside.specs.declared.tables.Tables.{Tables}
 use Rattle.mk_sdfile.specs.declared.raw_record.RawRecord.{RawRecord}
-use Rattle.mk_sdfile.specs.Sdfile.{HasOneBadLine, HasOneValue, IsV3000Line}
-use Rattle.mk_mol.specs.FirstFault.{IsFirstFault}
+use Rattle.mk_sdfile.specs.Sdfile.{HasOneBadLine, HasOneValue, IsNamedV3000}
+use Rattle.mk_mol.specs.FirstFault.{IsFirstMoleculeFault}
 use Rattle.mk_mol.specs.Laws.{NoFaultWhereAllPass, OneFirstFault}
 use Rattle.mk_library.specs.declared.refusal.LoadRefusal.{LoadRefusal}
 use Rattle.mk_library.specs.declared.refusal.LoadRefusal.TheVariants as refusal
 use Rattle.mk_library.specs.Edits.{AreChanges, Edit, Load, Remove, Replace, puts_from, texts_of}
-use Rattle.mk_library.specs.FirstRefusal.{Demand, IsAllowed, IsFirstFailing, IsFirstRefusal, IsMoleculeRecord, Says, held_number, kept_limits, molecules, one_record, order, sdfile, short_file, text_of_edit}
+use Rattle.mk_library.specs.FirstRefusal.{Demand, EditDemands, IsFirstFailing, IsFirstRefusal, IsFirstUnmet, IsMoleculeRecord, IsSaidOf, demand_number, text_of_edit}
+use Rattle.mk_library.specs.FirstRefusal.{held_number, kept_limits, molecules, one_record, sdfile, short_file}
+use Rattle.mk_library.specs.Limits.{file_bytes}
+use Rattle.mk_library.proofs.ForCallers.{one_demand}
 use Rattle.mk_effects.specs.Effects.{Answers, Effect, Refuses}
 use Rattle.mk_effects.specs.Files.{IsLong, IsShort, Look}
-use Rattle.mk_effects.specs.Loading.{EditRefused, EditTooLong, Edits, IsEdited, IsFileLine, IsReplace, NoRecordReplaced, ReplacesHeld, replaced_text}
-use Rattle.mk_effects.specs.Match.{molecule_bytes}
+use Rattle.mk_effects.specs.Loading.{IsEditMade, IsEdited, IsReplace, NoRecordReplaced, ReplacesHeld, replaced_text}
+use Rattle.mk_effects.specs.MoleculeFiles.{ComesByFile, GoesByMolecules, IsFileLine, MoleculesRefused, MoleculesTooLong}
 
 -- ---- files
 
@@ -36,28 +39,53 @@ module _ (look : Look) (name : List ℕ) (most : ℕ) where
       let same : p.bytes ≡ bytes = (let f = p.told in let g = q.told in cc) in
       omega (arith, p.long, q.short, ap length same)
 
+-- ---- by a file
+
+-- a refusal has one line
+one_file_line : (said : LoadRefusal) (a b : List ℕ) → IsFileLine said a → IsFileLine said b → a ≡ b
+one_file_line refusal.NoRecord a b p q = absurd p
+one_file_line refusal.FileLarge a b p q = p ∙ sym q
+one_file_line (refusal.Layout k v3000) a b p q = p ∙ sym q
+one_file_line (refusal.NotOne count) a b p q = p ∙ sym q
+one_file_line (refusal.Meaning number check item) a b p q = p ∙ sym q
+one_file_line refusal.Full a b p q = p ∙ sym q
+one_file_line refusal.Memory a b p q = absurd p
+
+module _ (look : Look) (name : List ℕ) (First : List ℕ → LoadRefusal → Type 0) (Comes : List ℕ → Effect → Type 0)
+    (one_first : (bytes : List ℕ) (a b : LoadRefusal) → First bytes a → First bytes b → a ≡ b)
+    (not_both : (bytes : List ℕ) (said : LoadRefusal) (effect : Effect) → First bytes said → Comes bytes effect → ⊥)
+    (one_comes : (bytes : List ℕ) (a b : Effect) → Comes bytes a → Comes bytes b → a ≡ b) where
+  -- bytes that are read twice are the same
+  same_bytes : (bytes others : List ℕ) → IsShort (Some look) file_bytes name bytes → IsShort (Some look) file_bytes name others → others ≡ bytes
+  same_bytes bytes others read read' = one_reading look name file_bytes others bytes read' read
+
+  -- a file that is too long isn't read
+  long_or_read : (bytes : List ℕ) → IsLong (Some look) file_bytes name → IsShort (Some look) file_bytes name bytes → ⊥
+  long_or_read bytes long read = long_not_read look name file_bytes bytes long read
+
+  -- a file that is refused isn't gone by
+  refused_or_not : (bytes others : List ℕ) (said : LoadRefusal) (effect : Effect) → others ≡ bytes → First bytes said → Comes others effect → ⊥
+  refused_or_not bytes others said effect same first comes = not_both bytes said effect first (subst (λ (bs : List ℕ). Comes bs effect) same comes)
+
+  -- by a file a command comes to one effect, where by its bytes it does
+  pub one_by_file : (a b : Effect) → ComesByFile (Some look) name First Comes a → ComesByFile (Some look) name First Comes b → a ≡ b
+  one_by_file a b (MoleculesTooLong long is) (MoleculesTooLong long' is') = is ∙ sym is'
+  one_by_file a b (MoleculesTooLong long is) (MoleculesRefused bytes read said first line says is') = absurd (long_or_read bytes long read)
+  one_by_file a b (MoleculesTooLong long is) (GoesByMolecules bytes read comes) = absurd (long_or_read bytes long read)
+  one_by_file a b (MoleculesRefused bytes read said first line says is) (MoleculesTooLong long is') = absurd (long_or_read bytes long read)
+  one_by_file a b (MoleculesRefused bytes read said first line says is) (MoleculesRefused others read' said' first' line' says' is') =
+      let here = subst (λ (bs : List ℕ). First bs said') (same_bytes bytes others read read') first' in
+      let same = one_first bytes said' said here first in
+      is ∙ ap Refuses (one_file_line said line line' says (subst (λ (s : LoadRefusal). IsFileLine s line') same says')) ∙ sym is'
+  one_by_file a b (MoleculesRefused bytes read said first line says is) (GoesByMolecules others read' comes) =
+      absurd (refused_or_not bytes others said b (same_bytes bytes others read read') first comes)
+  one_by_file a b (GoesByMolecules bytes read comes) (MoleculesTooLong long is') = absurd (long_or_read bytes long read)
+  one_by_file a b (GoesByMolecules bytes read comes) (MoleculesRefused others read' said first line says is') =
+      absurd (refused_or_not others bytes said a (same_bytes others bytes read' read) first comes)
+  one_by_file a b (GoesByMolecules bytes read comes) (GoesByMolecules others read' comes') =
+      one_comes bytes a b comes (subst (λ (bs : List ℕ). Comes bs b) (same_bytes bytes others read read') comes')
+
 -- ---- what is said
-
--- the demand of a place
-abbrev demand_at : ℕ → Demand
-demand_at zero = held_number
-demand_at (suc zero) = held_number
-demand_at (suc (suc zero)) = short_file
-demand_at (suc (suc (suc zero))) = sdfile
-demand_at (suc (suc (suc (suc zero)))) = one_record
-demand_at (suc (suc (suc (suc (suc zero))))) = molecules
-demand_at (suc (suc (suc (suc (suc (suc n)))))) = kept_limits
-
-at_order : (demand : Demand) → demand_at (order demand) ≡ demand
-at_order held_number = refl
-at_order short_file = refl
-at_order sdfile = refl
-at_order one_record = refl
-at_order molecules = refl
-at_order kept_limits = refl
-
-one_demand : (a b : Demand) → order a ≡ order b → a ≡ b
-one_demand a b same = sym (at_order a) ∙ ap demand_at same ∙ at_order b
 
 -- two tests of one thing are one
 one_test : (P : Type 0) (a b : Bool) → (IsTrue a ↔ P) → (IsTrue b ↔ P) → a ≡ b
@@ -76,7 +104,7 @@ module _ (one_value : HasOneValue) (one_bad : HasOneBadLine) (one_fault : OneFir
 
   -- the first record that is no molecule is one
   one_front : (xs ys : List RawRecord) (x y : RawRecord) (later later' : List RawRecord) (check item check' item' : ℕ) → xs ++ x ∷ later ≡ ys ++ y ∷ later'
-      → All IsMoleculeRecord xs → All IsMoleculeRecord ys → IsFirstFault x.table check item → IsFirstFault y.table check' item' → (length xs ≡ length ys) × (x ≡ y)
+      → All IsMoleculeRecord xs → All IsMoleculeRecord ys → IsFirstMoleculeFault x.table check item → IsFirstMoleculeFault y.table check' item' → (length xs ≡ length ys) × (x ≡ y)
   one_front [] [] x y later later' check item check' item' whole all all' fault fault' = let same : x ≡ y = cc in (refl, same)
   one_front [] (z ∷ ys) x y later later' check item check' item' whole all all' fault fault' =
       let same : z ≡ x = cc in
@@ -93,16 +121,16 @@ module _ (one_value : HasOneValue) (one_bad : HasOneBadLine) (one_fault : OneFir
   one_failing : (raws : List RawRecord) (n m check check' item item' : ℕ) → IsFirstFailing raws n check item → IsFirstFailing raws m check' item' → (n ≡ m) × (check ≡ check') × (item ≡ item')
   one_failing raws n m check check' item item' p q =
       let both = one_front p.earlier q.earlier p.raw q.raw p.later q.later check item check' item' (sym p.whole ∙ q.whole) p.before q.before p.fails q.fails in
-      let fault = one_fault p.raw.table check item check' item' p.fails (subst (λ (raw : RawRecord). IsFirstFault raw.table check' item') (sym both.1) q.fails) in
+      let fault = one_fault p.raw.table check item check' item' p.fails (subst (λ (raw : RawRecord). IsFirstMoleculeFault raw.table check' item') (sym both.1) q.fails) in
       (omega (arith, p.counted, q.counted, both.0), fault.0, fault.1)
 
   -- one thing is said of a demand
-  pub one_said : (text : List ℕ) (demand : Demand) (a b : LoadRefusal) → Says text demand a → Says text demand b → a ≡ b
+  pub one_said : (text : List ℕ) (demand : Demand) (a b : LoadRefusal) → IsSaidOf text demand a → IsSaidOf text demand b → a ≡ b
   one_said text held_number a b p q = p ∙ sym q
   one_said text short_file a b p q = p ∙ sym q
   one_said text sdfile a b p q =
       let line : p.0 ≡ q.0 = one_bad (lines_of text) p.0 q.0 p.3 q.3 in
-      let test : p.1 ≡ q.1 = one_test (IsV3000Line (lines_of text) q.0) p.1 q.1 (subst (λ (k : ℕ). IsTrue p.1 ↔ IsV3000Line (lines_of text) k) line p.4) q.4 in
+      let test : p.1 ≡ q.1 = one_test (IsNamedV3000 (lines_of text) q.0) p.1 q.1 (subst (λ (k : ℕ). IsTrue p.1 ↔ IsNamedV3000 (lines_of text) k) line p.4) q.4 in
       p.2 ∙ ap (λ (k : ℕ). refusal.Layout k p.1) line ∙ ap (λ (v : Bool). refusal.Layout q.0 v) test ∙ sym q.2
   one_said text one_record a b p q = p.2 ∙ ap (λ (raws : List RawRecord). refusal.NotOne (length raws)) (one_value (lines_of text) p.0 q.0 p.1 q.1) ∙ sym q.2
   one_said text molecules a b p q =
@@ -111,15 +139,15 @@ module _ (one_value : HasOneValue) (one_bad : HasOneBadLine) (one_fault : OneFir
       p.5 ∙ ap (λ (n : ℕ). refusal.Meaning n p.2 p.3) same.0 ∙ ap (λ (n : ℕ). refusal.Meaning q.1 n p.3) same.1 ∙ ap (λ (n : ℕ). refusal.Meaning q.1 q.2 n) same.2 ∙ sym q.5
   one_said text kept_limits a b p q = p ∙ sym q
 
-  -- an edit is refused for one thing
-  one_refusal : (records : List RecordRow) (next : ℕ) (edit : Edit) (a b : LoadRefusal) → IsFirstRefusal records next edit a → IsFirstRefusal records next edit b → a ≡ b
-  one_refusal records next edit a b p q = elim (leb_tells (suc (order p.demand)) (order q.demand)) [
+  -- one thing is said of the first of some demands that isn't met
+  pub one_refusal : (Demands : Demand → Type 0) (text : List ℕ) (a b : LoadRefusal) → IsFirstUnmet Demands text a → IsFirstUnmet Demands text b → a ≡ b
+  one_refusal Demands text a b p q = elim (leb_tells (suc (demand_number p.demand)) (demand_number q.demand)) [
     | inl below ↦ absurd (p.fails (q.before p.demand (omega (arith, below.1))))
-    | inr above ↦ elim (leb_tells (suc (order q.demand)) (order p.demand)) [
+    | inr above ↦ elim (leb_tells (suc (demand_number q.demand)) (demand_number p.demand)) [
       | inl below ↦ absurd (q.fails (p.before q.demand (omega (arith, below.1))))
       | inr other ↦
           let same : q.demand ≡ p.demand = one_demand q.demand p.demand (omega (arith, above.1, other.1)) in
-          one_said (text_of_edit edit) p.demand a b p.says (subst (λ (d : Demand). Says (text_of_edit edit) d b) same q.says)
+          one_said text p.demand a b p.says (subst (λ (d : Demand). IsSaidOf text d b) same q.says)
     ]
   ]
 
@@ -134,43 +162,25 @@ module _ (one_value : HasOneValue) (one_bad : HasOneBadLine) (one_fault : OneFir
 
   -- ---- effects
 
-  one_file_line : (said : LoadRefusal) (a b : List ℕ) → IsFileLine said a → IsFileLine said b → a ≡ b
-  one_file_line refusal.NoRecord a b p q = absurd p
-  one_file_line refusal.FileLarge a b p q = p ∙ sym q
-  one_file_line (refusal.Layout k v3000) a b p q = p ∙ sym q
-  one_file_line (refusal.NotOne count) a b p q = p ∙ sym q
-  one_file_line (refusal.Meaning number check item) a b p q = p ∙ sym q
-  one_file_line refusal.Full a b p q = p ∙ sym q
-  one_file_line refusal.Memory a b p q = absurd p
+  module _ (look : Look) (records : List RecordRow) (next : ℕ) (name : List ℕ) (edit : List ℕ → Edit) (answer : List Change → List ℕ) where
+    -- an edit that is made isn't refused
+    made_not_refused : (bytes : List ℕ) (said : LoadRefusal) (effect : Effect) → IsFirstRefusal records next (edit bytes) said → IsEditMade records next (edit bytes) answer effect → ⊥
+    made_not_refused bytes said effect first made = first.fails (made.allowed.met first.demand)
 
-  module _ (look : Look) (t : Tables) (name : List ℕ) (edit : List ℕ → Edit) (answer : List Change → List ℕ) where
-    same_bytes : (bytes others : List ℕ) → IsShort (Some look) molecule_bytes name bytes → IsShort (Some look) molecule_bytes name others → others ≡ bytes
-    same_bytes bytes others read read' = one_reading look name molecule_bytes others bytes read' read
+    -- and it is made in one way
+    one_made : (bytes : List ℕ) (a b : Effect) → IsEditMade records next (edit bytes) answer a → IsEditMade records next (edit bytes) answer b → a ≡ b
+    one_made bytes a b p q =
+        let same = one_change next (edit bytes) p.changes q.changes p.allowed.are q.allowed.are in
+        p.answered ∙ ap (λ (cs : List Change). Answers cs (answer cs)) same ∙ sym q.answered
 
-    not_both : (bytes others : List ℕ) (changes : List Change) (said : LoadRefusal) → others ≡ bytes → IsAllowed t.records t.next_record (edit bytes) changes → IsFirstRefusal t.records t.next_record (edit others) said → ⊥
-    not_both bytes others changes said same allowed first =
-        let here : IsFirstRefusal t.records t.next_record (edit bytes) said = subst (λ (bs : List ℕ). IsFirstRefusal t.records t.next_record (edit bs) said) same first in
-        here.fails (allowed.met here.demand)
+    pub one_edited : (a b : Effect) → IsEdited (Some look) records next name edit answer a → IsEdited (Some look) records next name edit answer b → a ≡ b
+    one_edited =
+        one_by_file look name (λ (bytes : List ℕ). IsFirstRefusal records next (edit bytes)) (λ (bytes : List ℕ). IsEditMade records next (edit bytes) answer)
+        (λ bytes a b p q. one_refusal (EditDemands records next (edit bytes)) (text_of_edit (edit bytes)) a b p q) made_not_refused one_made
 
-    pub one_edited : (a b : Effect) → IsEdited (Some look) t name edit answer a → IsEdited (Some look) t name edit answer b → a ≡ b
-    one_edited a b (EditTooLong long is) (EditTooLong long' is') = is ∙ sym is'
-    one_edited a b (EditTooLong long is) (EditRefused bytes read said first line says is') = absurd (long_not_read look name molecule_bytes bytes long read)
-    one_edited a b (EditTooLong long is) (Edits bytes read changes allowed is') = absurd (long_not_read look name molecule_bytes bytes long read)
-    one_edited a b (EditRefused bytes read said first line says is) (EditTooLong long is') = absurd (long_not_read look name molecule_bytes bytes long read)
-    one_edited a b (EditRefused bytes read said first line says is) (EditRefused others read' said' first' line' says' is') =
-        let here = subst (λ (bs : List ℕ). IsFirstRefusal t.records t.next_record (edit bs) said') (same_bytes bytes others read read') first' in
-        let same = one_refusal t.records t.next_record (edit bytes) said' said here first in
-        is ∙ ap Refuses (one_file_line said line line' says (subst (λ (s : LoadRefusal). IsFileLine s line') same says')) ∙ sym is'
-    one_edited a b (EditRefused bytes read said first line says is) (Edits others read' changes allowed is') = absurd (not_both others bytes changes said (same_bytes others bytes read' read) allowed first)
-    one_edited a b (Edits bytes read changes allowed is) (EditTooLong long is') = absurd (long_not_read look name molecule_bytes bytes long read)
-    one_edited a b (Edits bytes read changes allowed is) (EditRefused others read' said first line says is') = absurd (not_both bytes others changes said (same_bytes bytes others read read') allowed first)
-    one_edited a b (Edits bytes read changes allowed is) (Edits others read' changes' allowed' is') =
-        let here = subst (λ (bs : List ℕ). IsAllowed t.records t.next_record (edit bs) changes') (same_bytes bytes others read read') allowed' in
-        let same = one_change t.next_record (edit bytes) changes changes' allowed.are here.are in
-        is ∙ ap (λ (cs : List Change). Answers cs (answer cs)) same ∙ sym is'
-
-  pub one_replace : (look : Look) (t : Tables) (n : ℕ) (name : List ℕ) (a b : Effect) → IsReplace (Some look) t n name a → IsReplace (Some look) t n name b → a ≡ b
-  one_replace look t n name a b (NoRecordReplaced none is) (NoRecordReplaced none' is') = is ∙ sym is'
-  one_replace look t n name a b (NoRecordReplaced none is) (ReplacesHeld held is') = let h = sym none ∙ held in absurd cc
-  one_replace look t n name a b (ReplacesHeld held is) (NoRecordReplaced none is') = let h = sym none ∙ held in absurd cc
-  one_replace look t n name a b (ReplacesHeld held is) (ReplacesHeld held' is') = one_edited look t name (Replace n) (λ changes. replaced_text n) a b is is'
+  pub one_replace : (look : Look) (records : List RecordRow) (next n : ℕ) (name : List ℕ) (a b : Effect) → IsReplace (Some look) records next n name a
+      → IsReplace (Some look) records next n name b → a ≡ b
+  one_replace look records next n name a b (NoRecordReplaced none is) (NoRecordReplaced none' is') = is ∙ sym is'
+  one_replace look records next n name a b (NoRecordReplaced none is) (ReplacesHeld held is') = let h = sym none ∙ held in absurd cc
+  one_replace look records next n name a b (ReplacesHeld held is) (NoRecordReplaced none is') = let h = sym none ∙ held in absurd cc
+  one_replace look records next n name a b (ReplacesHeld held is) (ReplacesHeld held' is') = one_edited look records next name (Replace n) (λ changes. replaced_text n) a b is is'

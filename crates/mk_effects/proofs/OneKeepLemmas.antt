@@ -4,7 +4,8 @@ use Rattle.std.proofs.Common.{◌≡◌, ℕ, ◌+◌, ◌≤◌, true, false, i
 use Rattle.std.specs.Prelude.{codes}
 use Rattle.mk_model.specs.Queries.{QueryView}
 use Rattle.mk_outside.specs.declared.tables.Change.TheVariants.{PutQuery}
-use Rattle.mk_outside.specs.declared.tables.Tables.{Tables}
+use Rattle.mk_outside.specs.declared.tables.CursorRow.{CursorRow}
+use Rattle.mk_outside.specs.declared.tables.QueryRow.{QueryRow}
 use Rattle.mk_effects.specs.declared.files.HeldQuery.TheVariants.{Query, Refused}
 use Rattle.mk_effects.specs.Effects.{Answers, Effect, Refuses}
 use Rattle.mk_effects.specs.Files.{Look}
@@ -17,12 +18,12 @@ use Rattle.mk_effects.proofs.OneQueryFileLemmas.{one_query_held}
 
 -- ---- query
 
-module _ (t : Tables) (name : List ℕ) where
+module _ (queries : List QueryRow) (name : List ℕ) where
   -- what a text that holds a query comes to: there is no room, or it is kept
   abbrev IsEndOfText : List ℕ → Effect → Type 0
   IsEndOfText text effect =
-      ((HasRoomFor t.queries (kept_text text) → ⊥) × (effect ≡ Refuses full_queries_text))
-      ⊎ (HasRoomFor t.queries (kept_text text) × (effect ≡ Answers (PutQuery (greatest_number t.queries + 1) name (kept_text text) ∷ []) (named_line (codes "kept ") name)))
+      ((HasRoomFor queries (kept_text text) → ⊥) × (effect ≡ Refuses full_queries_text))
+      ⊎ (HasRoomFor queries (kept_text text) × (effect ≡ Answers (PutQuery (greatest_number queries + 1) name (kept_text text) ∷ []) (named_line (codes "kept ") name)))
 
   one_end_of_text : (text : List ℕ) (a b : Effect) → IsEndOfText text a → IsEndOfText text b → a ≡ b
   one_end_of_text text a b (inl p) (inl q) = p.1 ∙ sym q.1
@@ -50,11 +51,11 @@ module _ (t : Tables) (name : List ℕ) where
 
   -- the name is held, or there are as many queries as there may be, or it goes by the file
   data IsEndOfKeep (look : Look) (file : List ℕ) (effect : Effect) : Type 0 where
-    OfName : is_named name t.queries ≡ true → effect ≡ Refuses (name_held_text name) → IsEndOfKeep look file effect
-    OfFull : is_named name t.queries ≡ false → most_queries ≤ length t.queries → effect ≡ Refuses full_queries_text → IsEndOfKeep look file effect
-    OfFile : IsFree t name → IsEndOfFile look file effect → IsEndOfKeep look file effect
+    OfName : is_named name queries ≡ true → effect ≡ Refuses (name_held_text name) → IsEndOfKeep look file effect
+    OfFull : is_named name queries ≡ false → most_queries ≤ length queries → effect ≡ Refuses full_queries_text → IsEndOfKeep look file effect
+    OfFile : IsFree queries name → IsEndOfFile look file effect → IsEndOfKeep look file effect
 
-  end_of_keep : (look : Look) (file : List ℕ) (effect : Effect) → IsKeep (Some look) t name file effect → IsEndOfKeep look file effect
+  end_of_keep : (look : Look) (file : List ℕ) (effect : Effect) → IsKeep (Some look) queries name file effect → IsEndOfKeep look file effect
   end_of_keep look file effect (NameIsHeld held is) = OfName held is
   end_of_keep look file effect (QueriesAreFull new full is) = OfFull new full is
   end_of_keep look file effect (FileIsRefused free line refused is) = OfFile free (OfRefused line refused is)
@@ -72,13 +73,13 @@ module _ (t : Tables) (name : List ℕ) where
   one_end_of_keep laws look file a b (OfFile free end) (OfFull new full f) = absurd (omega (arith, full, free.few))
   one_end_of_keep laws look file a b (OfFile free end) (OfFile free' end') = one_end_of_file laws look file a b end end'
 
-pub one_keep : HasQueryLaws → (look : Look) (t : Tables) (name file : List ℕ) (a b : Effect) → IsKeep (Some look) t name file a → IsKeep (Some look) t name file b → a ≡ b
-one_keep laws look t name file a b p q = one_end_of_keep t name laws look file a b (end_of_keep t name look file a p) (end_of_keep t name look file b q)
+pub one_keep : HasQueryLaws → (look : Look) (queries : List QueryRow) (name file : List ℕ) (a b : Effect) → IsKeep (Some look) queries name file a → IsKeep (Some look) queries name file b → a ≡ b
+one_keep laws look queries name file a b p q = one_end_of_keep queries name laws look file a b (end_of_keep queries name look file a p) (end_of_keep queries name look file b q)
 
 -- ---- forget
 
-pub one_forget : (t : Tables) (name : List ℕ) (a b : Effect) → IsForget t name a → IsForget t name b → a ≡ b
-one_forget t name a b (NoQueryForgotten none is) (NoQueryForgotten none' is') = is ∙ sym is'
-one_forget t name a b (NoQueryForgotten none is) (Forgets held is') = let h = sym none ∙ held in absurd cc
-one_forget t name a b (Forgets held is) (NoQueryForgotten none is') = let h = sym none ∙ held in absurd cc
-one_forget t name a b (Forgets held is) (Forgets held' is') = is ∙ sym is'
+pub one_forget : (queries : List QueryRow) (cursors : List CursorRow) (name : List ℕ) (a b : Effect) → IsForget queries cursors name a → IsForget queries cursors name b → a ≡ b
+one_forget queries cursors name a b (NoQueryForgotten none is) (NoQueryForgotten none' is') = is ∙ sym is'
+one_forget queries cursors name a b (NoQueryForgotten none is) (Forgets held is') = let h = sym none ∙ held in absurd cc
+one_forget queries cursors name a b (Forgets held is) (NoQueryForgotten none is') = let h = sym none ∙ held in absurd cc
+one_forget queries cursors name a b (Forgets held is) (Forgets held' is') = is ∙ sym is'

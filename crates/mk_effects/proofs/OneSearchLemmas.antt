@@ -12,7 +12,7 @@ use Rattle.mk_outside.specs.declared.tables.CursorRow.{CursorRow}
 use Rattle.mk_outside.specs.declared.tables.QueryRow.{QueryRow}
 use Rattle.mk_outside.specs.declared.tables.Tables.{Tables}
 use Rattle.mk_effects.specs.Effects.{Answers, Effect, Refuses}
-use Rattle.mk_effects.specs.Hits.{IsHitsText}
+use Rattle.mk_effects.specs.Hits.{IsHitsText, stop_of}
 use Rattle.mk_effects.specs.Queries.{no_query_text}
 use Rattle.mk_kept.specs.QueryText.{IsQueryOfText}
 use Rattle.mk_kept.specs.Saved.{is_named, HasSearchRoom}
@@ -46,8 +46,9 @@ one_listed laws t name place limit c batch a b p q =
     let query : q.query ≡ p.query = one_named laws t.queries name q.query p.query q.named p.named in
     let other : IsListing t.records p.query place limit c q.keys q.text = subst (λ (x : QueryView). IsListing t.records x place limit c q.keys q.text) query q.listing in
     let keys : q.keys ≡ p.keys = one_list_is_first limit (Remains (IsMoleculeAt t.records) p.query place) q.keys p.keys other.first p.listing.first in
-    let text : p.text ≡ q.text =
-    one_hits_text p.query p.keys limit c p.text q.text p.listing.lines (subst (λ (ks : List (List ℕ)). IsHitsText p.query ks limit c q.text) keys other.lines) in
+    let lines : IsHitsText p.query p.keys (stop_of (nat_lt (length p.keys) limit) c) q.text =
+    subst (λ (ks : List (List ℕ)). IsHitsText p.query ks (stop_of (nat_lt (length ks) limit) c) q.text) keys other.lines in
+    let text : p.text ≡ q.text = one_hits_text p.query p.keys (stop_of (nat_lt (length p.keys) limit) c) p.text q.text p.listing.lines lines in
     p.ends ∙ ap (λ (ks : List (List ℕ)). Answers (batch ks) p.text) (sym keys) ∙ ap (Answers (batch q.keys)) text ∙ sym q.ends
 
 -- ---- search

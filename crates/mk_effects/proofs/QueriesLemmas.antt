@@ -2,7 +2,7 @@
 --     kept_is_meant                  what is kept of a text means what the text means
 --     keep_fits                      keeping a query fits
 --     forget_ready, forget_fits      so does dropping one with its saved searches
-use Rattle.std.proofs.Common.{◌≡◌, ℕ, ◌<◌, ◌≤◌, Bool, true, false, not, ◌||◌, List, [], ◌∷◌, ◌++◌, length, map, filter, bytes_eq, nat_eq, refl, sym, ap, ◌∙◌, arith}
+use Rattle.std.proofs.Common.{◌≡◌, ℕ, ◌<◌, ◌≤◌, Bool, true, false, not, ◌||◌, List, [], ◌∷◌, ◌++◌, length, map, filter, bytes_eq, nat_eq, refl, sym, ap, subst, ◌∙◌, arith}
 use Rattle.std.specs.Prelude.{Result, Ok, Err, IfOk}
 use Rattle.std.specs.List.{AllByRecursion, list_any}
 use Rattle.std.proofs.lemmas.Bool.{cond_both, true≢false}
@@ -16,15 +16,15 @@ use Rattle.mk_outside.specs.declared.tables.QueryRow.{QueryRow}
 use Rattle.mk_outside.specs.Rows as outside
 use Rattle.mk_outside.specs.Store.{cursor_puts, query_puts}
 use Rattle.mk_outside.specs.Tables.{cursor_number}
+use Rattle.mk_library.specs.Library.{LibraryView}
 use Rattle.mk_library.specs.Pending.{InTurn}
-use Rattle.mk_effects.specs.declared.files.HeldQuery.TheVariants.{Refused}
 use Rattle.mk_kept.specs.Names.{IsName}
 use Rattle.mk_effects.specs.declared.effect.Found.{Found}
 use Rattle.mk_effects.specs.declared.effect.Found.TheVariants as found
 use Rattle.mk_effects.specs.Effects.{Effect, Refuses}
 use Rattle.mk_effects.specs.Queries.{drop_of, forget_changes, full_queries_text, kept_text}
 use Rattle.mk_kept.specs.QueryText.{IsQueryOfText}
-use Rattle.mk_effects.specs.Findings.{effect_of}
+use Rattle.mk_effects.specs.Findings.{FoundFits, effect_of}
 use Rattle.mk_kept.specs.Saved.{HasRoomFor, IsMeant, SavedView, is_named, is_waiting, kept_tables, most_queries}
 use Rattle.mk_kept.specs.SavedPending.{AreReady, IsInPlace, SavedFits, SavedPendingView}
 
@@ -36,6 +36,11 @@ pub full_if : {E : Type 0} {P : Effect → Type 0} (r : Result Found E) → IfOk
 full_if (Ok f) is p = p (effect_of f) (ap effect_of is)
 full_if (Err e) is p = tt
 
+-- a refusal fits over every library
+pub refusal_fits : {E : Type 0} (r : Result Found E) (line : List ℕ) → IfOk r (λ f. f ≡ found.Refused line) → (library : LibraryView) (saved : SavedView) → IfOk r (FoundFits library saved)
+refusal_fits (Ok f) line is library saved = subst (FoundFits library saved) (sym is) tt
+refusal_fits (Err e) line is library saved = tt
+
 -- what is kept of a text means what the text means
 pub kept_is_meant : KeptLinesAreKept → KeptTextIsTheQuery → (text : List ℕ) (query : QueryView) → IsQueryOfText text query → IsMeant (kept_text text) query
 kept_is_meant are same text query is = record {
@@ -44,7 +49,8 @@ kept_is_meant are same text query is = record {
 }
 
 pub keep_fits : (saved : SavedView) (pending : SavedPendingView) (number : ℕ) (name text : List ℕ) → pending.changes ≡ PutQuery number name text ∷ []
-    → AllByRecursion (λ (row : QueryRow). row.number < number) saved.queries → is_named name saved.queries ≡ false → length saved.queries < most_queries → HasRoomFor saved.queries text → 1 ≤ saved.query_room
+    → AllByRecursion (λ (row : QueryRow). row.number < number) saved.queries → is_named name saved.queries ≡ false
+    → length saved.queries < most_queries → HasRoomFor saved.queries text → 1 ≤ saved.query_room
     → SavedFits saved pending
 keep_fits saved pending number name text is above new few room spare = record {
   places = rw is (((above, new, few, room.bytes), tt));
@@ -92,8 +98,14 @@ among_fewer : (name : List ℕ) (drop : CursorRow) (drops rows : List CursorRow)
 unfolding outside.without
 among_fewer name drop drops [] all = tt
 among_fewer name drop drops (row ∷ rows) all =
-    cond_both (not (nat_eq row.number drop.number)) (row ∷ filter (λ x. not (nat_eq (cursor_number x) drop.number)) rows) (filter (λ x. not (nat_eq (cursor_number x) drop.number)) rows) (AreAmong name drops)
-    (λ other. ((λ is. not_first (nat_eq drop.number row.number) (list_any (λ (d : CursorRow). nat_eq d.number row.number) drops) (all.0 is) (turned row.number drop.number (not_false (nat_eq row.number drop.number) other))), among_fewer name drop drops rows all.1))
+    cond_both (not (nat_eq row.number drop.number)) (row ∷ filter (λ x. not (nat_eq (cursor_number x) drop.number))
+    rows) (filter (λ x. not (nat_eq (cursor_number x) drop.number)) rows) (AreAmong name drops)
+    (λ other. (
+      (λ is. not_first (nat_eq drop.number row.number)
+          (list_any (λ (d : CursorRow). nat_eq d.number row.number) drops) (all.0 is)
+          (turned row.number drop.number (not_false (nat_eq row.number drop.number) other))),
+      among_fewer name drop drops rows all.1,
+    ))
     (λ _. among_fewer name drop drops rows all.1)
   where
     turned : (a b : ℕ) → nat_eq a b ≡ false → nat_eq b a ≡ false

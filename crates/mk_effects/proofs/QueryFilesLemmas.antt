@@ -17,6 +17,7 @@ query_held_by files name (Some text) (Refused line) read is = QueryTextRefused t
 -- ---- files
 
 -- a file that is refused once it is read
-pub refused_by : (files : Option Look) (file : List ℕ) (bytes : Option (List ℕ)) (line : List ℕ) → IsFoundAs files query_bytes file bytes → IsHeldQuery bytes (Refused line) → IsQueryRefused files file line
+pub refused_by : (files : Option Look) (file : List ℕ) (bytes : Option (List ℕ)) (line : List ℕ)
+    → IsFoundAs files query_bytes file bytes → IsHeldQuery bytes (Refused line) → IsQueryRefused files file line
 refused_by files file None line read held = QueryTooLong read held
 refused_by files file (Some text) line read held = QueryTextRefused text read held

@@ -1,5 +1,6 @@
 -- What `search` and `resume` come to.
 --     first_over_records, parts_over_records     the first keys over the molecules of a library, as those over its records
+--     begins_over_records     how often is begun over the molecules of a library, over its records
 --     put_fits, drop_fits                        the changes of a saved search fit
 --     refused_if                                 what is said of a refusal
 use Rattle.std.proofs.Common.{◌≡◌, ℕ, ◌≤◌, true, false, List, [], ◌∷◌, nat_eq, Some, refl, sym, ap, ◌∙◌, subst, arith}
@@ -17,7 +18,9 @@ use Rattle.mk_mol.specs.Filled.{IsFilled}
 use Rattle.mk_mol.specs.Laws.{OneFilledMolecule}
 use Rattle.mk_outside.specs.declared.tables.Change.TheVariants.{PutCursor, DropCursor}
 use Rattle.mk_outside.specs.declared.tables.RecordRow.{RecordRow}
-use Rattle.mk_library.specs.Records.{AreHeld, IsMoleculeOf, text_of}
+use Rattle.mk_library.specs.Records.{AreHeld, IsMoleculeOf, text_under}
+use Rattle.mk_search.specs.declared.pages.Page.{Page}
+use Rattle.mk_search.specs.Begins.{BeginsOfPage}
 use Rattle.mk_search.specs.Pages.{IsHeldIn}
 use Rattle.mk_effects.specs.declared.effect.Found.{Found}
 use Rattle.mk_effects.specs.declared.effect.Found.TheVariants as found
@@ -28,7 +31,7 @@ use Rattle.mk_kept.specs.Saved.{SavedView, is_named}
 use Rattle.mk_kept.specs.SavedPending.{SavedFits, SavedPendingView}
 use Rattle.mk_effects.specs.Searching.{IsMoleculeAt}
 use Rattle.mk_effects.proofs.HitLinesLemmas.{have_parts}
-use Rattle.mk_effects.proofs.ListingsLemmas.{key_of}
+use Rattle.mk_effects.proofs.ListingsLemmas.{begins_over, key_of}
 use Rattle.mk_kept.proofs.ForCallers.{some_same}
 
 -- ---- the molecules of records
@@ -59,12 +62,13 @@ item_is_at (r ∷ records) (x ∷ rows) n mol held is =
     is
 
 -- and the molecule of a record stands beside it
-at_is_item : OneFilledMolecule → HasOneValue → (records : List RecordRow) (rows : List (Numbered Molecule)) (n : ℕ) (mol : Molecule) → AreHeld records rows → IsMoleculeAt records n mol → IsHeldIn rows n mol
+at_is_item : OneFilledMolecule → HasOneValue → (records : List RecordRow) (rows : List (Numbered Molecule)) (n : ℕ)
+    (mol : Molecule) → AreHeld records rows → IsMoleculeAt records n mol → IsHeldIn rows n mol
 at_is_item filled sdfile [] [] n mol held at = let h = at.held in cc
 at_is_item filled sdfile [] (x ∷ rows) n mol held at = absurd held
 at_is_item filled sdfile (r ∷ records) [] n mol held at = absurd held
 at_is_item filled sdfile (r ∷ records) (x ∷ rows) n mol held at =
-    cond_both (nat_eq r.number n) (Some r.text) (text_of n records) (λ found. found ≡ Some at.text → IsHeldIn (x ∷ rows) n mol)
+    cond_both (nat_eq r.number n) (Some r.text) (text_under n records) (λ found. found ≡ Some at.text → IsHeldIn (x ∷ rows) n mol)
     (λ here. λ this.
     let there : nat_eq x.number n ≡ true = ap (λ k. nat_eq k n) (sym held.0) ∙ here in
     let of_text : IsMoleculeOf r.text mol = subst (λ text. IsMoleculeOf text mol) (sym (some_same r.text at.text this)) at.is in
@@ -85,6 +89,12 @@ first_over_records filled sdfile records rows query place limit keys held first 
   few = first.few;
   others = λ key is. first.others key (key_of (IsMoleculeAt records) (IsHeldIn rows) query key (λ n mol h. at_is_item filled sdfile records rows n mol held h) is.0, is.1);
 }
+
+-- how often is begun over the molecules of a library is how often over those of its records
+pub begins_over_records : (records : List RecordRow) (rows : List (Numbered Molecule)) (query : QueryView) (place : List ℕ) (page : Page) (old new : ℕ) → AreHeld records rows
+    → BeginsOfPage (IsHeldIn rows) query place page old new → BeginsOfPage (IsMoleculeAt records) query place page old new
+begins_over_records records rows query place page old new held =
+    begins_over (IsHeldIn rows) (IsMoleculeAt records) query place page old new (λ n mol h. item_is_at records rows n mol held h)
 
 pub parts_over_records : (records : List RecordRow) (query : QueryView) (place : List ℕ) (limit : ℕ) (keys : List (List ℕ))
     → AreFirst limit (Remains (IsMoleculeAt records) query place) keys → HaveParts query keys

@@ -13,8 +13,8 @@ use Rattle.mk_effects.specs.declared.effect.Found.{Found}
 use Rattle.mk_effects.specs.declared.effect.Found.TheVariants as found
 use Rattle.mk_effects.specs.declared.effect.StepFail.{StepFail}
 use Rattle.mk_effects.specs.declared.effect.StepFail.TheVariants as fail
-use Rattle.mk_effects.specs.declared.effect.Edit.{Edit}
-use Rattle.mk_effects.specs.declared.effect.Edit.TheVariants as edit
+use Rattle.mk_effects.specs.declared.effect.SessionEdit.{SessionEdit}
+use Rattle.mk_effects.specs.declared.effect.SessionEdit.TheVariants as edit
 use Rattle.mk_library.specs.Library.{LibraryView}
 use Rattle.mk_library.specs.Pending.{PendingFits}
 use Rattle.mk_kept.specs.Saved.{SavedView}
@@ -23,8 +23,8 @@ use Rattle.mk_effects.specs.Effects.{Answers, Effect, Refuses}
 use Rattle.mk_effects.specs.Files.{IsThere, Look}
 
 -- the changes that an edit stands for
-abbrev pub changes_of : Edit → List Change
-changes_of edit.Nothing = []
+abbrev pub changes_of : SessionEdit → List Change
+changes_of edit.Unchanged = []
 changes_of (edit.OfRecords pending) = pending.changes
 changes_of (edit.OfSaved pending) = pending.changes
 
@@ -44,8 +44,8 @@ stands_for library saved = record {
 }
 
 -- the session can make the edit without memory
-abbrev pub EditFits : LibraryView → SavedView → Edit → Type 0
-EditFits library saved edit.Nothing = ⊤
+abbrev pub EditFits : LibraryView → SavedView → SessionEdit → Type 0
+EditFits library saved edit.Unchanged = ⊤
 EditFits library saved (edit.OfRecords pending) = PendingFits library pending
 EditFits library saved (edit.OfSaved pending) = SavedFits saved pending
 

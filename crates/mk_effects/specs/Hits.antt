@@ -2,12 +2,15 @@
 --     HasParts query key               a key in its parts
 --     IsHitLine query key line         the line of a key: its record, its choice and its map
 --     AreHitLines query keys lines     the lines of keys, in order
---     last_line listed most c          whether there may be more
---     IsHitsText query keys most c text    a line for each key, and the last line
-use Rattle.std.specs.Prelude.{◌≡◌, ℕ, List, [], ◌∷◌, ◌++◌, All, length, nat_lt, codes, decimal, if◌then◌else◌}
+--     stop_line stop                   the last line, by where the list stops
+--     stop_of ended c                  where a list stops that is whole or not
+--     IsHitsText query keys stop text      a line for each key, and the last line
+use Rattle.std.specs.Prelude.{◌≡◌, ℕ, Bool, List, [], ◌∷◌, ◌++◌, All, codes, decimal, if◌then◌else◌}
 use Rattle.std.specs.List.{flat_map}
 use Rattle.mk_model.specs.Codes.{IsCode}
 use Rattle.mk_model.specs.Queries.{QueryView}
+use Rattle.mk_effects.specs.declared.effect.Stop.{Stop}
+use Rattle.mk_effects.specs.declared.effect.Stop.TheVariants as stop
 
 -- ---- the line of a key
 
@@ -44,15 +47,22 @@ abbrev pub AreHitLines : QueryView → List (List ℕ) → List ℕ → Type 0
 AreHitLines query [] lines = lines ≡ []
 AreHitLines query (key ∷ keys) lines = (line : List ℕ) × (others : List ℕ) × IsHitLine query key line × AreHitLines query keys others × (lines ≡ line ++ others)
 
--- `more` and a number exactly where as many are listed as may be, else `end`
-abbrev pub last_line : ℕ → ℕ → ℕ → List ℕ
-last_line listed most c = if nat_lt listed most then codes "end\n" else codes "more " ++ (decimal c ++ codes "\n")
+-- ---- where they stop
 
--- the lines of the listed keys, and the last line
-pub record IsHitsText (query : QueryView) (keys : List (List ℕ)) (most c : ℕ) (text : List ℕ) : Type 0 where
+-- the last line of an answer: `end`, or `more` and the number under which the list goes on
+abbrev pub stop_line : Stop → List ℕ
+stop_line stop.Ended = codes "end\n"
+stop_line (stop.More c) = codes "more " ++ (decimal c ++ codes "\n")
+
+-- a whole list ends, and behind any other there may be more, under the number c
+abbrev pub stop_of : Bool → ℕ → Stop
+stop_of ended c = if ended then stop.Ended else stop.More c
+
+-- the lines of the listed keys, and the line that says where they stop
+pub record IsHitsText (query : QueryView) (keys : List (List ℕ)) (listed : Stop) (text : List ℕ) : Type 0 where
   pub lines : List ℕ
   pub are_lines : AreHitLines query keys lines
-  pub whole : text ≡ lines ++ last_line (length keys) most c
+  pub whole : text ≡ lines ++ stop_line listed
 
 -- ---- for the code
 

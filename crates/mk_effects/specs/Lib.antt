@@ -3,12 +3,13 @@ pub mod Answers
 pub mod Files
 pub mod Fails
 pub mod QueryFiles
+pub mod MoleculeFiles
 pub mod Hits
 pub mod Match
-pub mod Matching
 pub mod Records
 pub mod Queries
 pub mod Searching
+pub mod Ticks
 pub mod Loading
 pub mod Drilling
 pub mod Findings

@@ -1,8 +1,8 @@
 -- The commands `query NAME FILE` and `forget NAME`.
---     IsFree t name                        the name is new, and one more query may be held
---     IsKeep files t name file effect      what `query` comes to
---     IsTurnOfKeep t name file n           the turn of the file comes
---     IsForget t name effect               what `forget` comes to
+--     IsFree queries name                      the name is new, and one more query may be held
+--     IsKeep files queries name file effect    what `query` comes to
+--     IsTurnOfKeep queries name file n         the turn of the file comes
+--     IsForget queries cursors name effect     what `forget` comes to
 use Rattle.std.specs.Prelude.{◌≡◌, ℕ, ◌+◌, ◌<◌, ◌≤◌, true, false, List, [], ◌∷◌, ◌++◌, length, map, filter, bytes_eq, Option, codes}
 use Rattle.mk_model.specs.Queries.{QueryView}
 use Rattle.mk_text.specs.KeptLines.{kept_lines}
@@ -10,7 +10,7 @@ use Rattle.mk_text.specs.Lines.{lines_of}
 use Rattle.mk_outside.specs.declared.tables.Change.{Change}
 use Rattle.mk_outside.specs.declared.tables.Change.TheVariants.{PutQuery, DropQuery, DropCursor}
 use Rattle.mk_outside.specs.declared.tables.CursorRow.{CursorRow}
-use Rattle.mk_outside.specs.declared.tables.Tables.{Tables}
+use Rattle.mk_outside.specs.declared.tables.QueryRow.{QueryRow}
 use Rattle.mk_effects.specs.Effects.{Answers, Effect, Refuses}
 use Rattle.mk_effects.specs.Files.{Look}
 use Rattle.mk_effects.specs.QueryFiles.{IsQueryHeld, IsQueryRefused}
@@ -34,24 +34,24 @@ abbrev pub kept_text : List ℕ → List ℕ
 kept_text text = kept_lines (lines_of text)
 
 -- no query has the name, and there are fewer than 1,000
-pub record IsFree (t : Tables) (name : List ℕ) : Type 0 where
-  pub new : is_named name t.queries ≡ false
-  pub few : length t.queries < most_queries
+pub record IsFree (queries : List QueryRow) (name : List ℕ) : Type 0 where
+  pub new : is_named name queries ≡ false
+  pub few : length queries < most_queries
 
 -- The query of the file is kept under the name and the number above all. The file plays no part
 -- where the name is held or there are 1,000 queries.
-pub data IsKeep (files : Option Look) (t : Tables) (name file : List ℕ) (effect : Effect) : Type 0 where
-  NameIsHeld : is_named name t.queries ≡ true → effect ≡ Refuses (name_held_text name) → IsKeep files t name file effect
-  QueriesAreFull : is_named name t.queries ≡ false → most_queries ≤ length t.queries → effect ≡ Refuses full_queries_text → IsKeep files t name file effect
-  FileIsRefused : IsFree t name → (line : List ℕ) → IsQueryRefused files file line → effect ≡ Refuses line → IsKeep files t name file effect
-  TextsAreFull : IsFree t name → (query : QueryView) (held : IsQueryHeld files file query) → ¬ (HasRoomFor t.queries (kept_text held.bytes))
-      → effect ≡ Refuses full_queries_text → IsKeep files t name file effect
-  Keeps : IsFree t name → (query : QueryView) (held : IsQueryHeld files file query) → HasRoomFor t.queries (kept_text held.bytes)
-      → effect ≡ Answers (PutQuery (greatest_number t.queries + 1) name (kept_text held.bytes) ∷ []) (named_line (codes "kept ") name) → IsKeep files t name file effect
+pub data IsKeep (files : Option Look) (queries : List QueryRow) (name file : List ℕ) (effect : Effect) : Type 0 where
+  NameIsHeld : is_named name queries ≡ true → effect ≡ Refuses (name_held_text name) → IsKeep files queries name file effect
+  QueriesAreFull : is_named name queries ≡ false → most_queries ≤ length queries → effect ≡ Refuses full_queries_text → IsKeep files queries name file effect
+  FileIsRefused : IsFree queries name → (line : List ℕ) → IsQueryRefused files file line → effect ≡ Refuses line → IsKeep files queries name file effect
+  TextsAreFull : IsFree queries name → (query : QueryView) (held : IsQueryHeld files file query) → ¬ (HasRoomFor queries (kept_text held.bytes))
+      → effect ≡ Refuses full_queries_text → IsKeep files queries name file effect
+  Keeps : IsFree queries name → (query : QueryView) (held : IsQueryHeld files file query) → HasRoomFor queries (kept_text held.bytes)
+      → effect ≡ Answers (PutQuery (greatest_number queries + 1) name (kept_text held.bytes) ∷ []) (named_line (codes "kept ") name) → IsKeep files queries name file effect
 
 -- the turn of the file comes where the name is new and there are fewer than 1,000 queries
-pub record IsTurnOfKeep (t : Tables) (name file n : List ℕ) : Type 0 where
-  pub free : IsFree t name
+pub record IsTurnOfKeep (queries : List QueryRow) (name file n : List ℕ) : Type 0 where
+  pub free : IsFree queries name
   pub is : n ≡ file
 
 -- ---- forget NAME
@@ -69,6 +69,6 @@ abbrev pub forget_changes : List ℕ → List CursorRow → List Change
 forget_changes name cursors = map drop_of (filter (λ row. bytes_eq row.name name) cursors) ++ DropQuery name ∷ []
 
 -- what `forget` of this name comes to
-pub data IsForget (t : Tables) (name : List ℕ) (effect : Effect) : Type 0 where
-  NoQueryForgotten : is_named name t.queries ≡ false → effect ≡ Refuses (no_query_text name) → IsForget t name effect
-  Forgets : is_named name t.queries ≡ true → effect ≡ Answers (forget_changes name t.cursors) (named_line (codes "forgot ") name) → IsForget t name effect
+pub data IsForget (queries : List QueryRow) (cursors : List CursorRow) (name : List ℕ) (effect : Effect) : Type 0 where
+  NoQueryForgotten : is_named name queries ≡ false → effect ≡ Refuses (no_query_text name) → IsForget queries cursors name effect
+  Forgets : is_named name queries ≡ true → effect ≡ Answers (forget_changes name cursors) (named_line (codes "forgot ") name) → IsForget queries cursors name effect

@@ -1,7 +1,7 @@
 -- The commands `show N`, `remove N` and `list`.
---     IsShow t n effect        what `show n` comes to
---     IsRemove t n effect      what `remove n` comes to
---     list_text t              what `list` answers
+--     IsShow records n effect      what `show n` comes to
+--     IsRemove records n effect    what `remove n` comes to
+--     list_text t                  what `list` answers
 use Rattle.std.specs.Prelude.{◌≡◌, ℕ, List, [], ◌∷◌, ◌++◌, length, true, false, Some, codes, decimal}
 use Rattle.std.specs.List.{flat_map}
 use Rattle.mk_text.specs.Lines.{lines_of}
@@ -11,7 +11,7 @@ use Rattle.mk_outside.specs.declared.tables.QueryRow.{QueryRow}
 use Rattle.mk_outside.specs.declared.tables.CursorRow.{CursorRow}
 use Rattle.mk_outside.specs.declared.tables.Tables.{Tables}
 use Rattle.mk_rows.specs.declared.by_number.Numbered.{Numbered}
-use Rattle.mk_library.specs.Records.{is_held, text_of}
+use Rattle.mk_library.specs.Records.{is_held, text_under}
 use Rattle.mk_effects.specs.Effects.{Answers, Effect, Refuses}
 
 -- a word, a number, and the end of the line
@@ -29,16 +29,16 @@ abbrev pub record_text : ℕ → List ℕ → List ℕ
 record_text n text = codes "record " ++ (decimal n ++ (codes " " ++ (decimal (length (lines_of text)) ++ (codes "\n" ++ text))))
 
 -- what `show` of this number comes to
-pub data IsShow (t : Tables) (n : ℕ) (effect : Effect) : Type 0 where
-  NoRecordShown : is_held n t.records ≡ false → effect ≡ Refuses (no_record_text n) → IsShow t n effect
-  Shows : (text : List ℕ) → text_of n t.records ≡ Some text → effect ≡ Answers [] (record_text n text) → IsShow t n effect
+pub data IsShow (records : List RecordRow) (n : ℕ) (effect : Effect) : Type 0 where
+  NoRecordShown : is_held n records ≡ false → effect ≡ Refuses (no_record_text n) → IsShow records n effect
+  Shows : (text : List ℕ) → text_under n records ≡ Some text → effect ≡ Answers [] (record_text n text) → IsShow records n effect
 
 -- ---- remove N
 
 -- what `remove` of this number comes to
-pub data IsRemove (t : Tables) (n : ℕ) (effect : Effect) : Type 0 where
-  NoRecordRemoved : is_held n t.records ≡ false → effect ≡ Refuses (no_record_text n) → IsRemove t n effect
-  Removes : is_held n t.records ≡ true → effect ≡ Answers (DropRecord n ∷ []) (numbered_line (codes "removed ") n) → IsRemove t n effect
+pub data IsRemove (records : List RecordRow) (n : ℕ) (effect : Effect) : Type 0 where
+  NoRecordRemoved : is_held n records ≡ false → effect ≡ Refuses (no_record_text n) → IsRemove records n effect
+  Removes : is_held n records ≡ true → effect ≡ Answers (DropRecord n ∷ []) (numbered_line (codes "removed ") n) → IsRemove records n effect
 
 -- ---- list
 

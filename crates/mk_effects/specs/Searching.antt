@@ -6,7 +6,7 @@
 --                                                          on, and their lines
 --     IsSearch t name limit effect         what `search` comes to
 --     IsResume t c limit effect            what `resume` comes to
-use Rattle.std.specs.Prelude.{◌≡◌, ℕ, ◌≤◌, false, List, [], ◌∷◌, length, Some, None, codes, ◌<◌}
+use Rattle.std.specs.Prelude.{◌≡◌, ℕ, ◌≤◌, false, List, [], ◌∷◌, length, nat_lt, Some, None, codes, ◌<◌}
 use Rattle.mk_text.specs.Rising.{AreFirst, place_behind}
 use Rattle.mk_model.specs.Keys.{Remains}
 use Rattle.mk_model.specs.Molecules.{Molecule}
@@ -15,9 +15,9 @@ use Rattle.mk_outside.specs.declared.tables.Change.TheVariants.{PutCursor, DropC
 use Rattle.mk_outside.specs.declared.tables.CursorRow.{CursorRow}
 use Rattle.mk_outside.specs.declared.tables.RecordRow.{RecordRow}
 use Rattle.mk_outside.specs.declared.tables.Tables.{Tables}
-use Rattle.mk_library.specs.Records.{IsMoleculeOf, text_of}
+use Rattle.mk_library.specs.Records.{IsMoleculeOf, text_under}
 use Rattle.mk_effects.specs.Effects.{Answers, Effect, Refuses}
-use Rattle.mk_effects.specs.Hits.{IsHitsText}
+use Rattle.mk_effects.specs.Hits.{IsHitsText, stop_of}
 use Rattle.mk_effects.specs.Queries.{no_query_text}
 use Rattle.mk_effects.specs.Records.{numbered_line}
 use Rattle.mk_kept.specs.Saved.{is_named, HasSearchRoom}
@@ -32,14 +32,14 @@ IsLimit n = (1 ≤ n) × (n ≤ 10000)
 -- the molecule is the filled molecule of the text of the record under the number
 pub record IsMoleculeAt (records : List RecordRow) (n : ℕ) (mol : Molecule) : Type 0 where
   pub text : List ℕ
-  pub held : text_of n records ≡ Some text
+  pub held : text_under n records ≡ Some text
   pub is : IsMoleculeOf text mol
 
 -- The keys are the first so many of those that remain from the place on, over the molecules of the
 -- records. Their lines are the text, which names the number c where there may be more.
 pub record IsListing (records : List RecordRow) (query : QueryView) (place : List ℕ) (limit c : ℕ) (keys : List (List ℕ)) (text : List ℕ) : Type 0 where
   pub first : AreFirst limit (Remains (IsMoleculeAt records) query place) keys
-  pub lines : IsHitsText query keys limit c text
+  pub lines : IsHitsText query keys (stop_of (nat_lt (length keys) limit) c) text
 
 -- ---- search NAME LIMIT
 

@@ -4,7 +4,7 @@ ghost use Rattle.mk_effects.specs.Drilling.{IsDrillAnswer};
 ghost use Rattle.mk_effects.specs.Findings.{effect_of};
 ghost use Rattle.mk_effects.specs.Searching.{IsLimit};
 
-use crate::{Edit, Found};
+use crate::{Found, SessionEdit};
 use mk_drill::drill;
 use mk_outside::{Bytes, Memory};
 use std::alloc::Global;
@@ -16,5 +16,5 @@ pub fn drill_found(alloc: Global, start: u32, count: u32) -> Result<Found, Memor
 {
     let mut line = Vec::new(alloc);
     drill(alloc, start, count, &mut line)?;
-    Ok(Found::Answered(Edit::Nothing, Bytes::of(line)))
+    Ok(Found::Answered(SessionEdit::Unchanged, Bytes::of(line)))
 }

@@ -10,8 +10,8 @@ use thiserror::Error;
 
 /// What a command changes.
 #[derive(Drop)]
-pub enum Edit {
-    Nothing,
+pub enum SessionEdit {
+    Unchanged,
     /// Records, by a change that is made ready.
     OfRecords(Pending),
     /// Queries and saved searches, by a change that is made ready.
@@ -24,7 +24,16 @@ pub enum Found {
     /// It is refused with this line.
     Refused(Bytes),
     /// It makes this edit, and answers with this text.
-    Answered(Edit, Bytes),
+    Answered(SessionEdit, Bytes),
+}
+
+/// Where a list of hits stops.
+#[derive(Clone, Copy)]
+pub enum Stop {
+    /// It is whole.
+    Ended,
+    /// There may be more, which are listed under this number.
+    More(u32),
 }
 
 /// Why a command came to no end.

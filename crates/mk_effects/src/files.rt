@@ -1,46 +1,31 @@
-// Files within their limits, and what is made of those of `match` once they are read.
-ghost use Rattle.std.specs.Prelude.{◌≡◌, ◌≤◌, ◌<◌, ◌^◌, ℕ, List, Option, Some, All, IfOk, length};
+// Files within their limits, and what is made of them once they are read.
+ghost use Rattle.std.specs.Prelude.{◌≡◌, ◌≢◌, ◌≤◌, List, Option, ℕ, Some, IfOk};
 ghost use Rattle.mk_outside.specs.Counts.{Counts};
 ghost use Rattle.mk_outside.specs.Told.{is_failed_read};
-ghost use Rattle.mk_ctab.specs.TableFacts.{IsRawTable};
-ghost use Rattle.mk_effects.specs.Files.{IsFoundAs, IsShort, IsThere, Look};
-ghost use Rattle.mk_effects.specs.Match.{molecule_bytes};
-ghost use Rattle.mk_effects.specs.Matching.{IsHeldBy, IsHeldOf, IsHeldTable, IsWithin};
-ghost use Rattle.mk_effects.specs.QueryFiles.{IsHeldQuery, query_bytes};
+ghost use Rattle.mk_library.specs.declared.refusal.LoadRefusal.TheVariants as refusal;
 ghost use Rattle.mk_kept.specs.QueryText.{IsTextSaid};
+ghost use Rattle.mk_effects.specs.Files.{IsFoundAs, IsThere, IsWithin};
+ghost use Rattle.mk_effects.specs.MoleculeFiles.{IsFileLine};
+ghost use Rattle.mk_effects.specs.QueryFiles.{IsHeldQuery, query_bytes};
 
 use crate::answers::{
-    bad_line, bad_query_line, failed_check, failed_query_check, long_molecules, long_query,
+    bad_line, bad_query_line, failed_check, failed_query_check, full, long_molecules, long_query,
     not_one, v3000_line, v3000_query_line,
 };
-use mk_ctab::{RawTable, TableFault};
 use mk_kept::{QueryText, query_of};
-use mk_model::{Mol, Query};
-use mk_mol::{PrepareFault, prepare};
+use mk_library::LoadRefusal;
+use mk_model::Query;
 use mk_outside::{Bytes, FileFail, Files, Memory, ReadEnd};
-use mk_sdfile::{RawRecord, read_sdfile};
 use std::alloc::Global;
 
 /// How many bytes a query's file may have.
 pub const QUERY_BYTES: usize = 4_194_304;
-
-/// How many bytes a molecules' file may have.
-pub const MOLECULE_BYTES: usize = 67_108_864;
 
 /// What is made of a query's file.
 #[derive(Drop)]
 pub enum HeldQuery {
     /// It holds this query.
     Query(Query),
-    /// It is refused with this line.
-    Refused(Bytes),
-}
-
-/// What is made of the molecules' file.
-#[derive(Drop)]
-pub enum Held {
-    /// It holds one record with this molecule.
-    Molecule(Mol),
     /// It is refused with this line.
     Refused(Bytes),
 }
@@ -96,54 +81,23 @@ fn judge_said(alloc: Global, said: QueryText) -> Result<HeldQuery, Memory>
     }
 }
 
-/// Judges the molecules' file. None is a file over its limit.
-pub fn judge_molecules(alloc: Global, bytes: Option<Bytes>) -> Result<Held, Memory>
-    requires { IsWithin molecule_bytes bytes }
-    ensures { (files : Option Look) (name : List ℕ) → IsFoundAs files molecule_bytes name bytes → IfOk result (IsHeldBy files name) }
+/// The line with which a molecules' file is refused.
+pub fn file_line(alloc: Global, said: LoadRefusal) -> Result<Vec<u8>, Memory>
+    requires { said ≢ refusal.NoRecord }
+    ensures { IfOk result (λ line. IsFileLine said line.items) }
 {
-    let Some(text) = bytes else {
-        return Ok(Held::Refused(Bytes::of(long_molecules(alloc)?)));
-    };
-    judge_text(alloc, text.as_slice())
-}
-
-// What a file within its limit holds.
-fn judge_text(alloc: Global, text: &[u8]) -> Result<Held, Memory>
-    requires { length text.now ≤ 67108864 }
-    ensures { (files : Option Look) (name : List ℕ) → IsShort files molecule_bytes name text.now → IfOk result (IsHeldBy files name) }
-{
-    match read_sdfile(alloc, text) {
-        Ok(records) => judge_records(alloc, records.as_slice()),
-        Err(TableFault::Bad { line }) => Ok(Held::Refused(Bytes::of(bad_line(alloc, line)?))),
-        Err(TableFault::V3000 { line }) => Ok(Held::Refused(Bytes::of(v3000_line(alloc, line)?))),
-        Err(TableFault::Memory) => Err(Memory),
-    }
-}
-
-// The molecule of the one record, or how many there are.
-fn judge_records(alloc: Global, records: &[RawRecord]) -> Result<Held, Memory>
-    requires kept { All (λ only. IsRawTable only.table) records.now }
-    requires fewer { All (λ only. length only.table.props < 2 ^ 32) records.now }
-    ensures { IfOk result (IsHeldOf records.now) }
-{
-    let [only] = records else {
-        return Ok(Held::Refused(Bytes::of(not_one(alloc, records.len())?)));
-    };
-    judge_table(alloc, &only.table)
-}
-
-// The molecule of a record, or the check that it fails.
-fn judge_table(alloc: Global, table: &RawTable) -> Result<Held, Memory>
-    requires few_atoms { length table.now.atoms ≤ 999 }
-    requires few_bonds { length table.now.bonds ≤ 999 }
-    requires few_properties { length table.now.props < 2 ^ 32 }
-    ensures { IfOk result (IsHeldTable table.now) }
-{
-    match prepare(alloc, table) {
-        Ok(mol) => Ok(Held::Molecule(mol)),
-        Err(PrepareFault::Check { check, item }) => {
-            Ok(Held::Refused(Bytes::of(failed_check(alloc, 1, check, item)?)))
-        }
-        Err(PrepareFault::Memory) => Err(Memory),
+    match said {
+        LoadRefusal::NoRecord => unreachable!(),
+        LoadRefusal::FileLarge => long_molecules(alloc),
+        LoadRefusal::Layout { line, v3000: true } => v3000_line(alloc, line),
+        LoadRefusal::Layout { line, v3000: false } => bad_line(alloc, line),
+        LoadRefusal::NotOne { count } => not_one(alloc, count as usize),
+        LoadRefusal::Meaning {
+            number,
+            check,
+            item,
+        } => failed_check(alloc, number, check, item),
+        LoadRefusal::Full => full(alloc),
+        LoadRefusal::Memory => Err(Memory),
     }
 }

@@ -1,32 +1,49 @@
 // The lines of hits.
 ghost use Rattle.std.specs.Prelude.{◌≡◌, ◌∷◌, ◌++◌, IfOk, OnOk};
-ghost use Rattle.mk_effects.specs.Hits.{AreHitLines, HasParts, HaveParts, IsHitsText, PutsLine, hit_line, numbers_text};
+ghost use Rattle.mk_effects.specs.Hits.{AreHitLines, HasParts, HaveParts, IsHitsText, PutsLine, hit_line, numbers_text, stop_line, stop_of};
 
+use crate::Stop;
 use crate::records::put_numbered;
 use mk_choice::code_within;
 use mk_model::{Key, Query};
+use mk_search::Page;
 use mk_text::{Memory, put_number};
 use std::alloc::Global;
 
-/// The answer that lists these keys, of which at most so many are listed; the number is that behind
-/// `more`.
+/// Where the list of a page stops; the number is that under which there may be more.
+pub fn stop_of(listed: &Page, cursor: u32) -> Stop
+    ensures { result ≡ stop_of listed.now.ended cursor }
+{
+    if listed.ended {
+        Stop::Ended
+    } else {
+        Stop::More(cursor)
+    }
+}
+
+/// The answer that lists these keys, and says where they stop.
 pub fn hits_answer(
     alloc: Global,
     query: &Query,
     keys: &[Key],
-    most: usize,
-    cursor: u32,
+    stop: Stop,
 ) -> Result<Vec<u8>, Memory>
     requires { HaveParts query.now keys.now }
-    ensures { IfOk result (λ answer. IsHitsText query.now keys.now most cursor answer.items) }
+    ensures { IfOk result (λ answer. IsHitsText query.now keys.now stop answer.items) }
 {
     let mut answer = lines_of(alloc, query, keys)?;
-    if keys.len() < most {
-        answer.extend_from_slice(b"end\n")?;
-    } else {
-        put_numbered(alloc, &mut answer, b"more ", u64::from(cursor))?;
-    }
+    put_stop(alloc, &mut answer, stop)?;
     Ok(answer)
+}
+
+// The last line.
+fn put_stop(alloc: Global, answer: &mut Vec<u8>, stop: Stop) -> Result<(), Memory>
+    ensures { OnOk result (answer.new.items ≡ answer.old.items ++ stop_line stop) }
+{
+    match stop {
+        Stop::Ended => answer.extend_from_slice(b"end\n"),
+        Stop::More(cursor) => put_numbered(alloc, answer, b"more ", u64::from(cursor)),
+    }
 }
 
 // The lines of these keys, in order.

@@ -21,7 +21,7 @@ mod records;
 mod searching;
 
 pub use drilling::drill_found;
-pub use effect::{Edit, Found, StepFail};
+pub use effect::{Found, SessionEdit, StepFail, Stop};
 pub use loading::{load_found, replace_found};
 pub use matching::match_found;
 pub use mk_text::Memory;

@@ -1,21 +1,20 @@
 // The commands `load` and `replace`.
-ghost use Rattle.std.specs.Prelude.{◌≡◌, ◌≢◌, ℕ, List, Option, true, IfOk, length};
+ghost use Rattle.std.specs.Prelude.{◌≡◌, ℕ, List, Option, true, IfOk, length};
 ghost use Rattle.mk_outside.specs.declared.tables.Change.{Change};
-ghost use Rattle.mk_library.specs.declared.refusal.LoadRefusal.TheVariants as refusal;
+ghost use Rattle.mk_kept.specs.Saved.{SavedView};
+ghost use Rattle.mk_library.specs.Edits.{Replace};
 ghost use Rattle.mk_library.specs.Library.{IsSame};
+ghost use Rattle.mk_library.specs.Limits.{file_bytes};
 ghost use Rattle.mk_library.specs.Records.{is_held};
-ghost use Rattle.mk_effects.specs.Files.{IsFoundAs, Look};
-ghost use Rattle.mk_effects.specs.Loading.{IsFileLine, IsLoad, IsReplace, IsTurnOfReplace, loaded_text};
-ghost use Rattle.mk_effects.specs.Match.{molecule_bytes};
-ghost use Rattle.mk_effects.specs.Matching.{IsTurnOf};
-ghost use Rattle.mk_effects.specs.Findings.{FoundFits, MissesAt, SeeksSo, effect_of, stands_for};
+ghost use Rattle.mk_effects.specs.Files.{IsFoundAs, IsTurnOf, Look};
+ghost use Rattle.mk_effects.specs.Loading.{IsEdited, IsLoad, IsReplace, IsTurnOfReplace, loaded_text, replaced_text};
+ghost use Rattle.mk_effects.specs.Findings.{FoundFits, MissesAt, SeeksSo, effect_of};
 
-use crate::answers::{bad_line, failed_check, full, long_molecules, not_one, v3000_line};
-use crate::files::{MOLECULE_BYTES, read_within};
+use crate::answers::long_molecules;
+use crate::files::{file_line, read_within};
 use crate::records::{no_record, put_numbered};
-use crate::{Edit, Found, StepFail};
-use mk_kept::Saved;
-use mk_library::{Library, LoadRefusal};
+use crate::{Found, SessionEdit, StepFail};
+use mk_library::{FILE_BYTES, Library};
 use mk_outside::{Bytes, Files, Memory};
 use mk_text::put_number;
 use std::alloc::Global;
@@ -24,32 +23,26 @@ use std::alloc::Global;
 pub fn load_found<F: Files>(
     alloc: Global,
     library: &mut Library,
-    saved: &Saved,
     files: &mut F,
     name: &str,
 ) -> Result<Found, StepFail>
-    ensures sought { SeeksSo (IsLoad (F.look_up files.old) (stands_for library.old saved.now) name.now) (IsTurnOf name.now) (F.faults files.old) (F.faults files.new) result }
-    ensures fits { IfOk result (FoundFits library.new saved.now) }
+    ensures sought { SeeksSo (IsLoad (F.look_up files.old) library.old.records library.old.next_record name.now) (IsTurnOf name.now) (F.faults files.old) (F.faults files.new) result }
+    ensures fits { (saved : SavedView) → IfOk result (FoundFits library.new saved) }
     ensures same { IsSame library.old library.new }
     ensures same_files { F.look_up files.new ≡ F.look_up files.old }
     ensures missed { MissesAt (F.look_up files.old) (IsTurnOf name.now) (F.absences files.old) (F.absences files.new) }
 {
-    let bytes = match read_within(alloc, files, name, MOLECULE_BYTES) {
+    let bytes = match read_within(alloc, files, name, FILE_BYTES) {
         Ok(bytes) => bytes,
         Err(fail) => return Err(StepFail::from(fail)),
     };
-    Ok(load_text(alloc, library, saved, bytes)?)
+    Ok(load_text(alloc, library, bytes)?)
 }
 
 // What the text of its file comes to. None is a file over its limit.
-fn load_text(
-    alloc: Global,
-    library: &mut Library,
-    saved: &Saved,
-    bytes: Option<Bytes>,
-) -> Result<Found, Memory>
-    ensures comes { (files : Option Look) (name : List ℕ) → IsFoundAs files molecule_bytes name bytes → IfOk result (λ found. IsLoad files (stands_for library.old saved.now) name (effect_of found)) }
-    ensures fits { IfOk result (FoundFits library.new saved.now) }
+fn load_text(alloc: Global, library: &mut Library, bytes: Option<Bytes>) -> Result<Found, Memory>
+    ensures comes { (files : Option Look) (name : List ℕ) → IsFoundAs files file_bytes name bytes → IfOk result (λ found. IsLoad files library.old.records library.old.next_record name (effect_of found)) }
+    ensures fits { (saved : SavedView) → IfOk result (FoundFits library.new saved) }
     ensures same { IsSame library.old library.new }
 {
     let Some(text) = bytes else {
@@ -59,7 +52,7 @@ fn load_text(
         Err(said) => Ok(Found::Refused(Bytes::of(file_line(alloc, said)?))),
         Ok(pending) => {
             let answer = loaded(alloc, library.next_number(), pending.changes().len())?;
-            Ok(Found::Answered(Edit::OfRecords(pending), Bytes::of(answer)))
+            Ok(Found::Answered(SessionEdit::OfRecords(pending), Bytes::of(answer)))
         }
     }
 }
@@ -83,25 +76,24 @@ fn loaded(alloc: Global, next: u32, count: usize) -> Result<Vec<u8>, Memory>
 pub fn replace_found<F: Files>(
     alloc: Global,
     library: &mut Library,
-    saved: &Saved,
     files: &mut F,
     number: u32,
     name: &str,
 ) -> Result<Found, StepFail>
-    ensures sought { SeeksSo (IsReplace (F.look_up files.old) (stands_for library.old saved.now) number name.now) (IsTurnOfReplace (stands_for library.old saved.now) number name.now) (F.faults files.old) (F.faults files.new) result }
-    ensures fits { IfOk result (FoundFits library.new saved.now) }
+    ensures sought { SeeksSo (IsReplace (F.look_up files.old) library.old.records library.old.next_record number name.now) (IsTurnOfReplace library.old.records number name.now) (F.faults files.old) (F.faults files.new) result }
+    ensures fits { (saved : SavedView) → IfOk result (FoundFits library.new saved) }
     ensures same { IsSame library.old library.new }
     ensures same_files { F.look_up files.new ≡ F.look_up files.old }
-    ensures missed { MissesAt (F.look_up files.old) (IsTurnOfReplace (stands_for library.old saved.now) number name.now) (F.absences files.old) (F.absences files.new) }
+    ensures missed { MissesAt (F.look_up files.old) (IsTurnOfReplace library.old.records number name.now) (F.absences files.old) (F.absences files.new) }
 {
     if !is_held(library, number) {
         return Ok(no_record(alloc, number)?);
     }
-    let bytes = match read_within(alloc, files, name, MOLECULE_BYTES) {
+    let bytes = match read_within(alloc, files, name, FILE_BYTES) {
         Ok(bytes) => bytes,
         Err(fail) => return Err(StepFail::from(fail)),
     };
-    Ok(replace_text(alloc, library, saved, number, bytes)?)
+    Ok(replace_text(alloc, library, number, bytes)?)
 }
 
 fn is_held(library: &Library, number: u32) -> bool
@@ -117,13 +109,12 @@ fn is_held(library: &Library, number: u32) -> bool
 fn replace_text(
     alloc: Global,
     library: &mut Library,
-    saved: &Saved,
     number: u32,
     bytes: Option<Bytes>,
 ) -> Result<Found, Memory>
     requires { is_held number library.old.records ≡ true }
-    ensures comes { (files : Option Look) (name : List ℕ) → IsFoundAs files molecule_bytes name bytes → IfOk result (λ found. IsReplace files (stands_for library.old saved.now) number name (effect_of found)) }
-    ensures fits { IfOk result (FoundFits library.new saved.now) }
+    ensures comes { (files : Option Look) (name : List ℕ) → IsFoundAs files file_bytes name bytes → IfOk result (λ found. IsEdited files library.old.records library.old.next_record name (Replace number) (λ changes. replaced_text number) (effect_of found)) }
+    ensures fits { (saved : SavedView) → IfOk result (FoundFits library.new saved) }
     ensures same { IsSame library.old library.new }
 {
     let Some(text) = bytes else {
@@ -134,28 +125,7 @@ fn replace_text(
         Ok(pending) => {
             let mut answer = Vec::new(alloc);
             put_numbered(alloc, &mut answer, b"replaced ", u64::from(number))?;
-            Ok(Found::Answered(Edit::OfRecords(pending), Bytes::of(answer)))
+            Ok(Found::Answered(SessionEdit::OfRecords(pending), Bytes::of(answer)))
         }
-    }
-}
-
-// The line with which the file of an edit is refused.
-fn file_line(alloc: Global, said: LoadRefusal) -> Result<Vec<u8>, Memory>
-    requires { said ≢ refusal.NoRecord }
-    ensures { IfOk result (λ line. IsFileLine said line.items) }
-{
-    match said {
-        LoadRefusal::NoRecord => unreachable!(),
-        LoadRefusal::FileLarge => long_molecules(alloc),
-        LoadRefusal::Layout { line, v3000: true } => v3000_line(alloc, line),
-        LoadRefusal::Layout { line, v3000: false } => bad_line(alloc, line),
-        LoadRefusal::NotOne { count } => not_one(alloc, count as usize),
-        LoadRefusal::Meaning {
-            number,
-            check,
-            item,
-        } => failed_check(alloc, number, check, item),
-        LoadRefusal::Full => full(alloc),
-        LoadRefusal::Memory => Err(Memory),
     }
 }

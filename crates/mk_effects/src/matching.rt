@@ -1,17 +1,18 @@
 // The command `match`.
 ghost use Rattle.std.specs.Prelude.{◌≡◌, ◌∷◌, [], ℕ, List, Option, IfOk};
-ghost use Rattle.mk_effects.specs.Files.{Look};
-ghost use Rattle.mk_effects.specs.Match.{IsMatch, IsSearchOfFile, IsTurnOfMatch};
-ghost use Rattle.mk_effects.specs.Matching.{IsHeldBy, IsTurnOf, IsWithin};
+ghost use Rattle.mk_library.specs.FirstRefusal.{HoldsMolecule};
+ghost use Rattle.mk_library.specs.Limits.{file_bytes};
+ghost use Rattle.mk_effects.specs.Files.{IsFoundAs, IsTurnOf, IsWithin, Look};
+ghost use Rattle.mk_effects.specs.Match.{IsMatch, IsSearchOfFile, IsTurnOfMatch, ListsKeys};
 ghost use Rattle.mk_effects.specs.QueryFiles.{IsHeldQuery, query_bytes};
 ghost use Rattle.mk_effects.specs.Findings.{MissesAt, SeeksSo, effect_of};
 
-use crate::files::{
-    Held, HeldQuery, MOLECULE_BYTES, QUERY_BYTES, judge_molecules, judge_query, read_within,
-};
-use crate::hit_lines::hits_answer;
-use crate::{Edit, Found, StepFail};
+use crate::answers::long_molecules;
+use crate::files::{HeldQuery, QUERY_BYTES, file_line, judge_query, read_within};
+use crate::hit_lines::{hits_answer, stop_of};
+use crate::{Found, SessionEdit, StepFail};
 use mk_index::Shelf;
+use mk_library::{FILE_BYTES, OneRecord, one_molecule};
 use mk_model::{Mol, Query, Steps};
 use mk_outside::{Bytes, Files, Memory};
 use mk_search::page;
@@ -65,32 +66,47 @@ fn search_file<F: Files, L: Ledger>(
     ensures same_files { F.look_up files.new ≡ F.look_up files.old }
     ensures missed { MissesAt (F.look_up files.old) (IsTurnOf molecules.now) (F.absences files.old) (F.absences files.new) }
 {
-    let bytes = match read_within(alloc, files, molecules, MOLECULE_BYTES) {
+    let bytes = match read_within(alloc, files, molecules, FILE_BYTES) {
         Ok(bytes) => bytes,
         Err(fail) => return Err(StepFail::from(fail)),
     };
-    let held = judge_molecules(alloc, bytes)?;
-    Ok(answer_of(alloc, wanted, held, steps)?)
+    Ok(search_text(alloc, wanted, bytes, steps)?)
 }
 
-// The refusal, or the hits in the molecule.
-fn answer_of<L: Ledger>(
+// What the bytes of its file come to. None is a file over its limit.
+fn search_text<L: Ledger>(
     alloc: Global,
     wanted: &Query,
-    held: Held,
+    bytes: Option<Bytes>,
     steps: &mut Steps<L>,
 ) -> Result<Found, Memory>
-    ensures { (files : Option Look) (name : List ℕ) → IsHeldBy files name held → IfOk result (λ found. IsSearchOfFile wanted.now files name (effect_of found)) }
+    ensures { (files : Option Look) (name : List ℕ) → IsFoundAs files file_bytes name bytes → IfOk result (λ found. IsSearchOfFile wanted.now files name (effect_of found)) }
 {
-    match held {
-        Held::Refused(line) => Ok(Found::Refused(line)),
-        Held::Molecule(mol) => {
-            let shelf = shelf_of(alloc, mol)?;
-            let listed = page(alloc, &shelf, wanted, &[], MOST_HITS, steps)?;
-            let answer = hits_answer(alloc, wanted, listed.hits.as_slice(), MOST_HITS, 0)?;
-            Ok(Found::Answered(Edit::Nothing, Bytes::of(answer)))
+    let Some(text) = bytes else {
+        return Ok(Found::Refused(Bytes::of(long_molecules(alloc)?)));
+    };
+    match one_molecule(alloc, text.as_slice()) {
+        Err(said) => Ok(Found::Refused(Bytes::of(file_line(alloc, said)?))),
+        Ok(one) => {
+            let OneRecord { text: _, mol } = one;
+            list_keys(alloc, wanted, mol, steps)
         }
     }
+}
+
+// The hits in the molecule.
+fn list_keys<L: Ledger>(
+    alloc: Global,
+    wanted: &Query,
+    mol: Mol,
+    steps: &mut Steps<L>,
+) -> Result<Found, Memory>
+    ensures { (bytes : List ℕ) → HoldsMolecule bytes mol → IfOk result (λ found. ListsKeys wanted.now bytes (effect_of found)) }
+{
+    let shelf = shelf_of(alloc, mol)?;
+    let listed = page(alloc, &shelf, wanted, &[], MOST_HITS, steps)?;
+    let answer = hits_answer(alloc, wanted, listed.hits.as_slice(), stop_of(&listed, 0))?;
+    Ok(Found::Answered(SessionEdit::Unchanged, Bytes::of(answer)))
 }
 
 // The shelf of one molecule, which is record 1.

@@ -4,18 +4,16 @@ ghost use Rattle.mk_outside.specs.declared.tables.Change.TheVariants.{PutQuery};
 ghost use Rattle.mk_library.specs.Library.{LibraryView};
 ghost use Rattle.mk_effects.specs.declared.effect.Found.TheVariants as found;
 ghost use Rattle.mk_kept.specs.Names.{IsName};
-ghost use Rattle.mk_effects.specs.Files.{IsFoundAs, IsShort, Look};
-ghost use Rattle.mk_effects.specs.Matching.{IsWithin};
+ghost use Rattle.mk_effects.specs.Files.{IsFoundAs, IsShort, IsWithin, Look};
 ghost use Rattle.mk_effects.specs.Queries.{IsForget, IsFree, IsKeep, IsTurnOfKeep, forget_changes, full_queries_text, name_held_text, named_line, no_query_text};
 ghost use Rattle.mk_kept.specs.QueryText.{IsQueryOfText};
 ghost use Rattle.mk_effects.specs.QueryFiles.{query_bytes};
-ghost use Rattle.mk_effects.specs.Findings.{FoundFits, MissesAt, SeeksSo, effect_of, stands_for};
+ghost use Rattle.mk_effects.specs.Findings.{FoundFits, MissesAt, SeeksSo, effect_of};
 ghost use Rattle.mk_kept.specs.Saved.{IsMeant, IsSameSaved};
 
 use crate::files::{HeldQuery, QUERY_BYTES, judge_query, read_within};
-use crate::{Edit, Found, StepFail};
+use crate::{Found, SessionEdit, StepFail};
 use mk_kept::{Saved, SavedPending};
-use mk_library::Library;
 use mk_model::Query;
 use mk_outside::{Bytes, Change, Files, Memory};
 use mk_query::kept_text_is_the_query;
@@ -26,18 +24,17 @@ use std::alloc::Global;
 /// What `query` comes to.
 pub fn keep_found<F: Files>(
     alloc: Global,
-    library: &Library,
     saved: &mut Saved,
     files: &mut F,
     name: &str,
     file: &str,
 ) -> Result<Found, StepFail>
     requires { IsName name.now }
-    ensures sought { SeeksSo (IsKeep (F.look_up files.old) (stands_for library.now saved.old) name.now file.now) (IsTurnOfKeep (stands_for library.now saved.old) name.now file.now) (F.faults files.old) (F.faults files.new) result }
-    ensures fits { IfOk result (FoundFits library.now saved.new) }
+    ensures sought { SeeksSo (IsKeep (F.look_up files.old) saved.old.queries name.now file.now) (IsTurnOfKeep saved.old.queries name.now file.now) (F.faults files.old) (F.faults files.new) result }
+    ensures fits { (library : LibraryView) → IfOk result (FoundFits library saved.new) }
     ensures same { IsSameSaved saved.old saved.new }
     ensures same_files { F.look_up files.new ≡ F.look_up files.old }
-    ensures missed { MissesAt (F.look_up files.old) (IsTurnOfKeep (stands_for library.now saved.old) name.now file.now) (F.absences files.old) (F.absences files.new) }
+    ensures missed { MissesAt (F.look_up files.old) (IsTurnOfKeep saved.old.queries name.now file.now) (F.absences files.old) (F.absences files.new) }
 {
     if saved.holds(name.as_bytes()) {
         return Ok(name_held(alloc, name)?);
@@ -49,29 +46,28 @@ pub fn keep_found<F: Files>(
         Ok(bytes) => bytes,
         Err(fail) => return Err(StepFail::from(fail)),
     };
-    Ok(keep_file(alloc, library, saved, name, bytes)?)
+    Ok(keep_file(alloc, saved, name, bytes)?)
 }
 
 // What the bytes of its file come to. None is a file over its limit.
 fn keep_file(
     alloc: Global,
-    library: &Library,
     saved: &mut Saved,
     name: &str,
     bytes: Option<Bytes>,
 ) -> Result<Found, Memory>
     requires name { IsName name.now }
-    requires free { IsFree (stands_for library.now saved.old) name.now }
+    requires free { IsFree saved.old.queries name.now }
     requires within { IsWithin query_bytes bytes }
-    ensures comes { (files : Option Look) (file : List ℕ) → IsFoundAs files query_bytes file bytes → IfOk result (λ found. IsKeep files (stands_for library.now saved.old) name.now file (effect_of found)) }
-    ensures fits { IfOk result (FoundFits library.now saved.new) }
+    ensures comes { (files : Option Look) (file : List ℕ) → IsFoundAs files query_bytes file bytes → IfOk result (λ found. IsKeep files saved.old.queries name.now file (effect_of found)) }
+    ensures fits { (library : LibraryView) → IfOk result (FoundFits library saved.new) }
     ensures same { IsSameSaved saved.old saved.new }
 {
     match judge_query(alloc, &bytes)? {
         HeldQuery::Refused(line) => Ok(Found::Refused(line)),
         HeldQuery::Query(query) => {
             let Some(text) = bytes else { unreachable!() };
-            keep_query(alloc, library, saved, name, text.as_slice(), query)
+            keep_query(alloc, saved, name, text.as_slice(), query)
         }
     }
 }
@@ -79,18 +75,17 @@ fn keep_file(
 // Keeps the lines of a text that means this query, where there is room for them.
 fn keep_query(
     alloc: Global,
-    library: &Library,
     saved: &mut Saved,
     name: &str,
     text: &[u8],
     query: Query,
 ) -> Result<Found, Memory>
     requires name { IsName name.now }
-    requires free { IsFree (stands_for library.now saved.old) name.now }
+    requires free { IsFree saved.old.queries name.now }
     requires short { length text.now ≤ query_bytes }
     requires means { IsQueryOfText text.now query }
-    ensures comes { (files : Option Look) (file : List ℕ) → IsShort files query_bytes file text.now → IfOk result (λ found. IsKeep files (stands_for library.now saved.old) name.now file (effect_of found)) }
-    ensures fits { IfOk result (FoundFits library.now saved.new) }
+    ensures comes { (files : Option Look) (file : List ℕ) → IsShort files query_bytes file text.now → IfOk result (λ found. IsKeep files saved.old.queries name.now file (effect_of found)) }
+    ensures fits { (library : LibraryView) → IfOk result (FoundFits library saved.new) }
     ensures same { IsSameSaved saved.old saved.new }
 {
     kept_text_stays();
@@ -103,7 +98,7 @@ fn keep_query(
     saved.reserve_query()?;
     let pending = put_pending(alloc, number, name, kept, query)?;
     let answer = named(alloc, b"kept ", name)?;
-    Ok(Found::Answered(Edit::OfSaved(pending), answer))
+    Ok(Found::Answered(SessionEdit::OfSaved(pending), answer))
 }
 
 // The change that keeps a query.
@@ -128,15 +123,10 @@ fn put_pending(
 }
 
 /// What `forget` comes to.
-pub fn forget_found(
-    alloc: Global,
-    library: &Library,
-    saved: &Saved,
-    name: &str,
-) -> Result<Found, Memory>
+pub fn forget_found(alloc: Global, saved: &Saved, name: &str) -> Result<Found, Memory>
     requires { IsName name.now }
-    ensures comes { IfOk result (λ found. IsForget (stands_for library.now saved.now) name.now (effect_of found)) }
-    ensures fits { IfOk result (FoundFits library.now saved.now) }
+    ensures comes { IfOk result (λ found. IsForget saved.now.queries saved.now.cursors name.now (effect_of found)) }
+    ensures fits { (library : LibraryView) → IfOk result (FoundFits library saved.now) }
 {
     if !saved.holds(name.as_bytes()) {
         return no_query(alloc, name);
@@ -144,7 +134,7 @@ pub fn forget_found(
     let changes = forget_changes(alloc, saved, name)?;
     let pending = SavedPending::of(changes, Vec::new(alloc));
     let answer = named(alloc, b"forgot ", name)?;
-    Ok(Found::Answered(Edit::OfSaved(pending), answer))
+    Ok(Found::Answered(SessionEdit::OfSaved(pending), answer))
 }
 
 // The changes that drop a query: its saved searches, and then itself.

@@ -6,9 +6,9 @@ ghost use Rattle.mk_effects.specs.declared.effect.Found.TheVariants as found;
 ghost use Rattle.mk_effects.specs.Effects.{Answers};
 ghost use Rattle.mk_effects.specs.Records.{IsRemove, IsShow, cursor_line, list_text, name_line, next_line, no_record_text, numbered_line, query_line, record_line, record_text, row_line};
 ghost use Rattle.mk_effects.specs.Findings.{FoundFits, effect_of, stands_for};
-ghost use Rattle.mk_kept.specs.Saved.{cursor_row, cursors_of, rows_of};
+ghost use Rattle.mk_kept.specs.Saved.{SavedView, cursor_row, cursors_of, rows_of};
 
-use crate::{Edit, Found};
+use crate::{Found, SessionEdit};
 use indexmap::IndexMap;
 use mk_kept::{Kept, Saved, SavedSearch};
 use mk_library::{Library, LoadRefusal};
@@ -18,18 +18,13 @@ use mk_text::{lines, put_number};
 use std::alloc::Global;
 
 /// What `show` comes to.
-pub fn show_found(
-    alloc: Global,
-    library: &Library,
-    saved: &Saved,
-    number: u32,
-) -> Result<Found, Memory>
-    ensures comes { IfOk result (λ found. IsShow (stands_for library.now saved.now) number (effect_of found)) }
-    ensures fits { IfOk result (FoundFits library.now saved.now) }
+pub fn show_found(alloc: Global, library: &Library, number: u32) -> Result<Found, Memory>
+    ensures comes { IfOk result (λ found. IsShow library.now.records number (effect_of found)) }
+    ensures fits { (saved : SavedView) → IfOk result (FoundFits library.now saved) }
 {
     match library.text(number) {
         None => no_record(alloc, number),
-        Some(text) => Ok(Found::Answered(Edit::Nothing, shown(alloc, number, text)?)),
+        Some(text) => Ok(Found::Answered(SessionEdit::Unchanged, shown(alloc, number, text)?)),
     }
 }
 
@@ -48,14 +43,9 @@ fn shown(alloc: Global, number: u32, text: &[u8]) -> Result<Bytes, Memory>
 }
 
 /// What `remove` comes to.
-pub fn remove_found(
-    alloc: Global,
-    library: &mut Library,
-    saved: &Saved,
-    number: u32,
-) -> Result<Found, Memory>
-    ensures comes { IfOk result (λ found. IsRemove (stands_for library.old saved.now) number (effect_of found)) }
-    ensures fits { IfOk result (FoundFits library.new saved.now) }
+pub fn remove_found(alloc: Global, library: &mut Library, number: u32) -> Result<Found, Memory>
+    ensures comes { IfOk result (λ found. IsRemove library.old.records number (effect_of found)) }
+    ensures fits { (saved : SavedView) → IfOk result (FoundFits library.new saved) }
     ensures same { IsSame library.old library.new }
 {
     match library.remove(alloc, number) {
@@ -64,7 +54,7 @@ pub fn remove_found(
         Ok(pending) => {
             let mut text = Vec::new(alloc);
             put_numbered(alloc, &mut text, b"removed ", u64::from(number))?;
-            Ok(Found::Answered(Edit::OfRecords(pending), Bytes::of(text)))
+            Ok(Found::Answered(SessionEdit::OfRecords(pending), Bytes::of(text)))
         }
     }
 }
@@ -88,7 +78,7 @@ pub fn list_found(alloc: Global, library: &Library, saved: &Saved) -> Result<Fou
     put_queries(alloc, &mut text, saved.queries())?;
     put_cursors(alloc, &mut text, saved.cursors())?;
     put_next(alloc, &mut text, library.next_number(), saved.next_cursor())?;
-    Ok(Found::Answered(Edit::Nothing, Bytes::of(text)))
+    Ok(Found::Answered(SessionEdit::Unchanged, Bytes::of(text)))
 }
 
 fn put_records(alloc: Global, text: &mut Vec<u8>, library: &Library) -> Result<(), Memory>

@@ -4,15 +4,17 @@ ghost use Rattle.mk_text.specs.Rising.{place_behind};
 ghost use Rattle.mk_outside.specs.declared.tables.Change.TheVariants.{PutCursor, DropCursor};
 ghost use Rattle.mk_effects.specs.declared.effect.Found.TheVariants as found;
 ghost use Rattle.mk_kept.specs.Names.{IsHeldNumber, IsName};
-ghost use Rattle.mk_effects.specs.Searching.{IsLimit};
 ghost use Rattle.mk_effects.specs.Findings.{FoundFits, effect_of, stands_for};
+ghost use Rattle.mk_effects.specs.Hits.{stop_of};
+ghost use Rattle.mk_effects.specs.Ticks.{BeginsOfResume, BeginsOfSearch};
+ghost use Rattle.mk_search.specs.Begins.{BeginsOfPage};
 ghost use Rattle.mk_kept.specs.Saved.{IsSameSaved, longest_place, most_search_number};
-ghost use Rattle.mk_effects.specs.Searching.{IsListing, IsResume, IsSearch, full_searches_text, no_search_text};
+ghost use Rattle.mk_effects.specs.Searching.{IsLimit, IsListing, IsMoleculeAt, IsResume, IsSearch, full_searches_text, no_search_text};
 
-use crate::hit_lines::hits_answer;
+use crate::hit_lines::{hits_answer, stop_of};
 use crate::queries::no_query;
 use crate::records::put_numbered;
-use crate::{Edit, Found};
+use crate::{Found, SessionEdit, Stop};
 use mk_kept::{Saved, SavedPending};
 use mk_library::Library;
 use mk_model::{Query, Steps};
@@ -35,6 +37,7 @@ pub fn search_found<L: Ledger>(
     requires name { IsName name.now }
     requires limit { IsLimit limit }
     ensures comes { IfOk result (λ found. IsSearch (stands_for library.now saved.old) name.now limit (effect_of found)) }
+    ensures begins { IfOk result (λ found. BeginsOfSearch (stands_for library.now saved.old) name.now limit (effect_of found) steps.old steps.new) }
     ensures fits { IfOk result (FoundFits library.now saved.new) }
     ensures same { IsSameSaved saved.old saved.new }
 {
@@ -45,14 +48,16 @@ pub fn search_found<L: Ledger>(
         return full_searches(alloc);
     }
     let number = saved.next_cursor();
-    let (listed, text) = listed(alloc, library, query, &[], limit, number, steps)?;
-    if listed.ended {
-        return Ok(Found::Answered(Edit::Nothing, text));
+    let (listed, stop, text) = listed(alloc, library, query, &[], limit, number, steps)?;
+    match stop {
+        Stop::Ended => Ok(Found::Answered(SessionEdit::Unchanged, text)),
+        Stop::More(_) => {
+            saved.reserve_cursor()?;
+            let name = Vec::from_slice(alloc, name.as_bytes())?;
+            let pending = put_pending(alloc, number, Bytes::of(name), listed.place)?;
+            Ok(Found::Answered(SessionEdit::OfSaved(pending), text))
+        }
     }
-    saved.reserve_cursor()?;
-    let name = Vec::from_slice(alloc, name.as_bytes())?;
-    let pending = put_pending(alloc, number, Bytes::of(name), listed.place)?;
-    Ok(Found::Answered(Edit::OfSaved(pending), text))
 }
 
 /// What `resume` comes to.
@@ -67,6 +72,7 @@ pub fn resume_found<L: Ledger>(
     requires number { IsHeldNumber number }
     requires limit { IsLimit limit }
     ensures comes { IfOk result (λ found. IsResume (stands_for library.now saved.old) number limit (effect_of found)) }
+    ensures begins { IfOk result (λ found. BeginsOfResume (stands_for library.now saved.old) number limit (effect_of found) steps.old steps.new) }
     ensures fits { IfOk result (FoundFits library.now saved.new) }
     ensures same { IsSameSaved saved.old saved.new }
 {
@@ -77,18 +83,23 @@ pub fn resume_found<L: Ledger>(
         unreachable!()
     };
     let place = search.place.as_slice();
-    let (listed, text) = listed(alloc, library, query, place, limit, number, steps)?;
-    if listed.ended {
-        let pending = drop_pending(alloc, number)?;
-        return Ok(Found::Answered(Edit::OfSaved(pending), text));
+    let (listed, stop, text) = listed(alloc, library, query, place, limit, number, steps)?;
+    match stop {
+        Stop::Ended => {
+            let pending = drop_pending(alloc, number)?;
+            Ok(Found::Answered(SessionEdit::OfSaved(pending), text))
+        }
+        Stop::More(_) => {
+            let name = Bytes::of(Vec::from_slice(alloc, search.name.as_slice())?);
+            saved.reserve_cursor()?;
+            let pending = put_pending(alloc, number, name, listed.place)?;
+            Ok(Found::Answered(SessionEdit::OfSaved(pending), text))
+        }
     }
-    let name = Bytes::of(Vec::from_slice(alloc, search.name.as_slice())?);
-    saved.reserve_cursor()?;
-    let pending = put_pending(alloc, number, name, listed.place)?;
-    Ok(Found::Answered(Edit::OfSaved(pending), text))
 }
 
-// The first keys of the query from the place on, and their lines; the number is that behind `more`.
+// The first keys of the query from the place on, where they stop, and their answer; the number is
+// that under which there may be more.
 fn listed<L: Ledger>(
     alloc: Global,
     library: &Library,
@@ -97,11 +108,13 @@ fn listed<L: Ledger>(
     limit: u32,
     number: u32,
     steps: &mut Steps<L>,
-) -> Result<(Page, Bytes), Memory>
+) -> Result<(Page, Stop, Bytes), Memory>
     requires limit { IsLimit limit }
     requires short { length place.now ≤ longest_place }
-    ensures listing { IfOk result (λ r. IsListing library.now.records query.now place.now limit number r.0.hits r.1) }
+    ensures listing { IfOk result (λ r. IsListing library.now.records query.now place.now limit number r.0.hits r.2) }
+    ensures begins { IfOk result (λ r. BeginsOfPage (IsMoleculeAt library.now.records) query.now place.now r.0 steps.old steps.new) }
     ensures ended { IfOk result (λ r. r.0.ended ≡ nat_lt (length r.0.hits) limit) }
+    ensures stops { IfOk result (λ r. r.1 ≡ stop_of (nat_lt (length r.0.hits) limit) number) }
     ensures behind { IfOk result (λ r. r.0.place ≡ place_behind place.now r.0.hits) }
     ensures short { IfOk result (λ r. length r.0.place ≤ longest_place) }
 {
@@ -112,8 +125,9 @@ fn listed<L: Ledger>(
     let _kept = query.templates();
     let most = limit as usize;
     let listed = page(alloc, library.shelf(), query, place, most, steps)?;
-    let text = hits_answer(alloc, query, listed.hits.as_slice(), most, number)?;
-    Ok((listed, Bytes::of(text)))
+    let stop = stop_of(&listed, number);
+    let text = hits_answer(alloc, query, listed.hits.as_slice(), stop)?;
+    Ok((listed, stop, Bytes::of(text)))
 }
 
 // The change that saves a search.

@@ -48,7 +48,13 @@ module _ {R : Type 0} (stays : R → Bool) where
   left_at (x ∷ rows) [] others row is =
       cond_both (stays x) (x ∷ filter stays rows) (filter stays rows) (λ (left : List R). left ≡ row ∷ others → IsLeftAt stays (x ∷ rows) [] row)
       (λ stands. λ e. let same : x ≡ row = cc in record { before = []; later = rows; whole = ap (λ (r : R). r ∷ rows) same; fewer = refl })
-      (λ gone. λ e. let at = left_at rows [] others row e in record { before = x ∷ at.before; later = at.later; whole = ap (λ (rs : List R). x ∷ rs) at.whole; fewer = at.fewer ∙ filter_later x at.before gone })
+      (λ gone. λ e. let at = left_at rows [] others row e
+      in record {
+        before = x ∷ at.before;
+        later = at.later;
+        whole = ap (λ (rs : List R). x ∷ rs) at.whole;
+        fewer = at.fewer ∙ filter_later x at.before gone;
+      })
       is
   left_at (x ∷ rows) (y ∷ front) others row is =
       cond_both (stays x) (x ∷ filter stays rows) (filter stays rows) (λ (left : List R). left ≡ y ∷ front ++ row ∷ others → IsLeftAt stays (x ∷ rows) (y ∷ front) row)
@@ -57,11 +63,18 @@ module _ {R : Type 0} (stays : R → Bool) where
       let rest : filter stays rows ≡ front ++ row ∷ others = cc in
       let at = left_at rows front others row rest in
       record { before = x ∷ at.before; later = at.later; whole = ap (λ (rs : List R). x ∷ rs) at.whole; fewer = (λ j. same j ∷ at.fewer j) ∙ filter_first x at.before stands })
-      (λ gone. λ e. let at = left_at rows (y ∷ front) others row e in record { before = x ∷ at.before; later = at.later; whole = ap (λ (rs : List R). x ∷ rs) at.whole; fewer = at.fewer ∙ filter_later x at.before gone })
+      (λ gone. λ e. let at = left_at rows (y ∷ front) others row e
+      in record {
+        before = x ∷ at.before;
+        later = at.later;
+        whole = ap (λ (rs : List R). x ∷ rs) at.whole;
+        fewer = at.fewer ∙ filter_later x at.before gone;
+      })
       is
 
   -- rows of which some are left out read where each reads with fewer before it
-  pub filter_reads : (Reads : List R → R → Type 0) → ((front : List R) (row : R) → Reads front row → Reads (filter stays front) row) → (rows : List R) → EachReads Reads rows → EachReads Reads (filter stays rows)
+  pub filter_reads : (Reads : List R → R → Type 0) → ((front : List R) (row : R) → Reads front row
+      → Reads (filter stays front) row) → (rows : List R) → EachReads Reads rows → EachReads Reads (filter stays rows)
   filter_reads Reads still rows each = λ front row others whole.
       let at = left_at rows front others row whole in
       subst (λ (f : List R). Reads f row) (sym at.fewer) (still at.before row (each at.before row at.later at.whole))
@@ -91,7 +104,14 @@ module _ {R : Type 0} (number : R → ℕ) (new : R) where
       (λ stands. λ e.
       let same : y ≡ new = cc in
       let rest : rows ≡ front ++ row ∷ others = cc in
-      record { before = x ∷ front; former = row; later = others; whole = ap (λ (rs : List R). x ∷ rs) rest; numbers = ap (λ (n : ℕ). n ∷ map number front) (ap number same ∙ sym (eqb-true _ _ stands)); is = inl refl })
+      record {
+        before = x ∷ front;
+        former = row;
+        later = others;
+        whole = ap (λ (rs : List R). x ∷ rs) rest;
+        numbers = ap (λ (n : ℕ). n ∷ map number front) (ap number same ∙ sym (eqb-true _ _ stands));
+        is = inl refl;
+      })
       (λ gone. λ e.
       let same : y ≡ x = cc in
       let rest : in_place number new rows ≡ front ++ row ∷ others = cc in

@@ -113,7 +113,9 @@ search_is_held c row (x ∷ rows) found =
     found
 
 -- and its place is short
-pub place_is_kept : (c : ℕ) (row : CursorRow) (rows : List CursorRow) → AllByRecursion (λ (x : CursorRow). length x.place ≤ longest_place) rows → search_of c rows ≡ Some row → length row.place ≤ longest_place
+pub place_is_kept : (c : ℕ) (row : CursorRow) (rows : List CursorRow)
+    → AllByRecursion (λ (x : CursorRow). length x.place ≤ longest_place) rows → search_of c rows ≡ Some row
+    → length row.place ≤ longest_place
 place_is_kept c row [] all found = absurd cc
 place_is_kept c row (x ∷ rows) all found =
     cond_both (nat_eq x.number c) (Some x) (search_of c rows) (λ (o : Option CursorRow). o ≡ Some row → length row.place ≤ longest_place)

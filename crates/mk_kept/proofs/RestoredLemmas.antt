@@ -60,7 +60,8 @@ cursor_fails A t queries next rows (begin.BadStore kind n) are is those each rea
 cursor_fails A t queries next rows begin.Memory are is those each reads = tt
 
 -- both kinds read
-pub both_read : (A B : Type 0) (t : Tables) (queries rows : List QueryRow) (next : ℕ) (cursors : List CursorRow) (a : A) (b : B) → rows ≡ t.queries → queries ≡ t.queries → next ≡ t.next_cursor → cursors ≡ t.cursors
+pub both_read : (A B : Type 0) (t : Tables) (queries rows : List QueryRow) (next : ℕ) (cursors : List CursorRow) (a : A)
+    (b : B) → rows ≡ t.queries → queries ≡ t.queries → next ≡ t.next_cursor → cursors ≡ t.cursors
     → ReadsRows {A = A} ReadsQuery query_number Queries rows (Ok a) → ReadsRows {A = B} (ReadsCursor queries next) cursor_number Cursors cursors (Ok b) → RecordsRead t → AllRead t
 both_read A B t queries rows next cursors a b these are is those reads others records = record {
   records = records;

@@ -23,7 +23,9 @@ use Rattle.mk_kept.proofs.StoredRowsLemmas.{read_more}
 -- ---- queries
 
 -- with a query more, each saved search still has its query
-still_named : (queries later : List QueryRow) (next : ℕ) (cursors : List CursorRow) → ((row : CursorRow) (before others : List CursorRow) → cursors ≡ before ++ row ∷ others → is_named row.name queries ≡ true → is_named row.name later ≡ true)
+still_named : (queries later : List QueryRow) (next : ℕ) (cursors : List CursorRow)
+    → ((row : CursorRow) (before others : List CursorRow) → cursors ≡ before ++ row ∷ others
+    → is_named row.name queries ≡ true → is_named row.name later ≡ true)
     → EachReads (ReadsCursor queries next) cursors → EachReads (ReadsCursor later next) cursors
 still_named queries later next cursors still each =
     each_for (ReadsCursor queries next) (ReadsCursor later next) cursors
@@ -103,7 +105,8 @@ other_left : (name other : List ℕ) (rows : List QueryRow) → bytes_eq other n
 unfolding without_name
 other_left name other [] differs named = cc
 other_left name other (x ∷ rows) differs named =
-    cond_both (not (bytes_eq x.name name)) (x ∷ filter (λ (row : QueryRow). not (bytes_eq row.name name)) rows) (filter (λ (row : QueryRow). not (bytes_eq row.name name)) rows) (λ left. is_named other left ≡ true)
+    cond_both (not (bytes_eq x.name name)) (x ∷ filter (λ (row : QueryRow). not (bytes_eq row.name name)) rows)
+    (filter (λ (row : QueryRow). not (bytes_eq row.name name)) rows) (λ left. is_named other left ≡ true)
     (λ _. or_rest (bytes_eq x.name other) (is_named other rows) (is_named other (filter (λ (row : QueryRow). not (bytes_eq row.name name)) rows)) (other_left name other rows differs) named)
     (λ gone.
     let same : x.name ≡ name = (bytes_eq-Decides x.name name).0 (not_false (bytes_eq x.name name) gone) in
@@ -111,10 +114,13 @@ other_left name other (x ∷ rows) differs named =
     other_left name other rows differs (or_only (bytes_eq x.name other) (is_named other rows) away named))
 
 -- a name that no saved search has is that of none of them
-not_waiting : (name : List ℕ) (before others : List CursorRow) (row : CursorRow) (cursors : List CursorRow) → cursors ≡ before ++ row ∷ others → is_waiting name cursors ≡ false → bytes_eq row.name name ≡ false
+not_waiting : (name : List ℕ) (before others : List CursorRow) (row : CursorRow) (cursors : List CursorRow)
+    → cursors ≡ before ++ row ∷ others → is_waiting name cursors ≡ false → bytes_eq row.name name ≡ false
 not_waiting name [] others row cursors whole none = or_left_false (bytes_eq row.name name) (is_waiting name others) (subst (λ (cs : List CursorRow). is_waiting name cs ≡ false) whole none)
 not_waiting name (x ∷ before) others row cursors whole none =
-    not_waiting name before others row (before ++ row ∷ others) refl (or_right_false (bytes_eq x.name name) (is_waiting name (before ++ row ∷ others)) (subst (λ (cs : List CursorRow). is_waiting name cs ≡ false) whole none))
+    not_waiting name before others row (before ++ row ∷ others) refl
+    (or_right_false (bytes_eq x.name name) (is_waiting name (before ++ row ∷ others))
+    (subst (λ (cs : List CursorRow). is_waiting name cs ≡ false) whole none))
 
 queries_left : (name : List ℕ) (rows : List QueryRow) → EachReads ReadsQuery rows → EachReads ReadsQuery (without_name name rows)
 unfolding without_name
@@ -135,7 +141,8 @@ drop_query_goes_on t name go none = record {
 -- ---- saved searches
 
 -- a saved search reads with fewer before it
-cursor_left : (queries : List QueryRow) (next : ℕ) (stays : CursorRow → Bool) (front : List CursorRow) (row : CursorRow) → ReadsCursor queries next front row → ReadsCursor queries next (filter stays front) row
+cursor_left : (queries : List QueryRow) (next : ℕ) (stays : CursorRow → Bool) (front : List CursorRow) (row : CursorRow)
+    → ReadsCursor queries next front row → ReadsCursor queries next (filter stays front) row
 cursor_left queries next stays front row reads = record {
   number = reads.number;
   above = all_left (λ (before : CursorRow). before.number < row.number) stays front reads.above;
@@ -187,7 +194,9 @@ new_cursor_goes_on t name place go known named few short =
       cursor_number = omega (arith, go.cursor_number);
     }
 
-above_numbers : (n : ℕ) (front before : List CursorRow) → map cursor_number front ≡ map cursor_number before → AllByRecursion (λ (row : CursorRow). row.number < n) before → AllByRecursion (λ (row : CursorRow). row.number < n) front
+above_numbers : (n : ℕ) (front before : List CursorRow) → map cursor_number front ≡ map cursor_number before
+    → AllByRecursion (λ (row : CursorRow). row.number < n) before
+    → AllByRecursion (λ (row : CursorRow). row.number < n) front
 above_numbers n [] before same all = tt
 above_numbers n (x ∷ front) [] same all = absurd cc
 above_numbers n (x ∷ front) (y ∷ before) same all =
@@ -201,7 +210,9 @@ same_length [] (y ∷ before) same = absurd cc
 same_length (x ∷ front) [] same = absurd cc
 same_length (x ∷ front) (y ∷ before) same = let rest : map cursor_number front ≡ map cursor_number before = cc in let sizes = same_length front before rest in omega (arith, sizes)
 
-cursor_by_numbers : (queries : List QueryRow) (next : ℕ) (front before : List CursorRow) (row : CursorRow) → map cursor_number front ≡ map cursor_number before → ReadsCursor queries next before row → ReadsCursor queries next front row
+cursor_by_numbers : (queries : List QueryRow) (next : ℕ) (front before : List CursorRow) (row : CursorRow)
+    → map cursor_number front ≡ map cursor_number before → ReadsCursor queries next before row
+    → ReadsCursor queries next front row
 cursor_by_numbers queries next front before row same reads = record {
   number = reads.number;
   above = above_numbers row.number front before same reads.above;
@@ -224,7 +235,9 @@ unfolding put
 put_held_cursor row rows held = rw held refl
 
 -- A saved search that goes on keeps its number. Its query is held, and its place is short.
-pub later_cursor_goes_on : (t : Tables) (n : ℕ) (name place : List ℕ) → CanGoOn t → list_any (λ (row : CursorRow). nat_eq row.number n) t.cursors ≡ true → is_named name t.queries ≡ true → length place ≤ longest_place
+pub later_cursor_goes_on : (t : Tables) (n : ℕ) (name place : List ℕ) → CanGoOn t
+    → list_any (λ (row : CursorRow). nat_eq row.number n) t.cursors ≡ true → is_named name t.queries ≡ true
+    → length place ≤ longest_place
     → CanGoOn (after_change (PutCursor n name place) t)
 later_cursor_goes_on t n name place go held named short =
     let row : CursorRow = record { number = n; name = name; place = place } in

@@ -76,13 +76,15 @@ not_under n m rows least all = let less = under_held n m rows all least.held in 
 
 -- ---- what holds of each
 
-all_put : (P : CursorRow → Type 0) (row : Numbered SavedSearch) (rows : List (Numbered SavedSearch)) → P (cursor_row row) → AllByRecursion P (cursors_of rows) → AllByRecursion P (cursors_of (put_in_order row rows))
+all_put : (P : CursorRow → Type 0) (row : Numbered SavedSearch) (rows : List (Numbered SavedSearch))
+    → P (cursor_row row) → AllByRecursion P (cursors_of rows) → AllByRecursion P (cursors_of (put_in_order row rows))
 all_put P row [] p all = (p, tt)
 all_put P row (x ∷ rows) p all =
     cond_both (nat_lt row.number x.number) (row ∷ x ∷ rows) (x ∷ put_in_order row rows) (λ xs. AllByRecursion P (cursors_of xs))
     (λ _. (p, all)) (λ _. (all.0, all_put P row rows p all.1))
 
-all_replaced : (P : CursorRow → Type 0) (row : Numbered SavedSearch) (rows : List (Numbered SavedSearch)) → P (cursor_row row) → AllByRecursion P (cursors_of rows) → AllByRecursion P (cursors_of (replaced row rows))
+all_replaced : (P : CursorRow → Type 0) (row : Numbered SavedSearch) (rows : List (Numbered SavedSearch))
+    → P (cursor_row row) → AllByRecursion P (cursors_of rows) → AllByRecursion P (cursors_of (replaced row rows))
 all_replaced P row [] p all = tt
 all_replaced P row (x ∷ rows) p all =
     cond_both (nat_eq x.number row.number) (row ∷ rows) (x ∷ replaced row rows) (λ xs. AllByRecursion P (cursors_of xs))
@@ -109,14 +111,17 @@ module _ (es : List (Vec ℕ × Kept)) (bytes next : ℕ) (rows : List (Numbered
 
   pub new_kept : IsSaved es bytes rows next → IsKeptSearch (rows_of es) (max next (row.number + 1)) (cursor_row row) → IsSaved es bytes (put_in_order row rows) (max next (row.number + 1))
   new_kept kept is =
-      later_kept kept (put_in_order row rows) (all_put (IsKeptSearch (rows_of es) (max next (row.number + 1))) row rows is (all_below (rows_of es) next (max next (row.number + 1)) (cursors_of rows) (omega arith) kept.searches))
+      later_kept kept (put_in_order row rows) (all_put (IsKeptSearch (rows_of es) (max next (row.number + 1))) row rows
+      is (all_below (rows_of es) next (max next (row.number + 1)) (cursors_of rows) (omega arith) kept.searches))
 
   pub held_kept : IsSaved es bytes rows next → IsKeptSearch (rows_of es) (max next (row.number + 1)) (cursor_row row) → IsSaved es bytes (replaced row rows) (max next (row.number + 1))
   held_kept kept is =
-      later_kept kept (replaced row rows) (all_replaced (IsKeptSearch (rows_of es) (max next (row.number + 1))) row rows is (all_below (rows_of es) next (max next (row.number + 1)) (cursors_of rows) (omega arith) kept.searches))
+      later_kept kept (replaced row rows) (all_replaced (IsKeptSearch (rows_of es) (max next (row.number + 1))) row rows
+      is (all_below (rows_of es) next (max next (row.number + 1)) (cursors_of rows) (omega arith) kept.searches))
 
   pub new_tables : (queries : List QueryRow) → holds row.number rows ≡ false
-      → kept_tables queries (cursors_of (put_in_order row rows)) (max next (row.number + 1)) ≡ after_change (PutCursor row.number row.item.name row.item.place) (kept_tables queries (cursors_of rows) next)
+      → kept_tables queries (cursors_of (put_in_order row rows)) (max next (row.number + 1)) ≡ after_change
+      (PutCursor row.number row.item.name row.item.place) (kept_tables queries (cursors_of rows) next)
   new_tables queries new = ap (λ (xs : List CursorRow). kept_tables queries xs (max next (row.number + 1))) (put_new row rows new)
 
   pub held_tables : (queries : List QueryRow) → holds row.number rows ≡ true

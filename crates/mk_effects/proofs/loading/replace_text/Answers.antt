@@ -1,15 +1,16 @@
 use Rattle.std.proofs.Common.{◌∙◌, ap}
 use Rattle.mk_library.specs.Edits.{Replace}
-use Rattle.mk_library.specs.FirstRefusal.{IsFirstRefusal}
+use Rattle.mk_library.specs.FirstRefusal.{EditDemands, IsFirstRefusal}
 use Rattle.mk_library.specs.Pending.{PendingView}
 use Rattle.mk_effects.specs.Effects.{Answers, Refuses}
-use Rattle.mk_effects.specs.Loading.{EditRefused, Edits, ReplacesHeld}
+use Rattle.mk_effects.specs.MoleculeFiles.{GoesByMolecules, MoleculesRefused}
 use Rattle.mk_effects.proofs.LoadingLemmas.{no_number, refused_first}
 use Rattle.mk_effects.proofs.loading.replace_text.Goals as goal
 
 pub file_line-requires : goal.file_line-requires
 file_line-requires c =
-    no_number c.args.library.now.records c.args.library.now.next_record (Replace c.args.number c.in-Some.text) PendingView c.in-Err.said c.requires (rw c.as_slice.ensures at c.in-Err.ensures.refused)
+    let edit = Replace c.args.number c.in-Some.text in
+    no_number (EditDemands c.args.library.now.records c.args.library.now.next_record edit) c.in-Some.text PendingView c.in-Err.said c.requires (rw c.as_slice.ensures at c.in-Err.ensures.refused)
 
 pub returns-in-Err-clause-comes : goal.returns-in-Err-clause-comes
 returns-in-Err-clause-comes c = λ files name read.
@@ -17,11 +18,14 @@ returns-in-Err-clause-comes c = λ files name read.
     let next = c.args.library.now.next_record in
     let edit = Replace c.args.number c.in-Some.text in
     let line = c.in_ok-file_line-in-Err.ensures in
-    ReplacesHeld c.requires (EditRefused c.in-Some.text (rw c.in-Some.is at read) c.in-Err.said
-    (refused_first PendingView (IsFirstRefusal records next edit) c.in-Err.said _ line (rw c.as_slice.ensures at c.in-Err.ensures.refused)) _ line (ap Refuses c.of-in-Err.ensures))
+    MoleculesRefused c.in-Some.text (rw c.in-Some.is at read) c.in-Err.said
+    (refused_first PendingView (IsFirstRefusal records next edit) c.in-Err.said _ line (rw c.as_slice.ensures at c.in-Err.ensures.refused)) _ line (ap Refuses c.of-in-Err.ensures)
 
 pub returns-clause-comes : goal.returns-clause-comes
 returns-clause-comes c = λ files name read.
     let pending = c.in-Ok.pending in
-    ReplacesHeld c.requires (Edits c.in-Some.text (rw c.in-Some.is at read) pending.changes (rw c.as_slice.ensures at c.in-Ok.ensures.changes)
-    (ap (Answers pending.changes) (c.of-in-Ok.ensures ∙ rw (c.new-answer.ensures.items, c.from.ensures) at c.in_ok-put_numbered-in-Ok.ensures)))
+    GoesByMolecules c.in-Some.text (rw c.in-Some.is at read) (record {
+      changes = pending.changes;
+      allowed = rw c.as_slice.ensures at c.in-Ok.ensures.changes;
+      answered = ap (Answers pending.changes) (c.of-in-Ok.ensures ∙ rw (c.new-answer.ensures.items, c.from.ensures) at c.in_ok-put_numbered-in-Ok.ensures);
+    })

@@ -7,7 +7,8 @@ use Rattle.mk_effects.proofs.matching.match_found.Goals as goal
 
 pub returns-in-Err-clause-sought : goal.returns-in-Err-clause-sought
 returns-in-Err-clause-sought g c =
-    seek_failed (IsMatch (g.F.Files.look_up c.args.files.now) c.args.query.now c.args.molecules.now) (IsTurnOfMatch (g.F.Files.look_up c.args.files.now) c.args.query.now c.args.molecules.now) c.args.query.now
+    seek_failed (IsMatch (g.F.Files.look_up c.args.files.now) c.args.query.now c.args.molecules.now)
+    (IsTurnOfMatch (g.F.Files.look_up c.args.files.now) c.args.query.now c.args.molecules.now) c.args.query.now
     _ _ c.in-Err.fail c.from.result c.read_within.result (TurnOfQuery refl) c.in-Err.is c.read_within.ensures.counted c.from.ensures
 
 pub returns-in-Refused-clause-sought : goal.returns-in-Refused-clause-sought

@@ -16,7 +16,8 @@ pub query_of_raw-requires-clause-few_members : goal.query_of_raw-requires-clause
 query_of_raw-requires-clause-few_members c = (few_by_lines (length (lines_of c.args.text.now)) c.in-Ok.raw (few (goal.at.query_of_raw-requires-clause-few_members c).In-Ok) c.in-Ok.ensures.fits).1
 
 pub query_of_raw-requires-clause-few_properties : goal.query_of_raw-requires-clause-few_properties
-query_of_raw-requires-clause-few_properties c = (few_by_lines (length (lines_of c.args.text.now)) c.in-Ok.raw (few (goal.at.query_of_raw-requires-clause-few_properties c).In-Ok) c.in-Ok.ensures.fits).0
+query_of_raw-requires-clause-few_properties c = (few_by_lines (length (lines_of c.args.text.now)) c.in-Ok.raw
+    (few (goal.at.query_of_raw-requires-clause-few_properties c).In-Ok) c.in-Ok.ensures.fits).0
 
 pub returns-in-Ok : goal.returns-in-Ok
 returns-in-Ok c = said_if c.args.text.now c.in-Ok.raw c.query_of_raw.result c.in-Ok.ensures.query c.query_of_raw.ensures

@@ -16,10 +16,13 @@ returns-clause-place c = λ held.
     let named : is_named c.args.row.now.name c.args.self.now.queries ≡ true = rw c.as_slice-2.ensures at (sym c.holds.ensures ∙ held) in
     let below : c.args.row.now.number < c.args.self.now.next_cursor = subst (λ (v : SavedView). c.args.row.now.number < v.next_cursor) c.self.view_is (omega (arith, c.if-number-self.false)) in
     let size = length-map c.self.inside.cursors.rows cursor_row in
-    let few : length c.args.self.now.cursors < 1000 = subst (λ (v : SavedView). length v.cursors < 1000) c.self.view_is (omega (arith, c.if-rows-ge-MOST_SEARCHES.false, ap length c.rows.ensures.rows, size)) in
+    let few : length c.args.self.now.cursors < 1000 = subst (λ (v : SavedView). length v.cursors < 1000) c.self.view_is
+    (omega (arith, c.if-rows-ge-MOST_SEARCHES.false, ap length c.rows.ensures.rows, size)) in
     record {
       number = (omega (arith, c.if-number-eq0.false), omega (arith, c.if-number-gt-MOST_SEARCH_NUMBER.false));
-      above = subst (λ (v : SavedView). AllByRecursion (λ (row : CursorRow). row.number < c.args.row.now.number) v.cursors) c.self.view_is (all_under c.args.row.now.number c.self.inside.cursors.rows c.in_default.ensures.none);
+      above = subst (λ (v : SavedView). AllByRecursion (λ (row : CursorRow). row.number < c.args.row.now.number)
+          v.cursors) c.self.view_is (all_under c.args.row.now.number c.self.inside.cursors.rows
+          c.in_default.ensures.none);
       below = below;
       name = named;
       few = few;

@@ -7,22 +7,28 @@ pub invariant_of-self : goal.invariant_of-self
 invariant_of-self c =
     let named = subst (λ (v : SavedView). is_named c.args.name v.queries ≡ true) (sym c.self.view_is) c.requires.place in
     rw (c.replace.ensures.rows, c.max-self-inside.ensures)
-    (held_kept c.self.inside.queries.entries c.self.inside.bytes c.self.inside.next_cursor c.self.inside.cursors.rows (record { number = c.args.number; item = record { name = c.args.name; place = c.args.place } }) c.self.invariant
+    (held_kept c.self.inside.queries.entries c.self.inside.bytes c.self.inside.next_cursor c.self.inside.cursors.rows
+    (record { number = c.args.number; item = record { name = c.args.name; place = c.args.place } }) c.self.invariant
     (record { known = c.requires.known; below = omega arith; named = named; short = c.requires.short }))
 
 pub returns-then-holds-clause-tables : goal.returns-then-holds-clause-tables
 returns-then-holds-clause-tables c =
     rw (← c.self.view_is, c.replace.ensures.rows, c.max-self-inside.ensures)
-    (held_tables c.self.inside.queries.entries c.self.inside.bytes c.self.inside.next_cursor c.self.inside.cursors.rows (record { number = c.args.number; item = record { name = c.args.name; place = c.args.place } }) _ (sym c.holds.ensures ∙ c.if-holds.true))
+    (held_tables c.self.inside.queries.entries c.self.inside.bytes c.self.inside.next_cursor c.self.inside.cursors.rows
+    (record { number = c.args.number; item = record { name = c.args.name; place = c.args.place } }) _
+    (sym c.holds.ensures ∙ c.if-holds.true))
 
 pub invariant_of-self-2 : goal.invariant_of-self-2
 invariant_of-self-2 c =
     let named = subst (λ (v : SavedView). is_named c.args.name v.queries ≡ true) (sym c.self.view_is) c.requires.place in
     rw (c.insert.ensures.rows, c.max-self-inside.ensures)
-    (new_kept c.self.inside.queries.entries c.self.inside.bytes c.self.inside.next_cursor c.self.inside.cursors.rows (record { number = c.args.number; item = record { name = c.args.name; place = c.args.place } }) c.self.invariant
+    (new_kept c.self.inside.queries.entries c.self.inside.bytes c.self.inside.next_cursor c.self.inside.cursors.rows
+    (record { number = c.args.number; item = record { name = c.args.name; place = c.args.place } }) c.self.invariant
     (record { known = c.requires.known; below = omega arith; named = named; short = c.requires.short }))
 
 pub returns-clause-tables : goal.returns-clause-tables
 returns-clause-tables c =
     rw (← c.self.view_is, c.insert.ensures.rows, c.max-self-inside.ensures)
-    (new_tables c.self.inside.queries.entries c.self.inside.bytes c.self.inside.next_cursor c.self.inside.cursors.rows (record { number = c.args.number; item = record { name = c.args.name; place = c.args.place } }) _ (sym c.holds.ensures ∙ c.if-holds.false))
+    (new_tables c.self.inside.queries.entries c.self.inside.bytes c.self.inside.next_cursor c.self.inside.cursors.rows
+    (record { number = c.args.number; item = record { name = c.args.name; place = c.args.place } }) _
+    (sym c.holds.ensures ∙ c.if-holds.false))
