@@ -24,6 +24,8 @@ mod query_tests;
 #[cfg(test)]
 mod record_tests;
 #[cfg(test)]
+mod screen_tests;
+#[cfg(test)]
 mod script_tests;
 #[cfg(test)]
 mod search_store_tests;

@@ -56,7 +56,8 @@ module _ (files : Option Look) (t : Tables) (old new : Faults) (ends : Status) (
   ends_whole a added left (FirstNoMemory count x y e) = absurd (n.no_memory e)
   ends_whole a added left (EndsCommands orders is reads goes) = goes_whole a orders added left is reads goes
 
-pub answered_whole : (words : List (List ℕ)) (input : List ℕ) (t : Tables) (old new : World) (added : List ℕ) (left : Tables) (ends : Status) → IsAnswered ends → WentSo words input t old new added left ends
+pub answered_whole : (words : List (List ℕ)) (input : List ℕ) (t : Tables) (old new : World) (added : List ℕ)
+    (left : Tables) (ends : Status) → IsAnswered ends → WentSo words input t old new added left ends
     → IsWholeRun old.files t (asked words input) old.faults new.faults added left ends
 answered_whole words input t old new added left ends a (InputUnread script rose same x y e) = absurd ((no_failure ends a).no_read e)
 answered_whole words input t old new added left ends a (Ended same e) = ends_whole old.files t old.faults new.faults ends (no_failure ends a) (asked words input) added left e

@@ -2,13 +2,13 @@
 --     some_text            keys have lines
 --     some_listing         the first keys that remain are listed
 --     some_effect          EachOrderHasEffect
-use Rattle.std.proofs.Common.{◌≡◌, ◌≢◌, ◌<◌, ◌≤◌, ◌+◌, ℕ, Bool, true, false, cond, eqb, List, [], ◌∷◌, ◌++◌, Option, Some, None, All, refl, sym, ap, subst, ◌∙◌, arith, inl, inr, length, map, take, ⊎_elim}
-use Rattle.std.specs.Prelude.{◌⊎◌, ◌↔◌, IsSome, bytes_eq, codes, nat_eq}
-use Rattle.std.specs.List.{AllByRecursion, list_any}
+use Rattle.std.proofs.Common.{◌≡◌, ◌<◌, ◌≤◌, ◌+◌, ℕ, Bool, true, false, cond, eqb, List, [], ◌∷◌, ◌++◌, Option, Some, None, refl, sym, ap, subst, arith, inl, inr, length, take}
+use Rattle.std.specs.Prelude.{◌⊎◌, ◌↔◌, IsSome, bytes_eq, codes, nat_eq, nat_lt}
+use Rattle.std.specs.List.{AllByRecursion}
 use Rattle.std.proofs.lemmas.Bool.{cases_Bool, cases_lt, cond_both, eqb-true, eq-eqb, true≢false}
 use Rattle.std.proofs.lemmas.List.Elements.{All-head, All-tail}
 use Rattle.mk_text.specs.Lines.{lines_of}
-use Rattle.mk_text.specs.Rising.{AreFirst, IsBelow, IsFrom, IsRisingListOfAll, place_behind}
+use Rattle.mk_text.specs.Rising.{AreFirst, IsRisingListOfAll, place_behind}
 use Rattle.mk_model.specs.Keys.{IsKey, Remains}
 use Rattle.mk_model.specs.Molecules.{Molecule}
 use Rattle.mk_model.specs.Queries.{QueryView}
@@ -19,17 +19,14 @@ use Rattle.mk_outside.specs.declared.tables.CursorRow.{CursorRow}
 use Rattle.mk_outside.specs.declared.tables.QueryRow.{QueryRow}
 use Rattle.mk_outside.specs.declared.tables.RecordRow.{RecordRow}
 use Rattle.mk_outside.specs.declared.tables.Tables.{Tables}
-use Rattle.mk_ctab.specs.TableFacts.{IsRawTable}
-use Rattle.mk_sdfile.specs.declared.raw_record.RawRecord.{RawRecord}
-use Rattle.mk_sdfile.specs.Sdfile.{IsSdfile}
-use Rattle.mk_mol.specs.FirstFault.{IsFirstFault, PassesAll}
 use Rattle.mk_rows.specs.declared.by_number.Numbered.{Numbered}
-use Rattle.mk_rows.specs.Rows.{item_at}
 use Rattle.mk_library.specs.declared.refusal.LoadRefusal.{LoadRefusal}
 use Rattle.mk_library.specs.declared.refusal.LoadRefusal.TheVariants as refusal
 use Rattle.mk_library.specs.Edits.{Edit, Load, Replace}
-use Rattle.mk_library.specs.FirstRefusal.{Demand, Demands, IsFirstRefusal, Says, held_number, kept_limits, molecules as record_molecules, one_record, sdfile, short_file, text_of_edit}
-use Rattle.mk_library.specs.Records.{is_held, text_of}
+use Rattle.mk_library.specs.FirstRefusal.{FileDemands, HoldsMolecule, IsFirstFileRefusal, IsFirstUnmet}
+use Rattle.mk_library.specs.FirstRefusal.{Demand, EditDemands, IsFirstRefusal, IsSaidOf, held_number, kept_limits, molecules as record_molecules, one_record, sdfile, short_file, text_of_edit}
+use Rattle.mk_library.specs.Limits.{file_bytes}
+use Rattle.mk_library.specs.Records.{is_held, text_under}
 use Rattle.mk_query.proofs.ForCallers.{in_range}
 use Rattle.mk_query.proofs.KnownLemmas.{Known, known_as, known_both, known_most}
 use Rattle.mk_query.proofs.QueryLemmas.{fits_query}
@@ -38,8 +35,7 @@ use Rattle.mk_rgfile.proofs.ForCallers.{query_keeps}
 use Rattle.mk_search.specs.Pages.{IsHeldIn}
 use Rattle.mk_search.proofs.AllKeysLemmas.{keys_listed}
 use Rattle.mk_search.proofs.ListingLemmas.{list_same}
-use Rattle.mk_values.specs.Laws.{IsMoleculeOfTable}
-use Rattle.mk_values.proofs.ForCallers.{IsAtNumber, IsStopOfSdfile, drill_has_line, edit_is_judged, filled_molecule, first_fault, list_by, read_keeps, rows_hold, rows_of, sdfile_or_bad, taken_first}
+use Rattle.mk_values.proofs.ForCallers.{drill_has_line, edit_is_judged, file_is_judged, list_by, rows_hold, rows_of, taken_first}
 use Rattle.mk_session.specs.declared.command.Command.TheVariants as variant
 use Rattle.mk_effects.specs.declared.files.HeldQuery.{HeldQuery}
 use Rattle.mk_effects.specs.declared.files.HeldQuery.TheVariants.{Query, Refused}
@@ -47,22 +43,22 @@ use Rattle.mk_effects.specs.Answers.{bad_line_text, check_text, full_text, long_
 use Rattle.mk_effects.specs.Effects.{Answers, Refuses}
 use Rattle.mk_effects.specs.Effects.{Effect}
 use Rattle.mk_effects.specs.Files.{IsLong, IsShort, Look}
-use Rattle.mk_effects.specs.Hits.{AreHitLines, HasParts, HaveParts, IsHitsText, hit_line, last_line}
-use Rattle.mk_effects.specs.Loading.{EditRefused, EditTooLong, Edits, NoRecordReplaced, ReplacesHeld}
-use Rattle.mk_effects.specs.Loading.{IsEdited, IsFileLine, IsReplace, loaded_text, replaced_text}
-use Rattle.mk_effects.specs.Match.{BadLine, FailsCheck, Lists, MoleculesRefused, NotOne, QueryRefused, Searches, TooLong, TurnOfMolecules, TurnOfQuery, V3000}
-use Rattle.mk_effects.specs.Match.{IsMatch, IsRecord1, IsSearchOfFile, molecule_bytes}
-use Rattle.mk_session.specs.Orders.{Order}
+use Rattle.mk_effects.specs.declared.effect.Stop.{Stop}
+use Rattle.mk_effects.specs.Hits.{AreHitLines, HasParts, HaveParts, IsHitsText, hit_line, stop_line, stop_of}
+use Rattle.mk_effects.specs.Loading.{NoRecordReplaced, ReplacesHeld}
+use Rattle.mk_effects.specs.Loading.{IsEditMade, IsEdited, IsReplace, loaded_text, replaced_text}
+use Rattle.mk_effects.specs.Match.{IsMatch, IsRecord1, IsSearchOfFile, ListsKeys, QueryRefused, Searches, TurnOfMolecules, TurnOfQuery}
+use Rattle.mk_effects.specs.MoleculeFiles.{ComesByFile, GoesByMolecules, IsFileLine, MoleculesRefused, MoleculesTooLong}
 use Rattle.mk_effects.specs.Queries.{FileIsRefused, Forgets, Keeps, NameIsHeld, NoQueryForgotten, QueriesAreFull, TextsAreFull}
 use Rattle.mk_effects.specs.Queries.{IsForget, IsFree, IsKeep, forget_changes, full_queries_text, kept_text, name_held_text, named_line, no_query_text}
-use Rattle.mk_effects.specs.QueryFiles.{IsQueryHeld, IsQueryHeldBy}
+use Rattle.mk_effects.specs.QueryFiles.{IsQueryHeldBy}
 use Rattle.mk_kept.specs.QueryText.{IsQueryOfText}
 use Rattle.mk_effects.specs.Records.{IsRemove, IsShow, list_text, no_record_text, numbered_line, record_text}
 use Rattle.mk_effects.specs.Records.{NoRecordRemoved, NoRecordShown, Removes, Shows}
 use Rattle.mk_kept.specs.Saved.{HasMeaning, HasRoomFor, greatest_number, is_named, most_queries, most_query_number, most_search_number, most_searches, most_text_bytes, bytes_of_texts}
 use Rattle.mk_kept.specs.Saved.{HasSearchRoom}
 use Rattle.mk_effects.specs.Searching.{IsListing, IsMoleculeAt, IsResume, IsSearch, full_searches_text, no_search_text}
-use Rattle.mk_kept.specs.Named.{IsQueryNamed, search_of, text_named}
+use Rattle.mk_kept.specs.Named.{IsQueryNamed, search_of}
 use Rattle.mk_effects.specs.Searching.{ListsAll, ListsRest, MovesPlace, NoQuerySearched, NoSearchResumed, SavesPlace, SearchesAreFull}
 use Rattle.mk_session.specs.Step.{Comes, no_command_text}
 use Rattle.mk_session.specs.Values.{CanBeAsked, EachOrderHasEffect, HasItsFile}
@@ -79,10 +75,10 @@ some_lines query (key ∷ keys) have =
     let line = hit_line parts.number parts.code parts.hit in
     (line ++ others.0, (line, others.0, record { parts = parts; spelt = refl }, others.1, refl))
 
-some_text : (query : QueryView) (keys : List (List ℕ)) (most c : ℕ) → HaveParts query keys → (text : List ℕ) × IsHitsText query keys most c text
-some_text query keys most c have =
+some_text : (query : QueryView) (keys : List (List ℕ)) (listed : Stop) → HaveParts query keys → (text : List ℕ) × IsHitsText query keys listed text
+some_text query keys listed have =
     let lines = some_lines query keys have in
-    (lines.0 ++ last_line (length keys) most c, record { lines = lines.0; are_lines = lines.1; whole = refl })
+    (lines.0 ++ stop_line listed, record { lines = lines.0; are_lines = lines.1; whole = refl })
 
 -- ---- queries
 
@@ -104,7 +100,8 @@ some_named name (row ∷ rows) all named = by_test (bytes_eq row.name name) refl
 -- ---- searches
 
 -- the first keys that remain over the records, with their lines
-some_listing : (records : List RecordRow) (query : QueryView) (place : List ℕ) (limit c : ℕ) → QueryFits query → (keys : List (List ℕ)) × ((text : List ℕ) × IsListing records query place limit c keys text)
+some_listing : (records : List RecordRow) (query : QueryView) (place : List ℕ) (limit c : ℕ) → QueryFits query
+    → (keys : List (List ℕ)) × ((text : List ℕ) × IsListing records query place limit c keys text)
 some_listing records query place limit c fits =
     let all = keys_listed (rows_of records) query place fits in
     let listed : IsRisingListOfAll (Remains (IsMoleculeAt records) query place) all.0 =
@@ -115,17 +112,20 @@ some_listing records query place limit c fits =
     )) all.1 in
     let keys = take limit all.0 in
     let first = taken_first limit (Remains (IsMoleculeAt records) query place) all.0 listed in
-    let text = some_text query keys limit c (have_parts (Remains (IsMoleculeAt records) query place) (IsMoleculeAt records) query limit keys (λ key is. is.0) first) in
+    let text = some_text query keys (stop_of (nat_lt (length keys) limit) c) (have_parts (Remains (IsMoleculeAt records) query place) (IsMoleculeAt records) query limit keys (λ key is. is.0) first) in
     (keys, (text.0, record { first = first; lines = text.1 }))
 
 known_room : (cursors : List CursorRow) (next : ℕ) → Known (HasSearchRoom cursors next)
 known_room cursors next =
-    known_as (known_both (known_most (length cursors + 1) most_searches) (known_most next most_search_number)) (λ both. record { few = omega (arith, both.0); number = both.1 }) (λ room. (omega (arith, room.few), room.number))
+    known_as (known_both (known_most (length cursors + 1) most_searches) (known_most next most_search_number))
+    (λ both. record { few = omega (arith, both.0); number = both.1 })
+    (λ room. (omega (arith, room.few), room.number))
 
 some_search : (t : Tables) (name : List ℕ) (limit : ℕ) → CanBeAsked t → (effect : Effect) × IsSearch t name limit effect
 some_search t name limit can = by_name (cases_Bool (is_named name t.queries))
   where
-    by_count : (query : QueryView) → IsQueryNamed t.queries name query → HasSearchRoom t.cursors t.next_cursor → (keys : List (List ℕ)) (text : List ℕ) → IsListing t.records query [] limit t.next_cursor keys text
+    by_count : (query : QueryView) → IsQueryNamed t.queries name query → HasSearchRoom t.cursors t.next_cursor
+        → (keys : List (List ℕ)) (text : List ℕ) → IsListing t.records query [] limit t.next_cursor keys text
         → (length keys < limit) ⊎ (limit ≤ length keys) → (effect : Effect) × IsSearch t name limit effect
     by_count query named room keys text listing (inl few) = (Answers [] text, ListsAll query named room keys text listing few refl)
     by_count query named room keys text listing (inr full) =
@@ -153,7 +153,9 @@ its_query c P row (x ∷ rows) all found =
 some_resume : (t : Tables) (c limit : ℕ) → CanBeAsked t → (effect : Effect) × IsResume t c limit effect
 some_resume t c limit can = by_search (search_of c t.cursors) refl
   where
-    by_count : (row : CursorRow) → search_of c t.cursors ≡ Some row → (query : QueryView) → IsQueryNamed t.queries row.name query → (keys : List (List ℕ)) (text : List ℕ) → IsListing t.records query row.place limit c keys text
+    by_count : (row : CursorRow) → search_of c t.cursors ≡ Some row → (query : QueryView)
+        → IsQueryNamed t.queries row.name query → (keys : List (List ℕ)) (text : List ℕ)
+        → IsListing t.records query row.place limit c keys text
         → (length keys < limit) ⊎ (limit ≤ length keys) → (effect : Effect) × IsResume t c limit effect
     by_count row held query named keys text listing (inl few) = (Answers (DropCursor c ∷ []) text, ListsRest row held query named keys text listing few refl)
     by_count row held query named keys text listing (inr full) =
@@ -165,6 +167,53 @@ some_resume t c limit can = by_search (search_of c t.cursors) refl
         (let named = some_named row.name t.queries can.queries (its_query c (λ (r : CursorRow). is_named r.name t.queries ≡ true) row t.cursors can.cursors is) in
         let listing = some_listing t.records named.0 row.place limit c (text_fits named.1.text named.0 named.1.means.is) in
         by_count row is named.0 named.1 listing.0 listing.1.0 listing.1.1 (cases_lt (length listing.0) limit))
+
+-- ---- molecules' files
+
+-- want of memory is said of no demand, and of the number alone that it isn't held
+no_memory : (text : List ℕ) (demand : Demand) → IsSaidOf text demand refusal.Memory → ⊥
+no_memory text held_number says = cc
+no_memory text short_file says = cc
+no_memory text sdfile says = (let is = says.2 in cc)
+no_memory text one_record says = (let is = says.2 in cc)
+no_memory text record_molecules says = (let is = says.5 in cc)
+no_memory text kept_limits says = cc
+
+number_alone : (text : List ℕ) (demand : Demand) → IsSaidOf text demand refusal.NoRecord → demand ≡ held_number
+number_alone text held_number says = refl
+number_alone text short_file says = absurd cc
+number_alone text sdfile says = absurd (let is = says.2 in cc)
+number_alone text one_record says = absurd (let is = says.2 in cc)
+number_alone text record_molecules says = absurd (let is = says.5 in cc)
+number_alone text kept_limits says = absurd cc
+
+-- what is said of a file has its line
+some_line : (Demands : Demand → Type 0) (text : List ℕ) (said : LoadRefusal) → Demands held_number → IsFirstUnmet Demands text said → (line : List ℕ) × IsFileLine said line
+some_line Demands text refusal.NoRecord held first = absurd (first.fails (subst Demands (sym (number_alone text first.demand first.says)) held))
+some_line Demands text refusal.FileLarge held first = (long_molecules_text, refl)
+some_line Demands text (refusal.Layout k v3000) held first = (cond v3000 (v3000_text k) (bad_line_text k), refl)
+some_line Demands text (refusal.NotOne count) held first = (records_text count, refl)
+some_line Demands text (refusal.Meaning number check item) held first = (check_text number check item, refl)
+some_line Demands text refusal.Full held first = (full_text, refl)
+some_line Demands text refusal.Memory held first = absurd (no_memory text first.demand first.says)
+
+-- a file that is refused has a line, or there is an effect by its bytes
+abbrev IsBytesJudged : (List ℕ → LoadRefusal → Type 0) → (List ℕ → Effect → Type 0) → List ℕ → Type 0
+IsBytesJudged First Comes bytes = ((said : LoadRefusal) × (First bytes said × ((line : List ℕ) × IsFileLine said line))) ⊎ ((effect : Effect) × Comes bytes effect)
+
+module _ (look : Look) (name : List ℕ) (First : List ℕ → LoadRefusal → Type 0) (Comes : List ℕ → Effect → Type 0) where
+  by_judged : (bytes : List ℕ) → IsShort (Some look) file_bytes name bytes → IsBytesJudged First Comes bytes → (effect : Effect) × ComesByFile (Some look) name First Comes effect
+  by_judged bytes read (inl (said, (first, (line, is)))) = (Refuses line, MoleculesRefused bytes read said first line is refl)
+  by_judged bytes read (inr (effect, comes)) = (effect, GoesByMolecules bytes read comes)
+
+  by_size : ((bytes : List ℕ) → IsBytesJudged First Comes bytes) → IsLong (Some look) file_bytes name ⊎ ((bytes : List ℕ) × IsShort (Some look) file_bytes name bytes)
+      → (effect : Effect) × ComesByFile (Some look) name First Comes effect
+  by_size judged (inl long) = (Refuses long_molecules_text, MoleculesTooLong long refl)
+  by_size judged (inr (bytes, read)) = by_judged bytes read (judged bytes)
+
+  -- by a molecules' file that is there a command comes to an effect
+  some_by_file : ((bytes : List ℕ) → IsBytesJudged First Comes bytes) → IsSome (look name) → (effect : Effect) × ComesByFile (Some look) name First Comes effect
+  some_by_file judged there = by_size judged (cases_file look file_bytes name there)
 
 -- ---- match
 
@@ -188,38 +237,25 @@ some_hits : (mol : Molecule) (wanted : QueryView) → QueryFits wanted → (keys
 some_hits mol wanted fits =
     let all = keys_listed (one_row mol) wanted [] fits in
     let held = list_by (IsHeldIn (one_row mol)) (IsRecord1 mol) wanted [] all.0 (row_is mol) all.1 in
-    let listed : IsRisingListOfAll (IsKey (IsRecord1 mol) wanted) all.0 = list_same (Remains (IsRecord1 mol) wanted []) (IsKey (IsRecord1 mol) wanted) all.0 (λ xs is. is.0) (λ xs is. (is, λ below. below)) held in
+    let listed : IsRisingListOfAll (IsKey (IsRecord1 mol) wanted) all.0 =
+    list_same (Remains (IsRecord1 mol) wanted []) (IsKey (IsRecord1 mol) wanted) all.0 (λ xs is. is.0)
+    (λ xs is. (is, λ below. below)) held in
     (take 10000 all.0, taken_first 10000 (IsKey (IsRecord1 mol) wanted) all.0 listed)
 
-some_search_of_file : (look : Look) (name : List ℕ) (wanted : QueryView) → QueryFits wanted → IsSome (look name) → (effect : Effect) × IsSearchOfFile wanted (Some look) name effect
-some_search_of_file look name wanted fits there = by_file (cases_file look molecule_bytes name there)
+-- a file of one record is refused with a line, or the first keys in its molecule are listed
+some_list : (wanted : QueryView) → QueryFits wanted → (bytes : List ℕ) → IsBytesJudged IsFirstFileRefusal (ListsKeys wanted) bytes
+some_list wanted fits bytes = by_molecule (file_is_judged bytes)
   where
-    of_only : (bytes : List ℕ) → IsShort (Some look) molecule_bytes name bytes → (only : RawRecord) → IsSdfile (lines_of bytes) (only ∷ [])
-        → PassesAll only.table ⊎ ((check : ℕ) × ((item : ℕ) × IsFirstFault only.table check item)) → (effect : Effect) × IsSearchOfFile wanted (Some look) name effect
-    of_only bytes read only is (inl passes) =
-        (let kept = All-head (λ (r : RawRecord). IsRawTable r.table) only [] (read_keeps (lines_of bytes) (only ∷ []) is) in
-        let made = filled_molecule only.table kept.few_atoms kept.few_bonds passes in
-        let keys = some_hits made.0 wanted fits in
-        let text = some_text wanted keys.0 10000 0 (have_parts (IsKey (IsRecord1 made.0) wanted) (IsRecord1 made.0) wanted 10000 keys.0 (λ key k. k) keys.1) in
-        (Answers [] text.0, Lists made.0 (record { bytes = bytes; read = read; only = only; sdfile = is; passes = passes; filled = made.1.filled; molecule = made.1.kept }) keys.0 keys.1 text.0 text.1 refl))
-    of_only bytes read only is (inr (check, (item, fault))) =
-        (Refuses (check_text 1 check item), MoleculesRefused (check_text 1 check item) (FailsCheck bytes read only is check item fault refl) refl)
+    by_molecule : ((said : LoadRefusal) × IsFirstFileRefusal bytes said) ⊎ ((mol : Molecule) × HoldsMolecule bytes mol) → IsBytesJudged IsFirstFileRefusal (ListsKeys wanted) bytes
+    by_molecule (inl (said, first)) = inl (said, (first, some_line (FileDemands bytes) bytes said tt first))
+    by_molecule (inr (mol, holds)) =
+        (let keys = some_hits mol wanted fits in
+        let listed = stop_of (nat_lt (length keys.0) 10000) 0 in
+        let text = some_text wanted keys.0 listed (have_parts (IsKey (IsRecord1 mol) wanted) (IsRecord1 mol) wanted 10000 keys.0 (λ key k. k) keys.1) in
+        inr (Answers [] text.0, record { mol = mol; held = holds; keys = keys.0; first = keys.1; text = text.0; lines = text.1; answered = refl }))
 
-    by_records : (bytes : List ℕ) → IsShort (Some look) molecule_bytes name bytes → (records : List RawRecord) → IsSdfile (lines_of bytes) records → (effect : Effect) × IsSearchOfFile wanted (Some look) name effect
-    by_records bytes read [] is = (Refuses (records_text 0), MoleculesRefused (records_text 0) (NotOne bytes read [] is (λ one. absurd (omega (arith, one))) refl) refl)
-    by_records bytes read (only ∷ []) is = of_only bytes read only is (first_fault only.table)
-    by_records bytes read (first ∷ second ∷ others) is =
-        (Refuses (records_text (length (first ∷ second ∷ others))), MoleculesRefused (records_text (length (first ∷ second ∷ others))) (NotOne bytes read (first ∷ second ∷ others) is (λ one. absurd (omega (arith, one))) refl) refl)
-
-    by_lines : (bytes : List ℕ) → IsShort (Some look) molecule_bytes name bytes → ((records : List RawRecord) × IsSdfile (lines_of bytes) records) ⊎ IsStopOfSdfile (lines_of bytes) → (effect : Effect) × IsSearchOfFile wanted (Some look) name effect
-    by_lines bytes read (inl (records, is)) = by_records bytes read records is
-    by_lines bytes read (inr (k, (true, (bad, says)))) = (Refuses (v3000_text k), MoleculesRefused (v3000_text k) (V3000 bytes read k bad (says.0 refl) refl) refl)
-    by_lines bytes read (inr (k, (false, (bad, says)))) =
-        (Refuses (bad_line_text k), MoleculesRefused (bad_line_text k) (BadLine bytes read k bad (λ named. true≢false (sym (says.1 named))) refl) refl)
-
-    by_file : IsLong (Some look) molecule_bytes name ⊎ ((bytes : List ℕ) × IsShort (Some look) molecule_bytes name bytes) → (effect : Effect) × IsSearchOfFile wanted (Some look) name effect
-    by_file (inl long) = (Refuses long_molecules_text, MoleculesRefused long_molecules_text (TooLong long refl) refl)
-    by_file (inr (bytes, read)) = by_lines bytes read (sdfile_or_bad (lines_of bytes))
+some_search_of_file : (look : Look) (name : List ℕ) (wanted : QueryView) → QueryFits wanted → IsSome (look name) → (effect : Effect) × IsSearchOfFile wanted (Some look) name effect
+some_search_of_file look name wanted fits there = some_by_file look name IsFirstFileRefusal (ListsKeys wanted) (some_list wanted fits) there
 
 some_match : (look : Look) (t : Tables) (query molecules : List ℕ) → HasItsFile look t (Some (variant.Match query molecules)) → (effect : Effect) × IsMatch (Some look) query molecules effect
 some_match look t query molecules there = by_held (some_query_held look query (there query (TurnOfQuery refl)))
@@ -232,50 +268,24 @@ some_match look t query molecules there = by_held (some_query_held look query (t
 
 -- ---- edits
 
--- want of memory is said of no demand, and of the number alone that it isn't held
-no_memory : (text : List ℕ) (demand : Demand) → Says text demand refusal.Memory → ⊥
-no_memory text held_number says = cc
-no_memory text short_file says = cc
-no_memory text sdfile says = (let is = says.2 in cc)
-no_memory text one_record says = (let is = says.2 in cc)
-no_memory text record_molecules says = (let is = says.5 in cc)
-no_memory text kept_limits says = cc
-
-number_alone : (text : List ℕ) (demand : Demand) → Says text demand refusal.NoRecord → demand ≡ held_number
-number_alone text held_number says = refl
-number_alone text short_file says = absurd cc
-number_alone text sdfile says = absurd (let is = says.2 in cc)
-number_alone text one_record says = absurd (let is = says.2 in cc)
-number_alone text record_molecules says = absurd (let is = says.5 in cc)
-number_alone text kept_limits says = absurd cc
-
--- what is said of a file has its line
-some_line : (records : List RecordRow) (next : ℕ) (edit : Edit) (said : LoadRefusal) → Demands records next edit held_number → IsFirstRefusal records next edit said → (line : List ℕ) × IsFileLine said line
-some_line records next edit refusal.NoRecord held first =
-    absurd (first.fails (subst (Demands records next edit) (sym (number_alone (text_of_edit edit) first.demand first.says)) held))
-some_line records next edit refusal.FileLarge held first = (long_molecules_text, refl)
-some_line records next edit (refusal.Layout k v3000) held first = (cond v3000 (v3000_text k) (bad_line_text k), refl)
-some_line records next edit (refusal.NotOne count) held first = (records_text count, refl)
-some_line records next edit (refusal.Meaning number check item) held first = (check_text number check item, refl)
-some_line records next edit refusal.Full held first = (full_text, refl)
-some_line records next edit refusal.Memory held first = absurd (no_memory (text_of_edit edit) first.demand first.says)
-
-some_edit : (look : Look) (t : Tables) (name : List ℕ) (edit : List ℕ → Edit) (answer : List Change → List ℕ) → ((bytes : List ℕ) → Demands t.records t.next_record (edit bytes) held_number) → IsSome (look name)
-    → (effect : Effect) × IsEdited (Some look) t name edit answer effect
-some_edit look t name edit answer held there = by_file (cases_file look molecule_bytes name there)
+some_edit : (look : Look) (t : Tables) (name : List ℕ) (edit : List ℕ → Edit) (answer : List Change → List ℕ)
+    → ((bytes : List ℕ) → EditDemands t.records t.next_record (edit bytes) held_number) → IsSome (look name)
+    → (effect : Effect) × IsEdited (Some look) t.records t.next_record name edit answer effect
+some_edit look t name edit answer held there =
+    some_by_file look name (λ (bytes : List ℕ). IsFirstRefusal t.records t.next_record (edit bytes)) (λ (bytes : List ℕ). IsEditMade t.records t.next_record (edit bytes) answer) judged there
   where
-    by_file : IsLong (Some look) molecule_bytes name ⊎ ((bytes : List ℕ) × IsShort (Some look) molecule_bytes name bytes) → (effect : Effect) × IsEdited (Some look) t name edit answer effect
-    by_file (inl long) = (Refuses long_molecules_text, EditTooLong long refl)
-    by_file (inr (bytes, read)) =
+    judged : (bytes : List ℕ) → IsBytesJudged (λ (bs : List ℕ). IsFirstRefusal t.records t.next_record (edit bs)) (λ (bs : List ℕ). IsEditMade t.records t.next_record (edit bs) answer) bytes
+    judged bytes =
         elim (edit_is_judged t.records t.next_record (edit bytes)) [
-          | inl (said, first) ↦ (let line = some_line t.records t.next_record (edit bytes) said (held bytes) first in (Refuses line.0, EditRefused bytes read said first line.0 line.1 refl))
-          | inr (changes, allowed) ↦ (Answers changes (answer changes), Edits bytes read changes allowed refl)
+          | inl (said, first) ↦ inl (said, (first, some_line (EditDemands t.records t.next_record (edit bytes)) (text_of_edit (edit bytes)) said (held bytes) first))
+          | inr (changes, allowed) ↦ inr (Answers changes (answer changes), record { changes = changes; allowed = allowed; answered = refl })
         ]
 
-some_replace : (look : Look) (t : Tables) (n : ℕ) (name : List ℕ) → HasItsFile look t (Some (variant.Replace n name)) → (effect : Effect) × IsReplace (Some look) t n name effect
+some_replace : (look : Look) (t : Tables) (n : ℕ) (name : List ℕ) → HasItsFile look t (Some (variant.Replace n name)) → (effect : Effect) × IsReplace (Some look) t.records t.next_record n name effect
 some_replace look t n name there =
     elim (cases_Bool (is_held n t.records)) [
-      | inl held ↦ (let edited = some_edit look t name (Replace n) (λ changes. replaced_text n) (λ bytes. held) (there name (record { held = held; is = refl })) in (edited.0, ReplacesHeld held edited.1))
+      | inl held ↦ (let edited = some_edit look t name (Replace n) (λ changes. replaced_text n) (λ bytes. held)
+          (there name (record { held = held; is = refl })) in (edited.0, ReplacesHeld held edited.1))
       | inr none ↦ (Refuses (no_record_text n), NoRecordReplaced none refl)
     ]
 
@@ -286,10 +296,10 @@ known_query_room rows text =
     known_as (known_both (known_most (bytes_of_texts rows + length text) most_text_bytes) (known_most (greatest_number rows + 1) most_query_number))
     (λ both. record { bytes = both.0; number = omega (arith, both.1) }) (λ room. (room.bytes, omega (arith, room.number)))
 
-some_keep : (look : Look) (t : Tables) (name file : List ℕ) → HasItsFile look t (Some (variant.Query name file)) → (effect : Effect) × IsKeep (Some look) t name file effect
+some_keep : (look : Look) (t : Tables) (name file : List ℕ) → HasItsFile look t (Some (variant.Query name file)) → (effect : Effect) × IsKeep (Some look) t.queries name file effect
 some_keep look t name file there = by_name (cases_Bool (is_named name t.queries)) (cases_lt (length t.queries) most_queries)
   where
-    by_held : IsFree t name → (held : HeldQuery) × IsQueryHeldBy (Some look) file held → (effect : Effect) × IsKeep (Some look) t name file effect
+    by_held : IsFree t.queries name → (held : HeldQuery) × IsQueryHeldBy (Some look) file held → (effect : Effect) × IsKeep (Some look) t.queries name file effect
     by_held free (Refused line, is) = (Refuses line, FileIsRefused free line is refl)
     by_held free (Query query, is) =
         elim (known_query_room t.queries (kept_text is.bytes)) [
@@ -297,12 +307,13 @@ some_keep look t name file there = by_name (cases_Bool (is_named name t.queries)
           | inr full ↦ (Refuses full_queries_text, TextsAreFull free query is full refl)
         ]
 
-    by_name : (is_named name t.queries ≡ true) ⊎ (is_named name t.queries ≡ false) → (length t.queries < most_queries) ⊎ (most_queries ≤ length t.queries) → (effect : Effect) × IsKeep (Some look) t name file effect
+    by_name : (is_named name t.queries ≡ true) ⊎ (is_named name t.queries ≡ false) → (length t.queries < most_queries) ⊎ (most_queries ≤ length t.queries)
+        → (effect : Effect) × IsKeep (Some look) t.queries name file effect
     by_name (inl held) size = (Refuses (name_held_text name), NameIsHeld held refl)
     by_name (inr new) (inr full) = (Refuses full_queries_text, QueriesAreFull new full refl)
-    by_name (inr new) (inl few) = (let free : IsFree t name = record { new = new; few = few } in by_held free (some_query_held look file (there file (record { free = free; is = refl }))))
+    by_name (inr new) (inl few) = (let free : IsFree t.queries name = record { new = new; few = few } in by_held free (some_query_held look file (there file (record { free = free; is = refl }))))
 
-some_forget : (t : Tables) (name : List ℕ) → (effect : Effect) × IsForget t name effect
+some_forget : (t : Tables) (name : List ℕ) → (effect : Effect) × IsForget t.queries t.cursors name effect
 some_forget t name =
     elim (cases_Bool (is_named name t.queries)) [
       | inl held ↦ (Answers (forget_changes name t.cursors) (named_line (codes "forgot ") name), Forgets held refl)
@@ -312,22 +323,22 @@ some_forget t name =
 -- ---- show and remove
 
 -- a record that is held has a text
-held_text : (n : ℕ) (records : List RecordRow) → is_held n records ≡ true → (text : List ℕ) × (text_of n records ≡ Some text)
+held_text : (n : ℕ) (records : List RecordRow) → is_held n records ≡ true → (text : List ℕ) × (text_under n records ≡ Some text)
 held_text n [] held = absurd (true≢false (sym held))
 held_text n (row ∷ records) held = by_test (eqb row.number n) refl (λ here. held_text n records here)
   where
-    by_test : (b : Bool) → eqb row.number n ≡ b → (is_held n records ≡ true → (text : List ℕ) × (text_of n records ≡ Some text)) → (text : List ℕ) × (text_of n (row ∷ records) ≡ Some text)
+    by_test : (b : Bool) → eqb row.number n ≡ b → (is_held n records ≡ true → (text : List ℕ) × (text_under n records ≡ Some text)) → (text : List ℕ) × (text_under n (row ∷ records) ≡ Some text)
     by_test true is others = (row.text, rw is refl)
     by_test false is others = (let later = others (rw is at held) in (later.0, rw is later.1))
 
-some_show : (t : Tables) (n : ℕ) → (effect : Effect) × IsShow t n effect
+some_show : (t : Tables) (n : ℕ) → (effect : Effect) × IsShow t.records n effect
 some_show t n =
     elim (cases_Bool (is_held n t.records)) [
       | inl held ↦ (let text = held_text n t.records held in (Answers [] (record_text n text.0), Shows text.0 text.1 refl))
       | inr none ↦ (Refuses (no_record_text n), NoRecordShown none refl)
     ]
 
-some_remove : (t : Tables) (n : ℕ) → (effect : Effect) × IsRemove t n effect
+some_remove : (t : Tables) (n : ℕ) → (effect : Effect) × IsRemove t.records n effect
 some_remove t n =
     elim (cases_Bool (is_held n t.records)) [
       | inl held ↦ (Answers (DropRecord n ∷ []) (numbered_line (codes "removed ") n), Removes held refl)

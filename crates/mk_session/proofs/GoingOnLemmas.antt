@@ -1,12 +1,12 @@
 -- Tables that a run leaves read, where those before it did. A further command is a further case of `command_goes_on`.
 --     runs_keep_reading       the law
-use Rattle.std.proofs.Common.{◌≡◌, ℕ, ◌+◌, List, [], ◌∷◌, ◌++◌, length, Option, Some, None, refl, sym, subst}
+use Rattle.std.proofs.Common.{◌≡◌, ℕ, List, [], ◌∷◌, ◌++◌, length, Option, Some, None, refl, sym, subst}
 use Rattle.std.specs.Prelude.{nat_lt}
 use Rattle.std.specs.List.{AllByRecursion}
 use Rattle.std.proofs.lemmas.Bool.{cond_both}
 use Rattle.mk_text.specs.Lines.{lines_of}
 use Rattle.mk_outside.specs.declared.tables.Tables.{Tables}
-use Rattle.mk_library.specs.Edits.{Load, Remove, Replace}
+use Rattle.mk_library.specs.Edits.{Load}
 use Rattle.mk_session.specs.declared.command.Command.{Command}
 use Rattle.mk_session.specs.declared.command.Command.TheVariants as variant
 use Rattle.mk_session.specs.declared.command.LineKind.{LineKind}
@@ -27,7 +27,8 @@ use Rattle.mk_effects.proofs.ForCallers.{KeepingLaws, refused_goes_on, answered_
 
 -- ---- commands
 
-command_goes_on : KeepingLaws → (files : Option Look) (t : Tables) (command : Command) (effect : Effect) → CanAsk command → Comes files t (Some command) effect → CanGoOn t → CanGoOn (after_effect effect t)
+command_goes_on : KeepingLaws → (files : Option Look) (t : Tables) (command : Command) (effect : Effect)
+    → CanAsk command → Comes files t (Some command) effect → CanGoOn t → CanGoOn (after_effect effect t)
 command_goes_on laws files t (variant.Match query molecules) effect asks comes go = match_goes_on files t query molecules effect comes go
 command_goes_on laws files t (variant.Load file) effect asks comes go = edited_goes_on laws files t file Load _ effect comes go
 command_goes_on laws files t (variant.Replace number file) effect asks comes go = replace_goes_on laws files t number file effect comes go
@@ -46,7 +47,8 @@ order_goes_on : KeepingLaws → (files : Option Look) (t : Tables) (order : Orde
 order_goes_on laws files t None effect asks comes go = refused_goes_on t effect _ comes go
 order_goes_on laws files t (Some command) effect asks comes go = command_goes_on laws files t command effect asks comes go
 
-orders_go_on : KeepingLaws → (files : Option Look) (t : Tables) (orders : List Order) (effects : List Effect) → AllByRecursion CanAskOrder orders → Does files t orders effects → CanGoOn t → CanGoOn (after_effects effects t)
+orders_go_on : KeepingLaws → (files : Option Look) (t : Tables) (orders : List Order) (effects : List Effect)
+    → AllByRecursion CanAskOrder orders → Does files t orders effects → CanGoOn t → CanGoOn (after_effects effects t)
 orders_go_on laws files t [] [] ask does go = go
 orders_go_on laws files t [] (effect ∷ effects) ask does go = absurd does
 orders_go_on laws files t (order ∷ orders) [] ask does go = absurd does

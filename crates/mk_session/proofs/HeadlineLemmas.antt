@@ -17,11 +17,11 @@ use Rattle.mk_session.specs.Ends.{Unwritten, PutFailed, PutNoMemory, Stopped, Fi
 use Rattle.mk_session.specs.Faults.{Faults, FilesFailed, OutputFailed, KeeperFailed}
 use Rattle.mk_effects.specs.Files.{Look}
 use Rattle.mk_session.specs.Headline.{Headline}
-use Rattle.mk_session.specs.Outcomes.{World, WentSo, InputUnread, Ended, IsQuiet, IsReadOut, IsAllDone, IsInputSame, IsRestSame, IsTaken, Done as ReadOutDone, Refused as ReadOutRefused, BadStore as ReadOutBadStore, AllCommandsDone, SomeRefused}
-use Rattle.mk_session.specs.Orders.{Asked, Nothing, Order, Orders, TooMuch, asked, asked_of, orders_asked}
+use Rattle.mk_session.specs.Outcomes.{World, WentSo, InputUnread, Ended, IsQuiet, IsReadOut, IsAllDone, IsInputSame, IsRestSame, IsInputTaken, Done as ReadOutDone, Refused as ReadOutRefused, BadStore as ReadOutBadStore, AllCommandsDone, SomeRefused}
+use Rattle.mk_session.specs.Orders.{Asked, NoCommand, Order, Orders, TooMuch, asked, asked_of, orders_asked}
 use Rattle.mk_session.specs.Turns.{IsDoneAll, IsHalted}
 use Rattle.mk_session.specs.Given.{IsGiven, Gives, asked_of_given}
-use Rattle.mk_session.specs.Opening.{IsHeld, IsLoaded}
+use Rattle.mk_session.specs.Opening.{IsHeldByKeeper, IsLoaded}
 use Rattle.mk_session.specs.Running.{Leaves}
 use Rattle.mk_session.proofs.AnsweredLemmas.{answered_whole}
 use Rattle.mk_session.proofs.ReadingLemmas.{Held_input, held_input}
@@ -33,14 +33,19 @@ use Rattle.mk_session.proofs.TurnLemmas.{same_misses}
 -- ---- a run once the store is open
 
 -- what is kept, over both
-kept_through : (told told1 told2 : Option Tables) (t t' : Tables) (sound1 sound2 : Type 0) → (sound2 → sound1) → (sound1 → IfSome told (λ _. told1 ≡ Some t)) → (sound2 → told1 ≡ Some t → told2 ≡ Some t')
+kept_through : (told told1 told2 : Option Tables) (t t' : Tables) (sound1 sound2 : Type 0) → (sound2 → sound1)
+    → (sound1 → IfSome told (λ _. told1 ≡ Some t)) → (sound2 → told1 ≡ Some t → told2 ≡ Some t')
     → sound2 → IfSome told (λ _. told2 ≡ Some t')
 kept_through None told1 told2 t t' sound1 sound2 back stays kept s = tt
 kept_through (Some u) told1 told2 t t' sound1 sound2 back stays kept s = kept s (stays (back s))
 
 module _ (sound1 sound2 : Type 0) (files : Option Look) (orders : List Order) (told told1 told2 : Option Tables) (t t' : Tables) (so so1 so2 : Option (List ℕ)) (old mid new : Faults)
-    (missed missed' : ℕ) (loaded : IsLoaded sound1 told told1 t) (reads : AllRead t) (same : so1 ≡ so) (counts : mid ≡ old) (back : sound2 → sound1) (kept : sound2 → told1 ≡ Some t → told2 ≡ Some t') (misses : Misses files t orders missed missed') where
-  leaves_with : (added : List ℕ) (ends : Status) → Goes files t orders old new added t' ends → IfSome so (λ s. so2 ≡ Some (s ++ added)) → Leaves sound2 files (Orders orders) told told2 so so2 old new missed missed' ends
+    (missed missed' : ℕ) (loaded : IsLoaded sound1 told told1 t) (reads : AllRead t) (same : so1 ≡ so)
+    (counts : mid ≡ old) (back : sound2 → sound1) (kept : sound2 → told1 ≡ Some t → told2 ≡ Some t')
+    (misses : Misses files t orders missed missed') where
+  leaves_with : (added : List ℕ) (ends : Status) → Goes files t orders old new added t' ends
+      → IfSome so (λ s. so2 ≡ Some (s ++ added)) → Leaves sound2 files (Orders orders) told told2 so so2 old new missed
+      missed' ends
   leaves_with added ends goes written = record {
     t = t;
     added = added;
@@ -52,20 +57,25 @@ module _ (sound1 sound2 : Type 0) (files : Option Look) (orders : List Order) (t
     misses = misses;
   }
 
-  pub leaves_done : (refused : Bool) (ends : Status) → IsDoneAll files t t' orders so1 so2 mid new refused → ends ≡ ending_if refused → Leaves sound2 files (Orders orders) told told2 so so2 old new missed missed' ends
+  pub leaves_done : (refused : Bool) (ends : Status) → IsDoneAll files t t' orders so1 so2 mid new refused
+      → ends ≡ ending_if refused → Leaves sound2 files (Orders orders) told told2 so so2 old new missed missed' ends
   leaves_done refused ends d is =
-      leaves_with (texts d.effects) ends (AllDone d.effects d.does (d.counts ∙ counts) refl d.tables (is ∙ ap ending_if d.refuses)) (subst (λ (o : Option (List ℕ)). IfSome o (λ s. so2 ≡ Some (s ++ texts d.effects))) same d.written)
+      leaves_with (texts d.effects) ends (AllDone d.effects d.does (d.counts ∙ counts) refl d.tables
+      (is ∙ ap ending_if d.refuses)) (subst (λ (o : Option (List ℕ)). IfSome o
+      (λ s. so2 ≡ Some (s ++ texts d.effects))) same d.written)
 
   pub leaves_halted : (ends : Status) → IsHalted files t t' orders so1 so2 mid new ends → Leaves sound2 files (Orders orders) told told2 so so2 old new missed missed' ends
   leaves_halted ends h =
-      leaves_with h.added ends (Halted (subst (λ (o : Faults). Halts files t orders o new h.added t' ends) counts h.halts)) (subst (λ (o : Option (List ℕ)). IfSome o (λ s. so2 ≡ Some (s ++ h.added))) same h.written)
+      leaves_with h.added ends (Halted (subst (λ (o : Faults). Halts files t orders o new h.added t' ends) counts
+      h.halts)) (subst (λ (o : Option (List ℕ)). IfSome o (λ s. so2 ≡ Some (s ++ h.added))) same h.written)
 
 -- ---- a run in which no call failed
 
 rose_above : (old new : ℕ) → Rose old new → new ≡ old → old < 18446744073709551615 → ⊥
 rose_above old new rose same below = let up : old < new = rose.above (omega (arith, same, below)) in omega (arith, up, same)
 
-module _ (files : Option Look) (t : Tables) (old new : Faults) (same : new ≡ old) (f : old.files < 18446744073709551615) (o : old.output < 18446744073709551615) (k : old.keeper < 18446744073709551615) where
+module _ (files : Option Look) (t : Tables) (old new : Faults) (same : new ≡ old) (f : old.files < 18446744073709551615)
+    (o : old.output < 18446744073709551615) (k : old.keeper < 18446744073709551615) where
   not_files : FilesFailed old new → ⊥
   not_files failed = rose_above old.files new.files failed.files (ap (λ (x : Faults). x.files) same) f
 
@@ -153,7 +163,7 @@ module _ (sound : Type 0) (words : List (List ℕ)) (old new : World) (ends : St
   -- the run ended once the input was read, or wasn't needed
   module _ (g : Given) (is : IsGiven words old.input new.input old.input_faults new.input_faults g)
       (leaves : Leaves sound old.files (asked_of_given g) old.tables new.tables old.output new.output old.faults new.faults old.absences new.absences ends)
-      (rest : kind_of_words words ≡ words_kind.NotUnderstood → IsRestSame old new) (taken : IsTaken old.input new.input) where
+      (rest : kind_of_words words ≡ words_kind.NotUnderstood → IsRestSame old new) (taken : IsInputTaken old.input new.input) where
     went : WentSo words is.input leaves.t old new leaves.added leaves.left ends
     went = Ended is.count (subst (λ (a : Asked). Ends old.files leaves.t a old.faults new.faults leaves.added leaves.left ends) (sym is.asks) leaves.ends_so)
 
@@ -190,15 +200,18 @@ stays_same : (told told' : Option Tables) → told' ≡ told → IfSome told (λ
 stays_same None told' e = tt
 stays_same (Some t) told' e = e
 
-pub untouched_keeper : (sound : Type 0) (told : Option Tables) → IsHeld sound told told
+pub untouched_keeper : (sound : Type 0) (told : Option Tables) → IsHeldByKeeper sound told told
 untouched_keeper sound told = held_as sound told told (λ _. stays_same told told refl)
 
 -- the words are understood
-pub understood : (words : List (List ℕ)) (left left' : Option (List ℕ)) (f f' : ℕ) (g : Given) → IsGiven words left left' f f' g → asked_of_given g ≢ Nothing → kind_of_words words ≢ words_kind.NotUnderstood
+pub understood : (words : List (List ℕ)) (left left' : Option (List ℕ)) (f f' : ℕ) (g : Given)
+    → IsGiven words left left' f f' g → asked_of_given g ≢ NoCommand → kind_of_words words ≢ words_kind.NotUnderstood
 understood words left left' f f' g is other e = other (sym is.asks ∙ ap (λ (k : WordsKind). asked_of k is.input) e)
 
-module _ (sound : Type 0) (words : List (List ℕ)) (old new : World) (out : new.output ≡ old.output) (tables : new.tables ≡ old.tables) (faults : new.faults ≡ old.faults) (absences : new.absences ≡ old.absences) (taken : IsTaken old.input new.input) where
-  stopped_with : (ends : Status) (input : Held_input old.input) (held : IsHeld sound old.tables new.tables) → WentSo words input.text held.t old new [] held.t ends → (IsReadOut ends → ⊥)
+module _ (sound : Type 0) (words : List (List ℕ)) (old new : World) (out : new.output ≡ old.output)
+    (tables : new.tables ≡ old.tables) (faults : new.faults ≡ old.faults) (absences : new.absences ≡ old.absences)
+    (taken : IsInputTaken old.input new.input) where
+  stopped_with : (ends : Status) (input : Held_input old.input) (held : IsHeldByKeeper sound old.tables new.tables) → WentSo words input.text held.t old new [] held.t ends → (IsReadOut ends → ⊥)
       → (kind_of_words words ≢ words_kind.Script → IsInputSame old new) → Headline sound words old new ends
   stopped_with ends input held went out_of same = record {
     input = input.text;
@@ -212,15 +225,17 @@ module _ (sound : Type 0) (words : List (List ℕ)) (old new : World) (out : new
     went_so = went;
     answered = λ a. answered_whole words input.text held.t old new [] held.t ends a went;
     headline = quiet_run sound words old new ends input.text held.t [] held.t went;
-    complete = λ quiet more orders a reads. all_done old.files held.t (asked words input.text) [] held.t ends orders a reads (quiet_run sound words old new ends input.text held.t [] held.t went quiet more);
+    complete = λ quiet more orders a reads. all_done old.files held.t (asked words input.text) [] held.t ends orders a
+        reads (quiet_run sound words old new ends input.text held.t [] held.t went quiet more);
     input_end = λ script read_out. absurd (out_of read_out);
     input_same = same;
     input_taken = taken;
     rest_same = λ _. record { tables = tables; files_count = ap (λ (x : Faults). x.files) faults; keeper_count = ap (λ (x : Faults). x.keeper) faults; absences = absences };
-    missed = subst (λ (n : ℕ). Misses old.files held.t (orders_asked (asked words input.text)) old.absences n) (sym absences) (same_misses old.files held.t (orders_asked (asked words input.text)) old.absences);
+    missed = subst (λ (n : ℕ). Misses old.files held.t (orders_asked (asked words input.text)) old.absences n)
+        (sym absences) (same_misses old.files held.t (orders_asked (asked words input.text)) old.absences);
   }
 
-  held_here : IsHeld sound old.tables new.tables
+  held_here : IsHeldByKeeper sound old.tables new.tables
   held_here = held_as sound old.tables new.tables (λ _. stays_same old.tables new.tables tables)
 
   pub headline_stopped : (ends : Status) → Gives words old.input new.input old.input_faults new.input_faults (Err ends) → Headline sound words old new ends

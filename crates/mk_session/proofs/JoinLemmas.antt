@@ -47,7 +47,8 @@ onto_more c (p ∷ ps) qs s = refl
 one_more_byte : (c : ℕ) (xs ys : List ℕ) → pieces (xs ++ 10 ∷ ys) ≡ pieces (xs ++ 10 ∷ []) ++ pieces ys → pieces (c ∷ xs ++ 10 ∷ ys) ≡ pieces (c ∷ xs ++ 10 ∷ []) ++ pieces ys
 one_more_byte c xs ys more = by_test (c == 10)
   where
-    by_test : (b : Bool) → (if b then [] ∷ pieces (xs ++ 10 ∷ ys) else onto_first_piece c (pieces (xs ++ 10 ∷ ys))) ≡ (if b then [] ∷ pieces (xs ++ 10 ∷ []) else onto_first_piece c (pieces (xs ++ 10 ∷ []))) ++ pieces ys
+    by_test : (b : Bool) → (if b then [] ∷ pieces (xs ++ 10 ∷ ys) else onto_first_piece c (pieces (xs ++ 10 ∷ ys))) ≡
+        (if b then [] ∷ pieces (xs ++ 10 ∷ []) else onto_first_piece c (pieces (xs ++ 10 ∷ []))) ++ pieces ys
     by_test true = ap (λ (ps : List (List ℕ)). [] ∷ ps) more
     by_test false = ap (λ (ps : List (List ℕ)). onto_first_piece c ps) more ∙ onto_more c (pieces (xs ++ 10 ∷ [])) (pieces ys) (before_lf_some xs)
 
@@ -88,12 +89,16 @@ record IsCommandRun (files : Option Look) (t : Tables) (orders : List Order) (ad
   leaves : left ≡ after_effects effects t
   status : ends ≡ status_behind effects
 
-of_first : (files : Option Look) (t : Tables) (asked : Asked) (orders : List Order) (added : List ℕ) (left : Tables) (ends : Status) → asked ≡ Orders orders → IsAllDone ends → IsRun files t asked added left ends → IsCommandRun files t orders added left ends
+of_first : (files : Option Look) (t : Tables) (asked : Asked) (orders : List Order) (added : List ℕ) (left : Tables)
+    (ends : Status) → asked ≡ Orders orders → IsAllDone ends → IsRun files t asked added left ends
+    → IsCommandRun files t orders added left ends
 of_first files t asked orders added left ends is done (OneLine one a) = absurd (one_line_done t asked added ends done one)
 of_first files t asked orders added left ends is done (Commands others e reads effects does a b s) =
     record { reads = reads; effects = effects; does = subst (λ (os : List Order). Does files t os effects) (same_orders asked orders others is e) does; adds = a; leaves = b; status = s }
 
-of_second : (files : Option Look) (t : Tables) (asked : Asked) (orders : List Order) (added : List ℕ) (left : Tables) (ends : Status) → asked ≡ Orders orders → AllRead t → IsRun files t asked added left ends → IsCommandRun files t orders added left ends
+of_second : (files : Option Look) (t : Tables) (asked : Asked) (orders : List Order) (added : List ℕ) (left : Tables)
+    (ends : Status) → asked ≡ Orders orders → AllRead t → IsRun files t asked added left ends
+    → IsCommandRun files t orders added left ends
 of_second files t asked orders added left ends is reads (OneLine one a) = absurd (no_line t asked orders added ends is reads one)
 of_second files t asked orders added left ends is reads (Commands others e r effects does a b s) =
     record { reads = reads; effects = effects; does = subst (λ (os : List Order). Does files t os effects) (same_orders asked orders others is e) does; adds = a; leaves = b; status = s }
@@ -116,7 +121,9 @@ pub two_scripts : TwoScripts
 two_scripts files t t1 t2 first second a b ends1 ends2 run1 done reads run2 short =
     let both : length ((first ++ 10 ∷ []) ++ second) ≡ length (first ++ 10 ∷ []) + length second = length-append (first ++ 10 ∷ []) second in
     let asked : asked_of_script ((first ++ 10 ∷ []) ++ second) ≡ Orders (orders_of (lines_of (first ++ 10 ∷ [])) ++ orders_of (lines_of second)) =
-    asked_short ((first ++ 10 ∷ []) ++ second) short ∙ ap Orders (ap (λ (ls : List (List ℕ)). orders_of ls) (lines_more first second) ∙ flat_map-append orders_of_line (lines_of (first ++ 10 ∷ [])) (lines_of second)) in
+    asked_short ((first ++ 10 ∷ []) ++ second) short ∙ ap Orders
+    (ap (λ (ls : List (List ℕ)). orders_of ls) (lines_more first second)
+    ∙ flat_map-append orders_of_line (lines_of (first ++ 10 ∷ [])) (lines_of second)) in
     both_runs files t t1 t2 _ _ a b ends1 ends2 _ asked
     (of_first files t _ _ a t1 ends1 (asked_short (first ++ 10 ∷ []) (omega arith)) done run1)
     (of_second files t1 _ _ b t2 ends2 (asked_short second (omega arith)) reads run2)

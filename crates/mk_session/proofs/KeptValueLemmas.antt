@@ -2,39 +2,35 @@
 --     all_put, all_filtered      what holds of all rows, once one was put or some were dropped
 --     named_put, named_left      a name that is held still is
 --     effect_keeps               EffectsKeepQueries
-use Rattle.std.proofs.Common.{◌≡◌, ◌<◌, ◌≤◌, ◌+◌, ℕ, Bool, true, false, cond, not, List, [], ◌∷◌, ◌++◌, Option, Some, None, refl, sym, subst, ◌∙◌, arith, map, filter}
+use Rattle.std.proofs.Common.{◌≡◌, ◌<◌, ◌+◌, ℕ, Bool, true, false, cond, not, List, [], ◌∷◌, ◌++◌, Option, Some, None, refl, sym, subst, ◌∙◌, arith, map, filter}
 use Rattle.std.specs.Prelude.{◌||◌, bytes_eq, nat_eq, nat_lt}
 use Rattle.std.specs.List.{AllByRecursion, list_any}
 use Rattle.std.proofs.lemmas.Bool.{cond_both, eqb-true, true≢false}
 use Rattle.std.proofs.lemmas.Slice.Eq.{bytes_eq-Decides}
-use Rattle.mk_model.specs.Queries.{QueryView}
 use Rattle.mk_outside.specs.declared.tables.Change.{Change}
-use Rattle.mk_outside.specs.declared.tables.Change.TheVariants.{DropCursor, DropQuery, DropRecord, PutCursor, PutQuery, PutRecord}
+use Rattle.mk_outside.specs.declared.tables.Change.TheVariants.{DropCursor, DropQuery, DropRecord, PutCursor, PutQuery}
 use Rattle.mk_outside.specs.declared.tables.CursorRow.{CursorRow}
 use Rattle.mk_outside.specs.declared.tables.QueryRow.{QueryRow}
 use Rattle.mk_outside.specs.declared.tables.Tables.{Tables}
 use Rattle.mk_outside.specs.Rows as outside
 use Rattle.mk_outside.specs.Rows.{in_order, in_place}
 use Rattle.mk_outside.specs.Tables.{after_batch, after_change, cursor_number, query_number, without_name}
-use Rattle.mk_library.specs.Edits.{Edit, Load, Remove, Replace}
-use Rattle.mk_library.specs.FirstRefusal.{IsAllowed}
+use Rattle.mk_library.specs.Edits.{Edit, Load, Replace}
+use Rattle.mk_library.specs.declared.refusal.LoadRefusal.{LoadRefusal}
+use Rattle.mk_library.specs.FirstRefusal.{IsAllowedEdit, IsFirstFileRefusal, IsFirstRefusal}
 use Rattle.mk_library.specs.Pending.{InTurn}
 use Rattle.mk_library.proofs.EditedRowsLemmas.{edits_of_records}
 use Rattle.mk_library.proofs.PendingLemmas.{records_alone}
-use Rattle.mk_library.specs.FirstRefusal.{Demand, Demands}
-use Rattle.mk_library.specs.FirstRefusal as demand
-use Rattle.mk_library.specs.Records.{is_held}
 use Rattle.mk_query.proofs.KeptTextLemmas.{kept_text as kept_text_is}
 use Rattle.mk_rgfile.proofs.KeptQueryLemmas.{kept_is_kept, query_left}
 use Rattle.mk_session.specs.declared.command.Command.TheVariants as variant
 use Rattle.mk_effects.specs.Effects.{Answers, Refuses}
 use Rattle.mk_effects.specs.Effects.{Effect, after_effect}
 use Rattle.mk_effects.specs.Files.{Look}
-use Rattle.mk_effects.specs.Loading.{EditRefused, EditTooLong, Edits, NoRecordReplaced, ReplacesHeld}
-use Rattle.mk_effects.specs.Loading.{IsEdited, IsReplace}
-use Rattle.mk_effects.specs.Match.{IsMatch, IsSearchOfFile}
-use Rattle.mk_effects.specs.Match.{Lists, MoleculesRefused, QueryRefused, Searches}
-use Rattle.mk_session.specs.Orders.{Order}
+use Rattle.mk_effects.specs.Loading.{NoRecordReplaced, ReplacesHeld}
+use Rattle.mk_effects.specs.Loading.{IsEditMade, IsEdited, IsReplace}
+use Rattle.mk_effects.specs.Match.{IsMatch, ListsKeys, QueryRefused, Searches}
+use Rattle.mk_effects.specs.MoleculeFiles.{ComesByFile, GoesByMolecules, MoleculesRefused, MoleculesTooLong}
 use Rattle.mk_effects.specs.Queries.{FileIsRefused, Forgets, Keeps, NameIsHeld, NoQueryForgotten, QueriesAreFull, TextsAreFull}
 use Rattle.mk_effects.specs.Queries.{IsForget, IsKeep, drop_of, forget_changes, kept_text}
 use Rattle.mk_effects.specs.Records.{IsRemove, IsShow}
@@ -65,12 +61,15 @@ module _ {R : Type 0} (P : R → Type 0) (number : R → ℕ) where
   all_put : (row : R) (rows : List R) → P row → AllByRecursion P rows → AllByRecursion P (outside.put number row rows)
   unfolding outside.put
   all_put row rows here all =
-      cond_both (list_any (λ x. nat_eq (number x) (number row)) rows) (in_place number row rows) (in_order number row rows) (AllByRecursion P) (λ _. all_in_place row rows here all) (λ _. all_in_order row rows here all)
+      cond_both (list_any (λ x. nat_eq (number x) (number row)) rows) (in_place number row rows)
+      (in_order number row rows) (AllByRecursion P) (λ _. all_in_place row rows here all)
+      (λ _. all_in_order row rows here all)
 
   -- and of those that are left
   all_filtered : (stays : R → Bool) (rows : List R) → AllByRecursion P rows → AllByRecursion P (filter stays rows)
   all_filtered stays [] all = tt
-  all_filtered stays (x ∷ rows) all = cond_both (stays x) (x ∷ filter stays rows) (filter stays rows) (AllByRecursion P) (λ _. (all.0, all_filtered stays rows all.1)) (λ _. all_filtered stays rows all.1)
+  all_filtered stays (x ∷ rows) all = cond_both (stays x) (x ∷ filter stays rows) (filter stays rows) (AllByRecursion P)
+      (λ _. (all.0, all_filtered stays rows all.1)) (λ _. all_filtered stays rows all.1)
 
 -- what holds of each row in one way holds in another
 all_by : {R : Type 0} (P Q : R → Type 0) → ((row : R) → P row → Q row) → (rows : List R) → AllByRecursion P rows → AllByRecursion Q rows
@@ -97,7 +96,8 @@ named_in_order name row [] named = absurd (true≢false (sym named))
 named_in_order name row (x ∷ rows) named =
     cond_both (nat_lt row.number x.number) (row ∷ x ∷ rows) (x ∷ in_order query_number row rows) (λ (all : List QueryRow). is_named name all ≡ true)
     (λ _. or_later (bytes_eq row.name name) (is_named name (x ∷ rows)) named)
-    (λ _. or_cases (is_named name (x ∷ in_order query_number row rows) ≡ true) (bytes_eq x.name name) (is_named name rows) (or_first (bytes_eq x.name name) (is_named name (in_order query_number row rows)))
+    (λ _. or_cases (is_named name (x ∷ in_order query_number row rows) ≡ true) (bytes_eq x.name name)
+    (is_named name rows) (or_first (bytes_eq x.name name) (is_named name (in_order query_number row rows)))
     (λ later. or_later (bytes_eq x.name name) (is_named name (in_order query_number row rows)) (named_in_order name row rows later)) named)
 
 none_of_number : (n : ℕ) (rows : List QueryRow) → AllByRecursion (λ (row : QueryRow). row.number < n) rows → list_any (λ (x : QueryRow). nat_eq x.number n) rows ≡ false
@@ -109,7 +109,9 @@ none_of_number n (x ∷ rows) all = by_test (nat_eq x.number n) refl (none_of_nu
     by_test false is none = none
 
 -- names that are held still are behind a query of a number above all
-named_put : (name : List ℕ) (row : QueryRow) (rows : List QueryRow) → AllByRecursion (λ (x : QueryRow). x.number < row.number) rows → is_named name rows ≡ true → is_named name (outside.put query_number row rows) ≡ true
+named_put : (name : List ℕ) (row : QueryRow) (rows : List QueryRow)
+    → AllByRecursion (λ (x : QueryRow). x.number < row.number) rows → is_named name rows ≡ true
+    → is_named name (outside.put query_number row rows) ≡ true
 unfolding outside.put
 named_put name row rows below named = rw (none_of_number row.number rows below) (named_in_order name row rows named)
 
@@ -123,7 +125,9 @@ named_left name gone (x ∷ rows) other named = by_test (bytes_eq x.name gone) r
     same_name here there =
         true≢false (sym ((bytes_eq-Decides name gone).1 (sym ((bytes_eq-Decides x.name name).0 there) ∙ (bytes_eq-Decides x.name gone).0 here)) ∙ other)
 
-    by_test : (b : Bool) → bytes_eq x.name gone ≡ b → (is_named name rows ≡ true → is_named name (without_name gone rows) ≡ true) → is_named name (cond (not b) (x ∷ without_name gone rows) (without_name gone rows)) ≡ true
+    by_test : (b : Bool) → bytes_eq x.name gone ≡ b → (is_named name rows ≡ true
+        → is_named name (without_name gone rows) ≡ true)
+        → is_named name (cond (not b) (x ∷ without_name gone rows) (without_name gone rows)) ≡ true
     by_test true is left = or_cases (is_named name (without_name gone rows) ≡ true) (bytes_eq x.name name) (is_named name rows) (λ there. absurd (same_name is there)) left named
     by_test false is left =
         or_cases (is_named name (x ∷ without_name gone rows) ≡ true) (bytes_eq x.name name) (is_named name rows) (or_first (bytes_eq x.name name) (is_named name (without_name gone rows)))
@@ -139,7 +143,7 @@ changed_keeps : (t : Tables) (effect : Effect) (batch : List Change) (text : Lis
 changed_keeps t effect batch text is can = subst (λ (e : Effect). CanBeAsked (after_effect e t)) (sym is) can
 
 -- changes of records leave queries and saved searches
-edit_keeps : (t : Tables) (edit : Edit) (changes : List Change) → IsAllowed t.records t.next_record edit changes → CanBeAsked t → CanBeAsked (after_batch changes t)
+edit_keeps : (t : Tables) (edit : Edit) (changes : List Change) → IsAllowedEdit t.records t.next_record edit changes → CanBeAsked t → CanBeAsked (after_batch changes t)
 edit_keeps t edit changes allowed can =
     let whole = records_alone changes t (edits_of_records t.records t.next_record edit changes allowed) in
     subst CanBeAsked (sym whole) (record { queries = can.queries; cursors = can.cursors })
@@ -157,18 +161,25 @@ drop_keeps t number can = record {
   cursors = all_filtered (λ (row : CursorRow). is_named row.name t.queries ≡ true) cursor_number (λ (x : CursorRow). not (nat_eq x.number number)) t.cursors can.cursors;
 }
 
-query_keeps : (t : Tables) (row : QueryRow) → AllByRecursion (λ (x : QueryRow). x.number < row.number) t.queries → HasMeaning row.text → CanBeAsked t → CanBeAsked (after_change (PutQuery row.number row.name row.text) t)
+query_keeps : (t : Tables) (row : QueryRow) → AllByRecursion (λ (x : QueryRow). x.number < row.number) t.queries
+    → HasMeaning row.text → CanBeAsked t → CanBeAsked (after_change (PutQuery row.number row.name row.text) t)
 query_keeps t row below means can = record {
   queries = all_put (λ (x : QueryRow). HasMeaning x.text) query_number row t.queries means can.queries;
-  cursors = all_by (λ (x : CursorRow). is_named x.name t.queries ≡ true) (λ (x : CursorRow). is_named x.name (outside.put query_number row t.queries) ≡ true) (λ x named. named_put x.name row t.queries below named) t.cursors can.cursors;
+  cursors = all_by (λ (x : CursorRow). is_named x.name t.queries ≡ true)
+      (λ (x : CursorRow). is_named x.name (outside.put query_number row t.queries) ≡ true)
+      (λ x named. named_put x.name row t.queries below named) t.cursors can.cursors;
 }
 
 -- none has the name of a query that is dropped
-others_named : (name : List ℕ) (queries : List QueryRow) (cursors : List CursorRow) → is_waiting name cursors ≡ false → AllByRecursion (λ (x : CursorRow). is_named x.name queries ≡ true) cursors → AllByRecursion (λ (x : CursorRow). is_named x.name (without_name name queries) ≡ true) cursors
+others_named : (name : List ℕ) (queries : List QueryRow) (cursors : List CursorRow) → is_waiting name cursors ≡ false
+    → AllByRecursion (λ (x : CursorRow). is_named x.name queries ≡ true) cursors
+    → AllByRecursion (λ (x : CursorRow). is_named x.name (without_name name queries) ≡ true) cursors
 others_named name queries [] none all = tt
 others_named name queries (x ∷ cursors) none all = by_test (bytes_eq x.name name) (is_waiting name cursors) refl refl none (λ later. others_named name queries cursors later all.1)
   where
-    by_test : (a b : Bool) → bytes_eq x.name name ≡ a → is_waiting name cursors ≡ b → (a || b) ≡ false → (is_waiting name cursors ≡ false → AllByRecursion (λ (y : CursorRow). is_named y.name (without_name name queries) ≡ true) cursors)
+    by_test : (a b : Bool) → bytes_eq x.name name ≡ a → is_waiting name cursors ≡ b → (a || b) ≡ false
+        → (is_waiting name cursors ≡ false → AllByRecursion
+        (λ (y : CursorRow). is_named y.name (without_name name queries) ≡ true) cursors)
         → AllByRecursion (λ (y : CursorRow). is_named y.name (without_name name queries) ≡ true) (x ∷ cursors)
     by_test true b p q none left = absurd (true≢false none)
     by_test false true p q none left = absurd (true≢false none)
@@ -186,32 +197,37 @@ drops_keep name (drop ∷ drops) t places can = drops_keep name drops (after_cha
 -- ---- commands
 
 module _ (files : Option Look) (t : Tables) (can : CanBeAsked t) where
-  file_keeps : (wanted : QueryView) (name : List ℕ) (effect : Effect) → IsSearchOfFile wanted files name effect → CanBeAsked (after_effect effect t)
-  file_keeps wanted name effect (MoleculesRefused line refused is) = refused_keeps t effect line is can
-  file_keeps wanted name effect (Lists mol held keys first text hits is) = changed_keeps t effect [] text is can
+  -- by a molecules' file a command leaves tables that can be asked, where by its bytes it does
+  by_file_keeps : (name : List ℕ) (First : List ℕ → LoadRefusal → Type 0) (Comes : List ℕ → Effect → Type 0) (effect : Effect)
+      → ((bytes : List ℕ) → Comes bytes effect → CanBeAsked (after_effect effect t)) → ComesByFile files name First Comes effect → CanBeAsked (after_effect effect t)
+  by_file_keeps name First Comes effect keeps (MoleculesTooLong long is) = refused_keeps t effect _ is can
+  by_file_keeps name First Comes effect keeps (MoleculesRefused bytes read said first line says is) = refused_keeps t effect line is can
+  by_file_keeps name First Comes effect keeps (GoesByMolecules bytes read comes) = keeps bytes comes
 
   match_keeps : (query molecules : List ℕ) (effect : Effect) → IsMatch files query molecules effect → CanBeAsked (after_effect effect t)
   match_keeps query molecules effect (QueryRefused line refused is) = refused_keeps t effect line is can
-  match_keeps query molecules effect (Searches wanted held searched) = file_keeps wanted molecules effect searched
+  match_keeps query molecules effect (Searches wanted held searched) =
+      by_file_keeps molecules IsFirstFileRefusal (ListsKeys wanted) effect (λ bytes lists. changed_keeps t effect [] lists.text lists.answered can) searched
 
-  edited_keeps : (name : List ℕ) (edit : List ℕ → Edit) (answer : List Change → List ℕ) (effect : Effect) → IsEdited files t name edit answer effect → CanBeAsked (after_effect effect t)
-  edited_keeps name edit answer effect (EditTooLong long is) = refused_keeps t effect _ is can
-  edited_keeps name edit answer effect (EditRefused bytes read said first line says is) = refused_keeps t effect line is can
-  edited_keeps name edit answer effect (Edits bytes read changes allowed is) = changed_keeps t effect changes (answer changes) is (edit_keeps t (edit bytes) changes allowed can)
+  edited_keeps : (name : List ℕ) (edit : List ℕ → Edit) (answer : List Change → List ℕ) (effect : Effect) → IsEdited files t.records t.next_record name edit answer effect
+      → CanBeAsked (after_effect effect t)
+  edited_keeps name edit answer effect edited =
+      by_file_keeps name (λ (bytes : List ℕ). IsFirstRefusal t.records t.next_record (edit bytes)) (λ (bytes : List ℕ). IsEditMade t.records t.next_record (edit bytes) answer) effect
+      (λ bytes made. changed_keeps t effect made.changes (answer made.changes) made.answered (edit_keeps t (edit bytes) made.changes made.allowed can)) edited
 
-  replace_keeps : (n : ℕ) (name : List ℕ) (effect : Effect) → IsReplace files t n name effect → CanBeAsked (after_effect effect t)
+  replace_keeps : (n : ℕ) (name : List ℕ) (effect : Effect) → IsReplace files t.records t.next_record n name effect → CanBeAsked (after_effect effect t)
   replace_keeps n name effect (NoRecordReplaced none is) = refused_keeps t effect _ is can
   replace_keeps n name effect (ReplacesHeld held edited) = edited_keeps name (Replace n) _ effect edited
 
-  remove_keeps : (n : ℕ) (effect : Effect) → IsRemove t n effect → CanBeAsked (after_effect effect t)
+  remove_keeps : (n : ℕ) (effect : Effect) → IsRemove t.records n effect → CanBeAsked (after_effect effect t)
   remove_keeps n effect (NoRecordRemoved none is) = refused_keeps t effect _ is can
   remove_keeps n effect (Removes held is) = changed_keeps t effect (DropRecord n ∷ []) _ is (record { queries = can.queries; cursors = can.cursors })
 
-  show_keeps : (n : ℕ) (effect : Effect) → IsShow t n effect → CanBeAsked (after_effect effect t)
+  show_keeps : (n : ℕ) (effect : Effect) → IsShow t.records n effect → CanBeAsked (after_effect effect t)
   show_keeps n effect (NoRecordShown none is) = refused_keeps t effect _ is can
   show_keeps n effect (Shows text there is) = changed_keeps t effect [] _ is can
 
-  keep_keeps : (name file : List ℕ) (effect : Effect) → IsKeep files t name file effect → CanBeAsked (after_effect effect t)
+  keep_keeps : (name file : List ℕ) (effect : Effect) → IsKeep files t.queries name file effect → CanBeAsked (after_effect effect t)
   keep_keeps name file effect (NameIsHeld held is) = refused_keeps t effect _ is can
   keep_keeps name file effect (QueriesAreFull new full is) = refused_keeps t effect _ is can
   keep_keeps name file effect (FileIsRefused free line refused is) = refused_keeps t effect line is can
@@ -222,7 +238,7 @@ module _ (files : Option Look) (t : Tables) (can : CanBeAsked t) where
       (query_keeps t row (below_all (greatest_number t.queries) (greatest_number t.queries + 1) t.queries (omega arith) (none_above_greatest t.queries))
       (query, kept_is_meant kept_is_kept (kept_text_is query_left) held.bytes query held.is) can)
 
-  forget_keeps : (name : List ℕ) (effect : Effect) → IsForget t name effect → CanBeAsked (after_effect effect t)
+  forget_keeps : (name : List ℕ) (effect : Effect) → IsForget t.queries t.cursors name effect → CanBeAsked (after_effect effect t)
   forget_keeps name effect (NoQueryForgotten none is) = refused_keeps t effect _ is can
   forget_keeps name effect (Forgets held is) =
       let drops = filter (λ (row : CursorRow). bytes_eq row.name name) t.cursors in
@@ -232,7 +248,8 @@ module _ (files : Option Look) (t : Tables) (can : CanBeAsked t) where
   search_keeps name limit effect (NoQuerySearched none is) = refused_keeps t effect _ is can
   search_keeps name limit effect (SearchesAreFull query named full is) = refused_keeps t effect _ is can
   search_keeps name limit effect (ListsAll query named room keys text listing fewer is) = changed_keeps t effect [] text is can
-  search_keeps name limit effect (SavesPlace query named room keys text listing many is) = changed_keeps t effect _ text is (cursor_keeps t t.next_cursor name _ (named_of name t.queries query named) can)
+  search_keeps name limit effect (SavesPlace query named room keys text listing many is) =
+      changed_keeps t effect _ text is (cursor_keeps t t.next_cursor name _ (named_of name t.queries query named) can)
 
   resume_keeps : (c limit : ℕ) (effect : Effect) → IsResume t c limit effect → CanBeAsked (after_effect effect t)
   resume_keeps c limit effect (NoSearchResumed none is) = refused_keeps t effect _ is can

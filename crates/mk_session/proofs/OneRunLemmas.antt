@@ -4,7 +4,6 @@
 use Rattle.std.proofs.Common.{◌≡◌, ℕ, List, [], ◌∷◌, None, Some, refl, sym, ap, subst, ◌∙◌}
 use Rattle.mk_outside.specs.declared.tables.Tables.{Tables}
 use Rattle.mk_session.specs.declared.command.Command.TheVariants as variant
-use Rattle.mk_effects.specs.declared.files.HeldQuery.TheVariants.{Query}
 use Rattle.mk_session.specs.declared.status.Status.{Status}
 use Rattle.mk_kept.specs.declared.stored_rows.RowKind.{RowKind}
 use Rattle.mk_effects.specs.Effects.{Answers, Effect, after_effect}
@@ -23,14 +22,14 @@ use Rattle.mk_effects.proofs.ForCallers.{one_edited, one_replace, one_forget, on
 pub one_effect : HasLaws → OneEffect
 one_effect laws look t None a b p q = p ∙ sym q
 one_effect laws look t (Some (variant.Match query molecules)) a b p q = one_match laws look query molecules a b p q
-one_effect laws look t (Some (variant.Load file)) a b p q = one_edited laws.sdfile laws.one_bad laws.fault laws.no_fault look t file Load (loaded_text t.next_record) a b p q
-one_effect laws look t (Some (variant.Replace number file)) a b p q = one_replace laws.sdfile laws.one_bad laws.fault laws.no_fault look t number file a b p q
-one_effect laws look t (Some (variant.Remove number)) a b p q = one_remove t number a b p q
-one_effect laws look t (Some (variant.Query name file)) a b p q = one_keep laws.queries look t name file a b p q
-one_effect laws look t (Some (variant.Forget name)) a b p q = one_forget t name a b p q
+one_effect laws look t (Some (variant.Load file)) a b p q = one_edited laws.sdfile laws.one_bad laws.fault laws.no_fault look t.records t.next_record file Load (loaded_text t.next_record) a b p q
+one_effect laws look t (Some (variant.Replace number file)) a b p q = one_replace laws.sdfile laws.one_bad laws.fault laws.no_fault look t.records t.next_record number file a b p q
+one_effect laws look t (Some (variant.Remove number)) a b p q = one_remove t.records number a b p q
+one_effect laws look t (Some (variant.Query name file)) a b p q = one_keep laws.queries look t.queries name file a b p q
+one_effect laws look t (Some (variant.Forget name)) a b p q = one_forget t.queries t.cursors name a b p q
 one_effect laws look t (Some (variant.Search name limit)) a b p q = one_search t name limit laws.queries a b p q
 one_effect laws look t (Some (variant.Resume cursor limit)) a b p q = one_resume t cursor limit laws.queries a b p q
-one_effect laws look t (Some (variant.Show number)) a b p q = one_show t number a b p q
+one_effect laws look t (Some (variant.Show number)) a b p q = one_show t.records number a b p q
 one_effect laws look t (Some variant.List) a b p q = p ∙ sym q
 one_effect laws look t (Some (variant.Drill start count)) a b p q = p.whole ∙ ap (λ (line : List ℕ). Answers [] line) (laws.drills start count p.line q.line p.is q.is) ∙ sym q.whole
 

@@ -25,21 +25,18 @@ use Rattle.mk_text.specs.KeptLines.{kept_lines}
 use Rattle.mk_values.proofs.ForCallers.{filled_molecule, molecule_or_none, read_keeps}
 use Rattle.mk_kept.specs.declared.query_text.QueryText.{QueryText}
 use Rattle.mk_kept.specs.declared.query_text.QueryText.TheVariants.{Bad, Compiled, Fails, V3000}
-use Rattle.mk_kept.specs.declared.stored_rows.RowKind.{RowKind}
 use Rattle.mk_kept.specs.declared.stored_rows.RowKind.TheVariants.{Cursors, Queries, Records}
-use Rattle.mk_session.specs.declared.status.Status.{Status}
 use Rattle.mk_session.specs.declared.status.Status.TheVariants as status
 use Rattle.mk_model.specs.Queries.{QueryView}
 use Rattle.mk_kept.specs.Names.{is_name}
 use Rattle.mk_effects.specs.Effects.{Effect, after_effect}
 use Rattle.mk_session.specs.Run.{after_effects, status_behind, texts}
-use Rattle.mk_effects.specs.Files.{IsThere, Look}
-use Rattle.mk_session.specs.Orders.{Asked, Nothing, Order, Orders, TooMuch, orders_asked}
+use Rattle.mk_effects.specs.Files.{Look}
+use Rattle.mk_session.specs.Orders.{NoCommand, Order, Orders, TooMuch}
 use Rattle.mk_kept.specs.QueryText.{IsTextSaid}
-use Rattle.mk_session.specs.Run.{After, BadStore, Commands, Does, HasItsFiles, IsRun, NotUnderstood, OneLine, ScriptLong, bad_store_text, not_understood_text, script_long_text}
+use Rattle.mk_session.specs.Run.{BadStore, Commands, Does, HasItsFiles, NotUnderstood, OneLine, ScriptLong, bad_store_text, not_understood_text, script_long_text}
 use Rattle.mk_kept.specs.Saved.{HasMeaning, bytes_of_texts, is_named, longest_place, most_queries, most_query_bytes, most_searches, most_text_bytes}
-use Rattle.mk_session.specs.Step.{Reaches}
-use Rattle.mk_kept.specs.StoredRows.{AllRead, EachReads, HasQueryPlace, IsFirstBad, IsFirstBadRow, ReadsCursor, ReadsQuery}
+use Rattle.mk_kept.specs.StoredRows.{AllRead, EachReads, IsFirstBadRow, ReadsCursor, ReadsQuery}
 use Rattle.mk_kept.specs.StoredRows.{BadCursor, BadQuery, BadRecord}
 use Rattle.mk_session.specs.Values.{AllReadOrBad, CanBeAsked, EachRunHasOutcome}
 use Rattle.mk_session.proofs.EffectValueLemmas.{some_effect}
@@ -71,8 +68,12 @@ known_record_text text =
 known_place : (next : ℕ) (before : List RecordRow) (row : RecordRow) → Known (library.HasPlace next before row)
 known_place next before row =
     known_as
-    (known_both (known_most 1 row.number) (known_both (known_most row.number most_number) (known_both (known_each (λ (earlier : RecordRow). earlier.number < row.number) (λ earlier. known_below earlier.number row.number) before)
-    (known_both (known_below row.number next) (known_both (known_below (length before) most_records) (known_both (known_most (text_bytes before + length row.text) most_bytes) (known_most (length row.text) (file_bytes + 1))))))))
+    (known_both (known_most 1 row.number) (known_both (known_most row.number most_number)
+    (known_both (known_each (λ (earlier : RecordRow). earlier.number < row.number)
+    (λ earlier. known_below earlier.number row.number) before)
+    (known_both (known_below row.number next) (known_both (known_below (length before) most_records)
+    (known_both (known_most (text_bytes before + length row.text) most_bytes)
+    (known_most (length row.text) (file_bytes + 1))))))))
     (λ all. record { least = all.0; most = all.1.0; above = all.1.1.0; below_next = all.1.1.1.0; few = all.1.1.1.1.0; bytes = all.1.1.1.1.1.0; short = all.1.1.1.1.1.1 })
     (λ is. (is.least, (is.most, (is.above, (is.below_next, (is.few, (is.bytes, is.short)))))))
 
@@ -96,7 +97,9 @@ known_reads_at next rows place = by_row (slice_get rows place) refl
 records_read_or_bad : (next : ℕ) (rows : List RecordRow) → library.AllRead next rows ⊎ ((number : ℕ) × library.IsFirstBad next rows number)
 unfolding ReadsAt
 records_read_or_bad next rows =
-    elim (least_failing (ReadsAt next rows) (known_reads_at next rows) (length rows) (λ before place past row at. absurd (let within = slice_get_within rows place row at in omega (arith, within, past)))) [
+    elim (least_failing (ReadsAt next rows) (known_reads_at next rows) (length rows)
+    (λ before place past row at. absurd (let within = slice_get_within rows place row at
+    in omega (arith, within, past)))) [
       | inl all ↦ inl (λ place row at. all place row at)
       | inr found ↦ inr (bad_at found.0 found.1 (slice_get rows found.0) refl)
     ]
@@ -223,8 +226,11 @@ known_query laws front row =
 known_cursor : (queries : List QueryRow) (next : ℕ) (front : List CursorRow) (row : CursorRow) → Known (ReadsCursor queries next front row)
 known_cursor queries next front row =
     known_as
-    (known_both (known_both (known_most 1 row.number) (known_most row.number 999999999)) (known_both (known_each (λ (before : CursorRow). before.number < row.number) (λ before. known_below before.number row.number) front)
-    (known_both (known_below row.number next) (known_both (known_true (is_named row.name queries)) (known_both (known_below (length front) most_searches) (known_most (length row.place) longest_place))))))
+    (known_both (known_both (known_most 1 row.number) (known_most row.number 999999999))
+    (known_both (known_each (λ (before : CursorRow). before.number < row.number)
+    (λ before. known_below before.number row.number) front)
+    (known_both (known_below row.number next) (known_both (known_true (is_named row.name queries))
+    (known_both (known_below (length front) most_searches) (known_most (length row.place) longest_place))))))
     (λ all. record { number = all.0; above = all.1.0; below = all.1.1.0; name = all.1.1.1.0; few = all.1.1.1.1.0; short = all.1.1.1.1.1 })
     (λ reads. (reads.number, (reads.above, (reads.below, (reads.name, (reads.few, reads.short))))))
 
@@ -261,7 +267,7 @@ some_does look t (order ∷ orders) can there =
     (first.0 ∷ rest.0, (first.1, rest.1))
 
 pub some_run : HasQueryLaws → EachRunHasOutcome
-some_run laws look t Nothing there = (not_understood_text, t, status.Words, OneLine (NotUnderstood refl refl refl) refl)
+some_run laws look t NoCommand there = (not_understood_text, t, status.Words, OneLine (NotUnderstood refl refl refl) refl)
 some_run laws look t TooMuch there = (script_long_text, t, status.ScriptLong, OneLine (ScriptLong refl refl refl) refl)
 some_run laws look t (Orders orders) there =
     elim (all_read_or_bad laws t) [

@@ -29,11 +29,11 @@ use Rattle.mk_session.specs.Faults.{Faults}
 use Rattle.mk_effects.specs.Files.{Look}
 use Rattle.mk_session.specs.Orders.{Asked, Order, Orders, orders_asked}
 use Rattle.mk_session.specs.Run.{After, IsOneLine, BadStore, bad_store_text}
-use Rattle.mk_session.specs.Opening.{IsBad, IsHeld, IsLoaded}
+use Rattle.mk_session.specs.Opening.{IsBad, IsHeldByKeeper, IsLoaded}
 use Rattle.mk_session.specs.Stepping.{IsDone, StepCounts, ended_of, is_refused_end}
 use Rattle.mk_session.specs.Turns.{IsDoneAll, IsHalted}
 use Rattle.mk_session.specs.Given.{IsGiven}
-use Rattle.mk_session.specs.Running.{IsSaid, IsUnreadGiven, IsUnreadStatus, IsUnreadWork, SaidWhole, SaidFailed, SaidNoMemory, Leaves, Says}
+use Rattle.mk_session.specs.Running.{IsSaid, IsUnreadGiven, IsUnreadStatus, IsUnreadWork, SaidWhole, SaidFailed, SaidNoMemory, Leaves, SaysLine}
 use Rattle.mk_session.proofs.TurnLemmas.{same_misses}
 
 -- ---- puts
@@ -67,18 +67,21 @@ nothing_written (Some s) = ap (λ (x : List ℕ). Some x) (sym (append-nil s))
 
 -- ---- a keeper that isn't loaded
 
-pub held_as : (sound : Type 0) (told told' : Option Tables) → (sound → IfSome told (λ t. told' ≡ Some t)) → IsHeld sound told told'
+pub held_as : (sound : Type 0) (told told' : Option Tables) → (sound → IfSome told (λ t. told' ≡ Some t)) → IsHeldByKeeper sound told told'
 held_as sound None told' kept = record { t = no_tables; loaded = record { is_told = λ _. tt; stays = λ _. tt } }
 held_as sound (Some t) told' kept = record { t = t; loaded = record { is_told = λ _. refl; stays = kept } }
 
 -- ---- opening the store
 
-same_faults : (f f' o o' k k' : ℕ) → f' ≡ f → o' ≡ o → k' ≡ k → let new : Faults = record { files = f'; output = o'; keeper = k' } in let old : Faults = record { files = f; output = o; keeper = k } in new ≡ old
+same_faults : (f f' o o' k k' : ℕ) → f' ≡ f → o' ≡ o → k' ≡ k → let new : Faults =
+    record { files = f'; output = o'; keeper = k' } in let old : Faults = record { files = f; output = o; keeper = k }
+    in new ≡ old
 same_faults f f' o o' k k' a b e = cc
 
 -- the keeper isn't loaded
 pub unloaded : (sound : Type 0) (files : Option Look) (orders : List Order) (told told' : Option Tables) (so_far : Option (List ℕ)) (f o k k' a : ℕ)
-    → IsHeld sound told told' → Rose k k' → Leaves sound files (Orders orders) told told' so_far so_far (record { files = f; output = o; keeper = k }) (record { files = f; output = o; keeper = k' }) a a status.Store
+    → IsHeldByKeeper sound told told' → Rose k k' → Leaves sound files (Orders orders) told told' so_far so_far
+    (record { files = f; output = o; keeper = k }) (record { files = f; output = o; keeper = k' }) a a status.Store
 unloaded sound files orders told told' so_far f o k k' a held rose = record {
   t = held.t;
   added = [];
@@ -92,7 +95,8 @@ unloaded sound files orders told told' so_far f o k k' a held rose = record {
 
 -- memory is wanting before the first order
 pub no_memory : (sound : Type 0) (files : Option Look) (asked : Asked) (told told' : Option Tables) (so_far : Option (List ℕ)) (f o k k' a : ℕ)
-    → IsHeld sound told told' → k' ≡ k → Leaves sound files asked told told' so_far so_far (record { files = f; output = o; keeper = k }) (record { files = f; output = o; keeper = k' }) a a status.Memory
+    → IsHeldByKeeper sound told told' → k' ≡ k → Leaves sound files asked told told' so_far so_far
+    (record { files = f; output = o; keeper = k }) (record { files = f; output = o; keeper = k' }) a a status.Memory
 no_memory sound files asked told told' so_far f o k k' a held same = record {
   t = held.t;
   added = [];
@@ -116,7 +120,7 @@ module _ (files : Option Look) (t : Tables) (asked : Asked) (line : List ℕ) (w
       LineUnwritten line would one (PutNoMemory is (same_faults f f o o' k k' refl count same) status) refl
 
   pub said : (sound : Type 0) (told told' : Option Tables) (so_far so_far' : Option (List ℕ)) (f o o' k k' a : ℕ) (ends : Status)
-      → IsLoaded sound told told' t → Says so_far so_far' o o' line would ends → k' ≡ k
+      → IsLoaded sound told told' t → SaysLine so_far so_far' o o' line would ends → k' ≡ k
       → Leaves sound files asked told told' so_far so_far' (record { files = f; output = o; keeper = k }) (record { files = f; output = o'; keeper = k' }) a a ends
   said sound told told' so_far so_far' f o o' k k' a ends loaded says same = record {
     t = t;
@@ -130,8 +134,9 @@ module _ (files : Option Look) (t : Tables) (asked : Asked) (line : List ℕ) (w
   }
 
 -- the store's bad row
-pub bad_row : (sound : Type 0) (files : Option Look) (orders : List Order) (told told' : Option Tables) (kind : RowKind) (number : ℕ) (line : List ℕ) (so_far so_far' : Option (List ℕ)) (f o o' k k' a : ℕ) (ends : Status)
-    → IsBad sound told told' kind number → line ≡ bad_store_text kind number → Says so_far so_far' o o' line status.BadStore ends → k' ≡ k
+pub bad_row : (sound : Type 0) (files : Option Look) (orders : List Order) (told told' : Option Tables) (kind : RowKind)
+    (number : ℕ) (line : List ℕ) (so_far so_far' : Option (List ℕ)) (f o o' k k' a : ℕ) (ends : Status)
+    → IsBad sound told told' kind number → line ≡ bad_store_text kind number → SaysLine so_far so_far' o o' line status.BadStore ends → k' ≡ k
     → Leaves sound files (Orders orders) told told' so_far so_far' (record { files = f; output = o; keeper = k }) (record { files = f; output = o'; keeper = k' }) a a ends
 bad_row sound files orders told told' kind number line so_far so_far' f o o' k k' a ends bad is says same =
     said files bad.t (Orders orders) line status.BadStore (BadStore orders refl kind number bad.bad is refl) sound told told' so_far so_far' f o o' k k' a ends bad.loaded says same
@@ -156,7 +161,9 @@ step_stopped files t t' order so_far f f' o k k' fail.Store ends counts same is 
     record {
       added = [];
       written = nothing_written so_far;
-      halts = StoppedAt order [] [] (none_done files t (order ∷ [])) [] (Uncommitted counts.0.batch counts.0.text counts.0.comes counts.0.some (record { keeper = counts.1; output = refl; files = counts.2 }) refl same is) refl;
+      halts = StoppedAt order [] [] (none_done files t (order ∷ [])) []
+          (Uncommitted counts.0.batch counts.0.text counts.0.comes counts.0.some
+          (record { keeper = counts.1; output = refl; files = counts.2 }) refl same is) refl;
     }
 step_stopped files t t' order so_far f f' o k k' fail.Memory ends counts same is =
     record {
@@ -229,7 +236,8 @@ said_unread o o' line part would ends other (SaidWhole is count same) e = other 
 said_unread o o' line part would ends other (SaidFailed rest is rose same) e = let h = sym same ∙ e in cc
 said_unread o o' line part would ends other (SaidNoMemory is count same) e = let h = sym same ∙ e in cc
 
-pub unread_through : (w : Work) (so_far so_far1 so_far2 : Option (List ℕ)) (ends : Status) → so_far1 ≡ so_far → IsUnreadWork {A = Bool} w so_far1 so_far2 (Err ends) → IsUnreadGiven w so_far so_far2 ends
+pub unread_through : (w : Work) (so_far so_far1 so_far2 : Option (List ℕ)) (ends : Status) → so_far1 ≡ so_far
+    → IsUnreadWork {A = Bool} w so_far1 so_far2 (Err ends) → IsUnreadGiven w so_far so_far2 ends
 unread_through (work.One order) so_far so_far1 so_far2 ends same unread = subst (λ (o : Option (List ℕ)). IsUnreadStatus o so_far2 ends) same unread
 unread_through (work.Script text lines) so_far so_far1 so_far2 ends same unread = tt
 

@@ -19,7 +19,7 @@ use Rattle.mk_effects.specs.Findings.{changes_of, stands_for}
 use Rattle.mk_session.specs.Step.{Comes}
 use Rattle.mk_effects.specs.Effects.{Answers}
 use Rattle.mk_effects.specs.Fails.{IsStepFailOfKeep}
-use Rattle.mk_effects.specs.declared.effect.Edit.{Edit}
+use Rattle.mk_effects.specs.declared.effect.SessionEdit.{SessionEdit}
 use Rattle.mk_outside.specs.declared.answers.KeepFail.{KeepFail}
 use Rattle.mk_outside.specs.declared.answers.KeepFail.TheVariants as keep
 use Rattle.mk_kept.specs.SavedPending.{IsOfSaved}
@@ -33,7 +33,7 @@ stepped_err files t t' order old new (Ok e) is same answer = absurd cc
 stepped_err files t t' order old new (Err e) is same answer = (same, answer)
 
 -- an edit that couldn't be kept changes the counts so
-pub step_counted : (files : Option Look) (t u : Tables) (order : Order) (f f' k k' : ℕ) (change : Edit) (text : List ℕ) (fail : KeepFail) (said : StepFail) → IsStepFailOfKeep fail said
+pub step_counted : (files : Option Look) (t u : Tables) (order : Order) (f f' k k' : ℕ) (change : SessionEdit) (text : List ℕ) (fail : KeepFail) (said : StepFail) → IsStepFailOfKeep fail said
     → u ≡ t → Comes files u order (Answers (changes_of change) text) → f' ≡ f → ChangeCounts {A = Unit {0}} (changes_of change) k k' (Err fail) → StepCounts files t order f f' k k' (Err said)
 step_counted files t u order f f' k k' change text keep.Failed said is tables comes same counts =
     let here = subst (λ (v : Tables). Comes files v order (Answers (changes_of change) text)) tables comes in

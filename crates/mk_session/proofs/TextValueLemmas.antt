@@ -2,12 +2,11 @@
 --     cases_file           a file that is there is too long, or is read
 --     some_said            something is said of each text as a query file
 --     some_query_held      and of each file
-use Rattle.std.proofs.Common.{◌≡◌, ◌<◌, ◌≤◌, ℕ, Bool, true, false, List, Option, Some, None, IsTrue, refl, sym, ◌∙◌, inl, inr, length, ⊎_elim}
+use Rattle.std.proofs.Common.{◌≡◌, ℕ, Bool, true, false, List, Option, Some, None, IsTrue, refl, sym, inl, inr, length, ⊎_elim}
 use Rattle.std.specs.Prelude.{◌⊎◌, ◌↔◌, IsSome}
 use Rattle.std.proofs.lemmas.Bool.{cases_lt, true≢false}
 use Rattle.mk_text.specs.Lines.{lines_of}
 use Rattle.mk_form.proofs.Stops.{bad_line_is_stop, stop_is_named, text_or_bad}
-use Rattle.mk_model.specs.Queries.{QueryView}
 use Rattle.mk_ctab.specs.TableLines.{Line}
 use Rattle.mk_rgfile.specs.declared.raw_query.RawQuery.{RawQuery}
 use Rattle.mk_rgfile.specs.QueryFile.{IsBadQueryLine, IsQueryFile, IsV3000Line}

@@ -46,7 +46,8 @@ pub any_more : (es fs : List Effect) → list_any is_refusal (es ++ fs) ≡ (lis
 any_more [] fs = refl
 any_more (e ∷ es) fs = ap (λ (b : Bool). is_refusal e || b) (any_more es fs) ∙ or_assoc (is_refusal e) (list_any is_refusal es) (list_any is_refusal fs)
 
-pub after_later : (files : Option Look) (t : Tables) (xs ys left : List Order) (es fs : List Effect) → Does files t xs es → After files (after_effects es t) ys left fs → After files t (xs ++ ys) left (es ++ fs)
+pub after_later : (files : Option Look) (t : Tables) (xs ys left : List Order) (es fs : List Effect)
+    → Does files t xs es → After files (after_effects es t) ys left fs → After files t (xs ++ ys) left (es ++ fs)
 after_later files t xs ys left es fs d a =
     record { done = xs ++ a.done; whole = ap (λ (zs : List Order). xs ++ zs) a.whole ∙ sym (append_assoc xs a.done left); does = does_more files t xs a.done es fs d a.does }
 
@@ -199,6 +200,8 @@ halted_then files t t1 t2 xs ys zs all so so1 so2 old old1 new a ends d h is =
 
 -- all orders, from those of the first lines, of the next, and of the others
 pub orders_split : (text : List ℕ) (lines : List Span) (i : ℕ) (d : Span) → i < length lines
-    → (orders_of (parts text (take i lines)) ++ orders_of_line (slice_range text (get_or lines i d).from (get_or lines i d).to)) ++ orders_of (parts text (drop (i + 1) lines)) ≡ orders_of (parts text lines)
+    → (orders_of (parts text (take i lines)) ++ orders_of_line
+    (slice_range text (get_or lines i d).from (get_or lines i d).to)) ++ orders_of
+    (parts text (drop (i + 1) lines)) ≡ orders_of (parts text lines)
 orders_split text lines i d short =
     ap (λ (os : List Order). os ++ orders_of (parts text (drop (i + 1) lines))) (sym (orders_next text lines i d short)) ∙ orders_all text lines (i + 1)

@@ -15,14 +15,14 @@ use Rattle.mk_session.specs.declared.work.Work.{Work}
 use Rattle.mk_session.specs.declared.work.Work.TheVariants as work
 use Rattle.mk_session.specs.Commands.{CanAsk, kind_of_words}
 use Rattle.mk_session.specs.Outcomes.{Agrees}
-use Rattle.mk_session.specs.Orders.{Asked, Nothing, Order, Orders, TooMuch, asked, orders_of, script_bytes}
+use Rattle.mk_session.specs.Orders.{Asked, NoCommand, Order, Orders, TooMuch, asked, orders_of, script_bytes}
 
 abbrev pub orders_of_work : Work → List Order
 orders_of_work (work.One order) = order ∷ []
 orders_of_work (work.Script text lines) = orders_of (parts text lines)
 
 abbrev pub asked_of_given : Given → Asked
-asked_of_given given.Nothing = Nothing
+asked_of_given given.NoCommand = NoCommand
 asked_of_given given.TooMuch = TooMuch
 asked_of_given (given.Orders work) = Orders (orders_of_work work)
 
@@ -63,6 +63,6 @@ CanAskWork (work.One order) = CanAskOrder order
 CanAskWork (work.Script text lines) = AreWithin text lines
 
 abbrev pub CanAskGiven : Given → Type 0
-CanAskGiven given.Nothing = ⊤
+CanAskGiven given.NoCommand = ⊤
 CanAskGiven given.TooMuch = ⊤
 CanAskGiven (given.Orders work) = CanAskWork work

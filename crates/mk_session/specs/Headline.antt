@@ -7,7 +7,7 @@ use Rattle.mk_session.specs.declared.status.Status.{Status}
 use Rattle.mk_session.specs.declared.status.Status.TheVariants as status
 use Rattle.mk_session.specs.Commands.{kind_of_words}
 use Rattle.mk_session.specs.Orders.{Order, Orders, asked, orders_asked}
-use Rattle.mk_session.specs.Outcomes.{World, Agrees, WentSo, IsAnswered, IsWholeRun, IsQuiet, IsReadOut, IsAllDone, IsInputSame, IsTaken, IsRestSame}
+use Rattle.mk_session.specs.Outcomes.{World, Agrees, WentSo, IsAnswered, IsWholeRun, IsQuiet, IsReadOut, IsAllDone, IsInputSame, IsInputTaken, IsRestSame}
 use Rattle.mk_session.specs.Run.{IsRun, Misses}
 use Rattle.mk_kept.specs.StoredRows.{AllRead}
 
@@ -40,7 +40,7 @@ pub record Headline (sound : Type 0) (words : List (List ℕ)) (old new : World)
   -- either.
   pub input_end : kind_of_words words ≡ words_kind.Script → IsReadOut ends → IfSome old.input (λ _. new.input ≡ Some [])
   pub input_same : kind_of_words words ≢ words_kind.Script → IsInputSame old new
-  pub input_taken : IsTaken old.input new.input
+  pub input_taken : IsInputTaken old.input new.input
   pub rest_same : kind_of_words words ≡ words_kind.NotUnderstood → IsRestSame old new
   -- No file is missed where each is there whose turn comes.
   pub missed : Misses old.files t (orders_asked (asked words input)) old.absences new.absences

@@ -8,6 +8,7 @@ pub mod Ends
 pub mod Outcomes
 pub mod Headline
 pub mod Stepping
+pub mod StepTicks
 pub mod Turns
 pub mod Opening
 pub mod Given

@@ -15,7 +15,7 @@ pub record IsLoaded (sound : Type 0) (told told' : Option Tables) (t : Tables) :
   pub stays : sound → IfSome told (λ _. told' ≡ Some t)
 
 -- some tables are those that the keeper holds, whether they were loaded or not
-pub record IsHeld (sound : Type 0) (told told' : Option Tables) : Type 0 where
+pub record IsHeldByKeeper (sound : Type 0) (told told' : Option Tables) : Type 0 where
   pub t : Tables
   pub loaded : IsLoaded sound told told' t
 
@@ -27,9 +27,9 @@ pub record IsBad (sound : Type 0) (told told' : Option Tables) (kind : RowKind) 
 
 abbrev pub Begins : Type 0 → Option Tables → Option Tables → Result Tables BeginFail → Type 0
 Begins sound told told' (Ok t) = IsLoaded sound told told' t × AllRead t
-Begins sound told told' (Err begin.Store) = IsHeld sound told told'
+Begins sound told told' (Err begin.Store) = IsHeldByKeeper sound told told'
 Begins sound told told' (Err (begin.BadStore kind number)) = IsBad sound told told' kind number
-Begins sound told told' (Err begin.Memory) = IsHeld sound told told'
+Begins sound told told' (Err begin.Memory) = IsHeldByKeeper sound told told'
 
 -- the session of the tables, or their first row that doesn't read
 abbrev pub IsOpened : Tables → Result Tables BeginFail → Type 0

@@ -34,7 +34,7 @@ orders_of lines = flat_map orders_of_line lines
 
 -- what a run is asked for
 pub data Asked : Type 0 where
-  Nothing : Asked  -- the words aren't understood
+  NoCommand : Asked  -- the words aren't understood
   TooMuch : Asked  -- the script is over its limit
   Orders : List Order → Asked  -- these, in order
 
@@ -53,7 +53,7 @@ asked_of_script input = if nat_lt script_bytes (length input) then TooMuch else 
 -- what words of this kind and the input ask for
 abbrev pub asked_of : WordsKind → List ℕ → Asked
 asked_of words_kind.Script input = asked_of_script input
-asked_of words_kind.NotUnderstood input = Nothing
+asked_of words_kind.NotUnderstood input = NoCommand
 asked_of (words_kind.Is command) input = Orders (Some command ∷ [])
 
 -- what the words and the input ask for
@@ -62,6 +62,6 @@ asked words input = asked_of (kind_of_words words) input
 
 -- the orders that are asked for
 abbrev pub orders_asked : Asked → List Order
-orders_asked Nothing = []
+orders_asked NoCommand = []
 orders_asked TooMuch = []
 orders_asked (Orders orders) = orders

@@ -1,13 +1,15 @@
 -- The parts of the statement that the program stands on.
---     World                          what is told of the objects, and how many of their calls
---                                    failed
---     Agrees told value              what is told, if anything is, is this
---     WentSo ..                      the way in which a run went
---     IsAnswered ends                the status is not that of a failure
---     IsWholeRun ..                  the whole of a run, in which no count of faults changed
---     IsQuiet old new                no call failed
---     IsReadOut ends, IsAllDone ends     the input was read out, and all commands were done
---     IsInputSame, IsTaken, IsRestSame, IsUntouched     what wasn't touched, and what was taken
+--     World                                               what is told of the objects, and how many
+--                                                         of their calls failed
+--     Agrees told value                                   what is told, if anything is, is this
+--     WentSo ..                                           the way in which a run went
+--     IsAnswered ends                                     the status is not that of a failure
+--     IsWholeRun ..                                       the whole of a run, in which no count of
+--                                                         faults changed
+--     IsQuiet old new                                     no call failed
+--     IsReadOut ends, IsAllDone ends                      the input was read out, and all commands
+--                                                         were done
+--     IsInputSame, IsInputTaken, IsRestSame, IsUntouched  what wasn't touched, and what was taken
 use Rattle.std.specs.Io.KnownBytes.{Consumes}
 use Rattle.std.specs.Prelude.{◌≡◌, ℕ, ◌+◌, ◌<◌, ◌≤◌, List, [], length, Option, IfSome, ⊤}
 use Rattle.mk_outside.specs.Counts.{Rose}
@@ -90,7 +92,7 @@ pub record IsInputSame (old new : World) : Type 0 where
   pub count : new.input_faults ≡ old.input_faults
 
 -- Of the input at most a script and one read more was taken, and a told one tells what is left.
-pub record IsTaken (old new : Option (List ℕ)) : Type 0 where
+pub record IsInputTaken (old new : Option (List ℕ)) : Type 0 where
   pub taken : List ℕ
   pub is_taken : Consumes old new taken
   pub few : length taken ≤ script_bytes + read_bytes

@@ -16,7 +16,7 @@ use Rattle.mk_effects.specs.Effects.{Effect, text_answered, after_effect, is_ref
 use Rattle.mk_kept.specs.declared.stored_rows.RowKind.{RowKind}
 use Rattle.mk_kept.specs.declared.stored_rows.RowKind.TheVariants.{Records, Queries, Cursors}
 use Rattle.mk_effects.specs.Files.{IsThere, Look}
-use Rattle.mk_session.specs.Orders.{Order, Asked, Nothing, TooMuch, Orders}
+use Rattle.mk_session.specs.Orders.{Order, Asked, NoCommand, TooMuch, Orders}
 use Rattle.mk_session.specs.Step.{Comes, Reaches}
 use Rattle.mk_kept.specs.StoredRows.{AllRead, IsFirstBad}
 
@@ -68,7 +68,7 @@ script_long_text = codes "script too long\n"
 
 -- a run that does no command: its one line, and its status
 pub data IsOneLine (t : Tables) (asked : Asked) (line : List ℕ) (ends : Status) : Type 0 where
-  NotUnderstood : asked ≡ Nothing → line ≡ not_understood_text → ends ≡ status.Words → IsOneLine t asked line ends
+  NotUnderstood : asked ≡ NoCommand → line ≡ not_understood_text → ends ≡ status.Words → IsOneLine t asked line ends
   ScriptLong : asked ≡ TooMuch → line ≡ script_long_text → ends ≡ status.ScriptLong → IsOneLine t asked line ends
   BadStore : (orders : List Order) → asked ≡ Orders orders → (kind : RowKind) (number : ℕ) → IsFirstBad t kind number
       → line ≡ bad_store_text kind number → ends ≡ status.BadStore → IsOneLine t asked line ends

@@ -1,8 +1,8 @@
 -- A run once the input is read.
---     Leaves ..        what it leaves
---     Opens ..         the store is opened, or the run has ended
---     Says ..          its one line
---     IsUnread ..      where a file wasn't read, nothing was written
+--     Leaves ..    what it leaves
+--     Opens ..     the store is opened, or the run has ended
+--     SaysLine ..  its one line
+--     IsUnread ..  where a file wasn't read, nothing was written
 use Rattle.std.specs.Prelude.{◌≡◌, ℕ, List, [], ◌++◌, Option, Some, Result, Ok, Err, IfSome, ⊤}
 use Rattle.mk_outside.specs.Counts.{Rose}
 use Rattle.mk_outside.specs.declared.tables.Tables.{Tables}
@@ -14,12 +14,13 @@ use Rattle.mk_session.specs.Ends.{Ends}
 use Rattle.mk_session.specs.Faults.{Faults}
 use Rattle.mk_effects.specs.Files.{Look}
 use Rattle.mk_session.specs.Outcomes.{Agrees}
-use Rattle.mk_session.specs.Orders.{Asked, Order, Orders, asked, orders_asked}
+use Rattle.mk_session.specs.Orders.{Asked, Order, Orders, orders_asked}
 use Rattle.mk_session.specs.Run.{Misses}
 use Rattle.mk_kept.specs.StoredRows.{AllRead}
 use Rattle.mk_session.specs.Opening.{IsLoaded}
 
-pub record Leaves (sound : Type 0) (files : Option Look) (asked : Asked) (told told' : Option Tables) (so_far so_far' : Option (List ℕ)) (old new : Faults) (missed missed' : ℕ) (ends : Status) : Type 0 where
+pub record Leaves (sound : Type 0) (files : Option Look) (asked : Asked) (told told' : Option Tables)
+    (so_far so_far' : Option (List ℕ)) (old new : Faults) (missed missed' : ℕ) (ends : Status) : Type 0 where
   pub t : Tables
   pub added : List ℕ
   pub left : Tables
@@ -44,7 +45,7 @@ pub data IsSaid (old new : ℕ) (line part : List ℕ) (would ends : Status) : T
   SaidNoMemory : part ≡ [] → new ≡ old → ends ≡ status.Memory → IsSaid old new line part would ends
 
 -- a line was to be written, with this status behind it
-pub record Says (so_far so_far' : Option (List ℕ)) (old new : ℕ) (line : List ℕ) (would ends : Status) : Type 0 where
+pub record SaysLine (so_far so_far' : Option (List ℕ)) (old new : ℕ) (line : List ℕ) (would ends : Status) : Type 0 where
   pub part : List ℕ
   pub written : IfSome so_far (λ s. so_far' ≡ Some (s ++ part))
   pub said : IsSaid old new line part would ends

@@ -24,14 +24,14 @@ no_command_text = codes "refused 1 command\n"
 abbrev pub Comes : Option Look → Tables → Order → Effect → Type 0
 Comes files t None effect = effect ≡ Refuses no_command_text
 Comes files t (Some (variant.Match query molecules)) effect = IsMatch files query molecules effect
-Comes files t (Some (variant.Load file)) effect = IsLoad files t file effect
-Comes files t (Some (variant.Replace number file)) effect = IsReplace files t number file effect
-Comes files t (Some (variant.Remove number)) effect = IsRemove t number effect
-Comes files t (Some (variant.Query name file)) effect = IsKeep files t name file effect
-Comes files t (Some (variant.Forget name)) effect = IsForget t name effect
+Comes files t (Some (variant.Load file)) effect = IsLoad files t.records t.next_record file effect
+Comes files t (Some (variant.Replace number file)) effect = IsReplace files t.records t.next_record number file effect
+Comes files t (Some (variant.Remove number)) effect = IsRemove t.records number effect
+Comes files t (Some (variant.Query name file)) effect = IsKeep files t.queries name file effect
+Comes files t (Some (variant.Forget name)) effect = IsForget t.queries t.cursors name effect
 Comes files t (Some (variant.Search name limit)) effect = IsSearch t name limit effect
 Comes files t (Some (variant.Resume cursor limit)) effect = IsResume t cursor limit effect
-Comes files t (Some (variant.Show number)) effect = IsShow t number effect
+Comes files t (Some (variant.Show number)) effect = IsShow t.records number effect
 Comes files t (Some variant.List) effect = effect ≡ Answers [] (list_text t)
 Comes files t (Some (variant.Drill start count)) effect = IsDrillAnswer start count effect
 
@@ -39,6 +39,6 @@ Comes files t (Some (variant.Drill start count)) effect = IsDrillAnswer start co
 abbrev pub Reaches : Option Look → Tables → Order → List ℕ → Type 0
 Reaches files t (Some (variant.Match query molecules)) name = IsTurnOfMatch files query molecules name
 Reaches files t (Some (variant.Load file)) name = name ≡ file
-Reaches files t (Some (variant.Replace number file)) name = IsTurnOfReplace t number file name
-Reaches files t (Some (variant.Query name file)) n = IsTurnOfKeep t name file n
+Reaches files t (Some (variant.Replace number file)) name = IsTurnOfReplace t.records number file name
+Reaches files t (Some (variant.Query name file)) n = IsTurnOfKeep t.queries name file n
 Reaches files t _ name = ⊥

@@ -1,7 +1,7 @@
 // What the words and the input ask for.
 ghost use Rattle.std.specs.Prelude.{◌≡◌, ◌≤◌, map, IfOk};
 ghost use Rattle.std.specs.String.{string_bytes};
-ghost use Rattle.mk_session.specs.Outcomes.{IsTaken};
+ghost use Rattle.mk_session.specs.Outcomes.{IsInputTaken};
 ghost use Rattle.mk_session.specs.Given.{Gives, ReadsInput, CanAskGiven};
 
 use crate::work::{Given, Work};
@@ -20,11 +20,11 @@ const CHUNK: usize = 4_096;
 pub fn given_by<S: Source>(alloc: Global, words: &[String], input: &mut S) -> Result<Given, Status>
     ensures given { Gives (map string_bytes words.now) (S.left input.old) (S.left input.new) (S.faults input.old) (S.faults input.new) result }
     ensures can_ask { IfOk result CanAskGiven }
-    ensures taken { IsTaken (S.left input.old) (S.left input.new) }
+    ensures taken { IsInputTaken (S.left input.old) (S.left input.new) }
 {
     match command_of_words(alloc, words) {
         Err(_) => Err(Status::Memory),
-        Ok(WordsKind::NotUnderstood) => Ok(Given::Nothing),
+        Ok(WordsKind::NotUnderstood) => Ok(Given::NoCommand),
         Ok(WordsKind::Is(command)) => Ok(Given::Orders(Work::One(Some(command)))),
         Ok(WordsKind::Script) => match read_script(alloc, input)? {
             None => Ok(Given::TooMuch),
@@ -39,7 +39,7 @@ pub fn given_by<S: Source>(alloc: Global, words: &[String], input: &mut S) -> Re
 // Reads the input to its end. None is an input over the limit.
 fn read_script<S: Source>(alloc: Global, input: &mut S) -> Result<Option<Bytes>, Status>
     ensures reads { ReadsInput (S.left input.old) (S.left input.new) (S.faults input.old) (S.faults input.new) result }
-    ensures taken { IsTaken (S.left input.old) (S.left input.new) }
+    ensures taken { IsInputTaken (S.left input.old) (S.left input.new) }
 {
     let mut text = Vec::new(alloc);
     let mut chunk = [0u8; CHUNK];

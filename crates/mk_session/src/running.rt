@@ -1,5 +1,5 @@
 // A whole run.
-ghost use Rattle.std.specs.Prelude.{◌≡◌, ◌<◌, ◌||◌, ℕ, List, Option, Some, None, IfOk, ⊤, map};
+ghost use Rattle.std.specs.Prelude.{◌≡◌, ◌||◌, ℕ, List, Option, Some, None, IfOk, ⊤, map};
 ghost use Rattle.std.specs.String.{string_bytes};
 ghost use Rattle.mk_text.specs.Spans.{parts, AreWithin};
 ghost use Rattle.mk_session.specs.Commands.{kind_of_words};
@@ -10,21 +10,18 @@ ghost use Rattle.mk_session.specs.Outcomes.{IsUntouched};
 ghost use Rattle.mk_session.specs.Orders.{Order, Orders, orders_of, orders_of_line};
 ghost use Rattle.mk_session.specs.Run.{Misses, bad_store_text, kind_text};
 ghost use Rattle.mk_session.specs.Given.{CanAskWork, orders_of_work};
-ghost use Rattle.mk_session.specs.Running.{IsUnread, IsUnreadGiven, IsUnreadWork, Leaves, Opens, Says};
+ghost use Rattle.mk_session.specs.Running.{IsUnread, IsUnreadGiven, IsUnreadWork, Leaves, Opens, SaysLine};
 ghost use Rattle.mk_session.specs.Turns.{Turns};
 
 use crate::command_reading::command_of_line;
-use crate::ordering::do_order;
+use crate::orders::do_order;
 use crate::reading::given_by;
 use crate::session::Session;
 use crate::work::{Given, Work};
 use crate::{BeginFail, LineKind, RowKind, Status};
-use mk_model::Steps;
 use mk_outside::{Files, Keeper, Memory, PutFail, Sink, Source};
 use mk_text::{Span, put_number};
 use std::alloc::Global;
-use std::marker::Brand;
-use std::sync::ledger::{Blank, Ledger};
 
 /// Does the command of the words, or those of the input, and writes the answers.
 pub fn top<F: Files, S: Source, W: Sink, K: Keeper>(
@@ -61,11 +58,9 @@ pub fn top<F: Files, S: Source, W: Sink, K: Keeper>(
 {
     match given_by(alloc, words, input) {
         Err(status) => status,
-        Ok(Given::Nothing) => say(output, b"words not understood\n", Status::Words),
+        Ok(Given::NoCommand) => say(output, b"words not understood\n", Status::Words),
         Ok(Given::TooMuch) => say(output, b"script too long\n", Status::ScriptLong),
-        Ok(Given::Orders(work)) => {
-            do_work::<F, W, K, Brand>(alloc, &work, files, output, keeper, Blank::new(1))
-        }
+        Ok(Given::Orders(work)) => do_work(alloc, &work, files, output, keeper),
     }
 }
 
@@ -87,7 +82,7 @@ fn either(before: bool, here: bool) -> bool
 
 // Writes the one line of a run.
 fn say<W: Sink>(output: &mut W, line: &[u8], status: Status) -> Status
-    ensures { Says (W.so_far output.old) (W.so_far output.new) (W.faults output.old) (W.faults output.new) line.now status result }
+    ensures { SaysLine (W.so_far output.old) (W.so_far output.new) (W.faults output.old) (W.faults output.new) line.now status result }
 {
     match output.put(line) {
         Ok(()) => status,
@@ -96,19 +91,15 @@ fn say<W: Sink>(output: &mut W, line: &[u8], status: Status) -> Status
     }
 }
 
-// Opens the store and does the work, with a counter of begins of its own.
-fn do_work<F: Files, W: Sink, K: Keeper, L: Ledger>(
+// Opens the store and does the work.
+fn do_work<F: Files, W: Sink, K: Keeper>(
     alloc: Global,
     work: &Work,
     files: &mut F,
     output: &mut W,
     keeper: &mut K,
-    blank: Blank,
 ) -> Status
-    requires asks { CanAskWork work.now }
-    requires name { blank.name ≡ L.name }
-    requires parts { blank.parts ≡ L.parts }
-    requires one { 0 < L.parts }
+    requires { CanAskWork work.now }
     ensures leaves { Leaves (K.sound keeper.new) (F.look_up files.old) (Orders (orders_of_work work.now)) (K.tables keeper.old) (K.tables keeper.new) (W.so_far output.old) (W.so_far output.new)
         (record { files = F.faults files.old; output = W.faults output.old; keeper = K.faults keeper.old })
         (record { files = F.faults files.new; output = W.faults output.new; keeper = K.faults keeper.new }) (F.absences files.old) (F.absences files.new) result }
@@ -116,10 +107,9 @@ fn do_work<F: Files, W: Sink, K: Keeper, L: Ledger>(
     ensures same_files { F.look_up files.new ≡ F.look_up files.old }
     ensures unread { IsUnreadGiven work.now (W.so_far output.old) (W.so_far output.new) result }
 {
-    let mut steps = Steps::<L>::new(blank);
     match open(alloc, output, keeper) {
         Err(status) => status,
-        Ok(mut session) => match go(alloc, &mut session, work, files, output, keeper, &mut steps) {
+        Ok(mut session) => match go(alloc, &mut session, work, files, output, keeper) {
             Err(status) => status,
             Ok(refused) => ending_of(refused),
         },
@@ -171,14 +161,13 @@ fn kind_word(kind: RowKind) -> &'static [u8]
 }
 
 // Does the work on the session. Says whether an order was refused.
-fn go<F: Files, W: Sink, K: Keeper, L: Ledger>(
+fn go<F: Files, W: Sink, K: Keeper>(
     alloc: Global,
     session: &mut Session,
     work: &Work,
     files: &mut F,
     output: &mut W,
     keeper: &mut K,
-    steps: &mut Steps<L>,
 ) -> Result<bool, Status>
     requires { CanAskWork work.now }
     ensures turns { Turns (F.look_up files.old) session.old session.new (orders_of_work work.now) (W.so_far output.old) (W.so_far output.new)
@@ -191,7 +180,7 @@ fn go<F: Files, W: Sink, K: Keeper, L: Ledger>(
     ensures unread { IsUnreadWork work.now (W.so_far output.old) (W.so_far output.new) result }
 {
     match work {
-        Work::One(order) => do_order(alloc, session, order, files, output, keeper, steps),
+        Work::One(order) => do_order(alloc, session, order, files, output, keeper),
         Work::Script(text, lines) => do_lines(
             alloc,
             session,
@@ -200,13 +189,12 @@ fn go<F: Files, W: Sink, K: Keeper, L: Ledger>(
             files,
             output,
             keeper,
-            steps,
         ),
     }
 }
 
 // Does what the lines ask for, in order. Says whether an order was refused.
-fn do_lines<F: Files, W: Sink, K: Keeper, L: Ledger>(
+fn do_lines<F: Files, W: Sink, K: Keeper>(
     alloc: Global,
     session: &mut Session,
     text: &[u8],
@@ -214,7 +202,6 @@ fn do_lines<F: Files, W: Sink, K: Keeper, L: Ledger>(
     files: &mut F,
     output: &mut W,
     keeper: &mut K,
-    steps: &mut Steps<L>,
 ) -> Result<bool, Status>
     requires { AreWithin text.now lines.now }
     ensures turns { Turns (F.look_up files.old) session.old session.new (orders_of (parts text.now lines.now)) (W.so_far output.old) (W.so_far output.new)
@@ -228,7 +215,7 @@ fn do_lines<F: Files, W: Sink, K: Keeper, L: Ledger>(
     let mut refused = false;
     for span in lines {
         let line = &text[span.from..span.to];
-        match do_line(alloc, session, line, files, output, keeper, steps) {
+        match do_line(alloc, session, line, files, output, keeper) {
             Err(status) => return Err(status),
             Ok(here) => refused = either(refused, here),
         }
@@ -237,14 +224,13 @@ fn do_lines<F: Files, W: Sink, K: Keeper, L: Ledger>(
 }
 
 // Does what the line asks for.
-fn do_line<F: Files, W: Sink, K: Keeper, L: Ledger>(
+fn do_line<F: Files, W: Sink, K: Keeper>(
     alloc: Global,
     session: &mut Session,
     line: &[u8],
     files: &mut F,
     output: &mut W,
     keeper: &mut K,
-    steps: &mut Steps<L>,
 ) -> Result<bool, Status>
     ensures turns { Turns (F.look_up files.old) session.old session.new (orders_of_line line.now) (W.so_far output.old) (W.so_far output.new)
         (record { files = F.faults files.old; output = W.faults output.old; keeper = K.faults keeper.old })
@@ -257,10 +243,10 @@ fn do_line<F: Files, W: Sink, K: Keeper, L: Ledger>(
     match command_of_line(alloc, line) {
         Err(_) => Err(Status::Memory),
         Ok(LineKind::Blank) => Ok(false),
-        Ok(LineKind::NoCommand) => { do_order(alloc, session, &None, files, output, keeper, steps) }
+        Ok(LineKind::NoCommand) => { do_order(alloc, session, &None, files, output, keeper) }
         Ok(LineKind::Is(command)) => {
             let order = Some(command);
-            do_order(alloc, session, &order, files, output, keeper, steps)
+            do_order(alloc, session, &order, files, output, keeper)
         }
     }
 }

@@ -1,5 +1,5 @@
 // One command on a session.
-ghost use Rattle.std.specs.Prelude.{◌≡◌, ◌++◌, Some, OnErr, OnOk};
+ghost use Rattle.std.specs.Prelude.{◌≡◌, ◌++◌, IfOk, Some, OnErr, OnOk};
 ghost use Rattle.mk_outside.specs.Told.{committed};
 ghost use Rattle.mk_library.specs.Library.{LibraryView};
 ghost use Rattle.mk_library.specs.Pending.{PendingFits};
@@ -8,12 +8,13 @@ ghost use Rattle.mk_kept.specs.SavedPending.{SavedFits};
 ghost use Rattle.mk_session.specs.Commands.{CanAsk};
 ghost use Rattle.mk_session.specs.Step.{Reaches};
 ghost use Rattle.mk_session.specs.Stepping.{ChangeCounts, IsStepped, StepCounts};
+ghost use Rattle.mk_session.specs.StepTicks.{BeginsOfDone};
 ghost use Rattle.mk_effects.specs.Findings.{EditFits, MissesAt, changes_of, stands_for};
 
-use crate::finding::found_of;
+use crate::findings::found_of;
 use crate::session::Session;
 use crate::{Command, Ended, StepFail};
-use mk_effects::{Edit, Found};
+use mk_effects::{Found, SessionEdit};
 use mk_kept::{Saved, SavedPending};
 use mk_library::{Library, Pending, records_change_alone};
 use mk_model::Steps;
@@ -35,6 +36,7 @@ impl Session {
     ) -> Result<Ended, StepFail>
         requires { CanAsk command.now }
         ensures stepped { IsStepped (F.look_up files.old) self.old self.new (Some command.now) answer.old.items answer.new.items result }
+        ensures begins { IfOk result (BeginsOfDone (F.look_up files.old) self.old command.now answer.old.items answer.new.items steps.old steps.new) }
         ensures kept { K.sound keeper.new → K.tables keeper.old ≡ Some self.old → K.tables keeper.new ≡ Some self.new }
         ensures sound { K.sound keeper.new → K.sound keeper.old }
         ensures counted { StepCounts (F.look_up files.old) self.old (Some command.now) (F.faults files.old) (F.faults files.new) (K.faults keeper.old) (K.faults keeper.new) result }
@@ -75,7 +77,7 @@ fn fulfil<K: Keeper>(
     library: &mut Library,
     saved: &mut Saved,
     keeper: &mut K,
-    edit: Edit,
+    edit: SessionEdit,
     text: &Bytes,
     answer: &mut Vec<u8>,
 ) -> Result<(), KeepFail>
@@ -102,7 +104,7 @@ fn change<K: Keeper>(
     library: &mut Library,
     saved: &mut Saved,
     keeper: &mut K,
-    edit: Edit,
+    edit: SessionEdit,
 ) -> Result<(), KeepFail>
     requires { EditFits library.old saved.old edit }
     ensures tables { stands_for library.new saved.new ≡ committed (changes_of edit) (stands_for library.old saved.old) result }
@@ -111,9 +113,9 @@ fn change<K: Keeper>(
     ensures counted { ChangeCounts (changes_of edit) (K.faults keeper.old) (K.faults keeper.new) result }
 {
     match edit {
-        Edit::Nothing => Ok(()),
-        Edit::OfRecords(pending) => keep_records(alloc, library, keeper, pending),
-        Edit::OfSaved(pending) => keep_saved(alloc, saved, keeper, pending),
+        SessionEdit::Unchanged => Ok(()),
+        SessionEdit::OfRecords(pending) => keep_records(alloc, library, keeper, pending),
+        SessionEdit::OfSaved(pending) => keep_saved(alloc, saved, keeper, pending),
     }
 }
 

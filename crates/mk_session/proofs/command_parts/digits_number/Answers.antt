@@ -8,7 +8,8 @@ use Rattle.mk_session.proofs.command_parts.digits_number.Goals as goal
 
 pub returns-in_err-number : goal.returns-in_err-number
 returns-in_err-number c =
-    absurd (digits_field_none c.args.word.now c.field.result (some_bytes (length c.args.word.now) c.if-is_empty.ensures) (omega arith) (sym c.if-not-are_digits.ensures) c.field.ensures.value c.in_err-number.was)
+    absurd (digits_field_none c.args.word.now c.field.result (some_bytes (length c.args.word.now) c.if-is_empty.ensures)
+    (omega arith) (sym c.if-not-are_digits.ensures) c.field.ensures.value c.in_err-number.was)
 
 pub returns : goal.returns
 returns c =

@@ -13,7 +13,6 @@ returns-clause-effect c =
         no_fault = c.fault_or_query.ensures.not_both;
       };
       sdfile = c.sdfile_is_exact.ensures.one;
-      bad = c.sdfile_is_exact.ensures.bad;
       one_bad = c.sdfile_is_exact.ensures.one_bad;
       fault = c.one_first_fault-2.ensures.one;
       no_fault = c.one_first_fault-2.ensures.none;
@@ -33,7 +32,6 @@ returns-clause-run c =
         no_fault = c.fault_or_query.ensures.not_both;
       };
       sdfile = c.sdfile_is_exact.ensures.one;
-      bad = c.sdfile_is_exact.ensures.bad;
       one_bad = c.sdfile_is_exact.ensures.one_bad;
       fault = c.one_first_fault-2.ensures.one;
       no_fault = c.one_first_fault-2.ensures.none;

@@ -18,4 +18,6 @@ returns-clause-taken g c = record { taken = _; is_taken = c.loop-chunk.invariant
 
 pub returns-then-is_err-clause-taken : goal.returns-then-is_err-clause-taken
 returns-then-is_err-clause-taken g c =
-    taken_more _ _ _ _ _ c.in-Ok.count c.loop-chunk.invariant.told c.in-Ok.ensures.told.0 (short c.loop-chunk-test.true c.len.ensures c.loop-chunk.invariant.size) (omega (arith, c.in-Ok.ensures.within, c.read.auto.buf)) (c.read.auto.buf ∙ c.loop-chunk.invariant.room)
+    taken_more _ _ _ _ _ c.in-Ok.count c.loop-chunk.invariant.told c.in-Ok.ensures.told.0
+    (short c.loop-chunk-test.true c.len.ensures c.loop-chunk.invariant.size)
+    (omega (arith, c.in-Ok.ensures.within, c.read.auto.buf)) (c.read.auto.buf ∙ c.loop-chunk.invariant.room)

@@ -16,7 +16,10 @@ loop-span-preserved g c =
       kept = λ s e. c.do_line.ensures.kept s (v.kept (c.do_line.ensures.sound s) e);
       sound = λ s. v.sound (c.do_line.ensures.sound s);
       same_files = c.do_line.ensures.same_files ∙ v.same_files;
-      missed = rw next (misses_more _ _ _ (orders_of (parts c.args.text.now (take c.loop-span.span-index c.args.lines.now))) (orders_of_line (slice_range c.args.text.now span.from span.to)) v.turns.effects _ _ _ v.turns.does v.turns.tables v.missed (rw v.same_files at c.do_line.ensures.missed));
+      missed = rw next (misses_more _ _ _ (orders_of (parts c.args.text.now
+          (take c.loop-span.span-index c.args.lines.now)))
+          (orders_of_line (slice_range c.args.text.now span.from span.to)) v.turns.effects _ _ _ v.turns.does
+          v.turns.tables v.missed (rw v.same_files at c.do_line.ensures.missed));
     }
 
 pub returns-in-Err-clause-turns : goal.returns-in-Err-clause-turns

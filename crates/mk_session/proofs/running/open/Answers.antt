@@ -12,7 +12,10 @@ returns-in-Err-Memory-clause-opens g c = λ files count missed orders.
 
 pub returns-in-Ok-bad_store_line-clause-opens : goal.returns-in-Ok-bad_store_line-clause-opens
 returns-in-Ok-bad_store_line-clause-opens g c = λ files count missed orders.
-    bad_row _ files orders _ _ c.in-Err-BadStore.kind c.in-Err-BadStore.number c.as_slice.result.now _ _ count _ _ _ _ missed _ (rw c.in-Err-BadStore.field-0-is at c.in-Err-BadStore.ensures.begun) (c.as_slice.ensures.value ∙ c.in-Ok-bad_store_line.ensures) c.say.ensures (rw c.in-Err-BadStore.field-0-is at c.in-Err-BadStore.ensures.counted)
+    bad_row _ files orders _ _ c.in-Err-BadStore.kind c.in-Err-BadStore.number c.as_slice.result.now _ _ count _ _ _ _
+    missed _ (rw c.in-Err-BadStore.field-0-is at c.in-Err-BadStore.ensures.begun)
+    (c.as_slice.ensures.value ∙ c.in-Ok-bad_store_line.ensures) c.say.ensures
+    (rw c.in-Err-BadStore.field-0-is at c.in-Err-BadStore.ensures.counted)
 
 pub returns-in-Ok-bad_store_line-clause-unread : goal.returns-in-Ok-bad_store_line-clause-unread
 returns-in-Ok-bad_store_line-clause-unread g c = other_status _ _ c.say.result (said_unread _ _ _ _ _ c.say.result (λ e. cc) c.say.ensures.said)

@@ -9,12 +9,12 @@ use Rattle.mk_session.proofs.running.top.Goals as goal
 pub returns-in-Err-clause-headline : goal.returns-in-Err-clause-headline
 returns-in-Err-clause-headline g c = headline_stopped _ _ _ _ refl refl refl refl c.in-Err.ensures.taken c.in-Err.status c.in-Err.ensures.given
 
-pub returns-in-Ok-Nothing-clause-headline : goal.returns-in-Ok-Nothing-clause-headline
-returns-in-Ok-Nothing-clause-headline g c =
+pub returns-in-Ok-NoCommand-clause-headline : goal.returns-in-Ok-NoCommand-clause-headline
+returns-in-Ok-NoCommand-clause-headline g c =
     let held = untouched_keeper (g.K.Keeper.sound c.args.keeper.now) (g.K.Keeper.tables c.args.keeper.now) in
-    headline_ended _ _ _ _ _ given.Nothing (rw c.in-Ok-Nothing.field-0-is at c.in-Ok-Nothing.ensures.given)
+    headline_ended _ _ _ _ _ given.NoCommand (rw c.in-Ok-NoCommand.field-0-is at c.in-Ok-NoCommand.ensures.given)
     (said _ held.t _ _ status.Words (NotUnderstood refl refl refl) _ _ _ _ _ _ _ _ _ _ _ _ held.loaded c.say.ensures refl)
-    (λ _. record { tables = refl; files_count = refl; keeper_count = refl; absences = refl }) c.in-Ok-Nothing.ensures.taken
+    (λ _. record { tables = refl; files_count = refl; keeper_count = refl; absences = refl }) c.in-Ok-NoCommand.ensures.taken
 
 pub returns-in-Ok-TooMuch-clause-headline : goal.returns-in-Ok-TooMuch-clause-headline
 returns-in-Ok-TooMuch-clause-headline g c =

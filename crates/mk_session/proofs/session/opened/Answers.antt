@@ -11,5 +11,8 @@ returns-in-Err c = opened_fail c.args.tables c.in-Err.fail (rw c.as_slice.ensure
 
 pub returns : goal.returns
 returns c =
-    let is = c.in-Ok-saved_of.ensures in
-    (opened_tables c.args.tables c.in-Ok.library c.in-Ok-saved_of.saved (rw c.as_slice.ensures at c.in-Ok.ensures.records) c.in-Ok.ensures.next is.0 is.1 is.2, is.3 (rw c.as_slice.ensures at c.in-Ok.ensures.read))
+    let is = c.in-Ok-saved_of.ensures in (
+      opened_tables c.args.tables c.in-Ok.library c.in-Ok-saved_of.saved
+          (rw c.as_slice.ensures at c.in-Ok.ensures.records) c.in-Ok.ensures.next is.0 is.1 is.2,
+      is.3 (rw c.as_slice.ensures at c.in-Ok.ensures.read),
+    )

@@ -1,6 +1,5 @@
 use Rattle.mk_session.proofs.EffectValueLemmas.{some_effect}
 use Rattle.mk_session.proofs.KeptValueLemmas.{effect_keeps}
-use Rattle.mk_kept.proofs.OneQueryLemmas.{HasQueryLaws}
 use Rattle.mk_session.proofs.RunValueLemmas.{all_read_or_bad, some_run}
 use Rattle.mk_session.proofs.values.orders_and_runs_have_values.Goals as goal
 

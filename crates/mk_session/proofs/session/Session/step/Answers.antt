@@ -8,22 +8,30 @@ use Rattle.mk_session.proofs.session.Session.step.Goals as goal
 
 pub returns-in_ok-extend_from_slice-in-Refused-clause-missed : goal.returns-in_ok-extend_from_slice-in-Refused-clause-missed
 returns-in_ok-extend_from_slice-in-Refused-clause-missed g c =
-    subst (λ (t : Tables). MissesAt (g.F.Files.look_up c.args.files.now) (Reaches (g.F.Files.look_up c.args.files.now) t (Some c.args.command.now)) (g.F.Files.absences c.args.files.now) (g.F.Files.absences c.found_of.new.files))
+    subst (λ (t : Tables). MissesAt (g.F.Files.look_up c.args.files.now)
+    (Reaches (g.F.Files.look_up c.args.files.now) t (Some c.args.command.now)) (g.F.Files.absences c.args.files.now)
+    (g.F.Files.absences c.found_of.new.files))
     c.self.view_is c.found_of.ensures.missed
 
 pub returns-in_ok-fulfil-in-Answered-clause-missed : goal.returns-in_ok-fulfil-in-Answered-clause-missed
 returns-in_ok-fulfil-in-Answered-clause-missed g c =
-    subst (λ (t : Tables). MissesAt (g.F.Files.look_up c.args.files.now) (Reaches (g.F.Files.look_up c.args.files.now) t (Some c.args.command.now)) (g.F.Files.absences c.args.files.now) (g.F.Files.absences c.found_of.new.files))
+    subst (λ (t : Tables). MissesAt (g.F.Files.look_up c.args.files.now)
+    (Reaches (g.F.Files.look_up c.args.files.now) t (Some c.args.command.now)) (g.F.Files.absences c.args.files.now)
+    (g.F.Files.absences c.found_of.new.files))
     c.self.view_is c.found_of.ensures.missed
 
 pub returns-in_err-fulfil-in-Answered-clause-missed : goal.returns-in_err-fulfil-in-Answered-clause-missed
 returns-in_err-fulfil-in-Answered-clause-missed g c =
-    subst (λ (t : Tables). MissesAt (g.F.Files.look_up c.args.files.now) (Reaches (g.F.Files.look_up c.args.files.now) t (Some c.args.command.now)) (g.F.Files.absences c.args.files.now) (g.F.Files.absences c.found_of.new.files))
+    subst (λ (t : Tables). MissesAt (g.F.Files.look_up c.args.files.now)
+    (Reaches (g.F.Files.look_up c.args.files.now) t (Some c.args.command.now)) (g.F.Files.absences c.args.files.now)
+    (g.F.Files.absences c.found_of.new.files))
     c.self.view_is c.found_of.ensures.missed
 
 pub returns-in_err-line-clause-missed : goal.returns-in_err-line-clause-missed
 returns-in_err-line-clause-missed g c =
-    subst (λ (t : Tables). MissesAt (g.F.Files.look_up c.args.files.now) (Reaches (g.F.Files.look_up c.args.files.now) t (Some c.args.command.now)) (g.F.Files.absences c.args.files.now) (g.F.Files.absences c.found_of.new.files))
+    subst (λ (t : Tables). MissesAt (g.F.Files.look_up c.args.files.now)
+    (Reaches (g.F.Files.look_up c.args.files.now) t (Some c.args.command.now)) (g.F.Files.absences c.args.files.now)
+    (g.F.Files.absences c.found_of.new.files))
     c.self.view_is c.found_of.ensures.missed
 
 pub returns-in_err-fulfil-in-Answered-clause-stepped : goal.returns-in_err-fulfil-in-Answered-clause-stepped
@@ -33,7 +41,9 @@ returns-in_err-fulfil-in-Answered-clause-stepped g c =
 
 pub returns-in_err-extend_from_slice-in-Refused-clause-missed : goal.returns-in_err-extend_from_slice-in-Refused-clause-missed
 returns-in_err-extend_from_slice-in-Refused-clause-missed g c =
-    subst (λ (t : Tables). MissesAt (g.F.Files.look_up c.args.files.now) (Reaches (g.F.Files.look_up c.args.files.now) t (Some c.args.command.now)) (g.F.Files.absences c.args.files.now) (g.F.Files.absences c.found_of.new.files))
+    subst (λ (t : Tables). MissesAt (g.F.Files.look_up c.args.files.now)
+    (Reaches (g.F.Files.look_up c.args.files.now) t (Some c.args.command.now)) (g.F.Files.absences c.args.files.now)
+    (g.F.Files.absences c.found_of.new.files))
     c.self.view_is c.found_of.ensures.missed
 
 pub returns-in_err-fulfil-in-Answered-clause-counted : goal.returns-in_err-fulfil-in-Answered-clause-counted

@@ -2,7 +2,7 @@ use Rattle.std.proofs.Common.{ap, ◌∙◌}
 use Rattle.std.specs.Prelude.{Err}
 use Rattle.mk_session.proofs.RunningLemmas.{step_stopped, answered, unanswered, unanswered_no_memory, put_whole, put_part, put_nothing}
 use Rattle.mk_session.proofs.TurnLemmas.{misses_one}
-use Rattle.mk_session.proofs.ordering.do_order.Goals as goal
+use Rattle.mk_session.proofs.orders.do_order.Goals as goal
 
 pub returns-in-Err-clause-turns : goal.returns-in-Err-clause-turns
 returns-in-Err-clause-turns g c =

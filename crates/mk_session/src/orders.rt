@@ -1,5 +1,5 @@
 // One order, with its answer written.
-ghost use Rattle.std.specs.Prelude.{◌≡◌, ◌∷◌, [], Some};
+ghost use Rattle.std.specs.Prelude.{◌≡◌, ◌<◌, ◌∷◌, [], Some};
 ghost use Rattle.mk_session.specs.Run.{Misses};
 ghost use Rattle.mk_session.specs.Given.{CanAskOrder};
 ghost use Rattle.mk_session.specs.Running.{IsUnread};
@@ -13,17 +13,17 @@ use crate::{Command, Ended, Status, StepFail};
 use mk_model::Steps;
 use mk_outside::{Files, Keeper, PutFail, Sink};
 use std::alloc::Global;
-use std::sync::ledger::Ledger;
+use std::marker::Brand;
+use std::sync::ledger::{Blank, Ledger};
 
 /// Does an order and writes its answer by one put. Says whether it was refused.
-pub fn do_order<F: Files, W: Sink, K: Keeper, L: Ledger>(
+pub fn do_order<F: Files, W: Sink, K: Keeper>(
     alloc: Global,
     session: &mut Session,
     order: &Option<Command>,
     files: &mut F,
     output: &mut W,
     keeper: &mut K,
-    steps: &mut Steps<L>,
 ) -> Result<bool, Status>
     requires { CanAskOrder order.now }
     ensures turns { Turns (F.look_up files.old) session.old session.new (order.now ∷ []) (W.so_far output.old) (W.so_far output.new)
@@ -36,7 +36,16 @@ pub fn do_order<F: Files, W: Sink, K: Keeper, L: Ledger>(
     ensures unread { IsUnread (W.so_far output.old) (W.so_far output.new) result }
 {
     let mut answer = Vec::new(alloc);
-    let ended = match step_order(alloc, session, order, files, keeper, &mut answer, steps) {
+    let counters = Blank::new(1);
+    let ended = match step_order::<F, K, Brand>(
+        alloc,
+        session,
+        order,
+        files,
+        keeper,
+        &mut answer,
+        counters,
+    ) {
         Ok(ended) => ended,
         Err(fail) => return Err(Status::from(fail)),
     };
@@ -56,7 +65,7 @@ fn is_refused(ended: Ended) -> bool
     }
 }
 
-// A command is a step, and what is no command is refused.
+// A command is a step, which counts on a ledger of its own, and what is no command is refused.
 fn step_order<F: Files, K: Keeper, L: Ledger>(
     alloc: Global,
     session: &mut Session,
@@ -64,9 +73,12 @@ fn step_order<F: Files, K: Keeper, L: Ledger>(
     files: &mut F,
     keeper: &mut K,
     answer: &mut Vec<u8>,
-    steps: &mut Steps<L>,
+    blank: Blank,
 ) -> Result<Ended, StepFail>
-    requires { CanAskOrder order.now }
+    requires asks { CanAskOrder order.now }
+    requires name { blank.name ≡ L.name }
+    requires parts { blank.parts ≡ L.parts }
+    requires one { 0 < L.parts }
     ensures stepped { IsStepped (F.look_up files.old) session.old session.new order.now answer.old.items answer.new.items result }
     ensures kept { K.sound keeper.new → K.tables keeper.old ≡ Some session.old → K.tables keeper.new ≡ Some session.new }
     ensures sound { K.sound keeper.new → K.sound keeper.old }
@@ -74,8 +86,9 @@ fn step_order<F: Files, K: Keeper, L: Ledger>(
     ensures same_files { F.look_up files.new ≡ F.look_up files.old }
     ensures missed { MissesAt (F.look_up files.old) (Reaches (F.look_up files.old) session.old order.now) (F.absences files.old) (F.absences files.new) }
 {
+    let mut steps = Steps::<L>::new(blank);
     match order {
-        Some(command) => session.step(alloc, files, keeper, command, answer, steps),
+        Some(command) => session.step(alloc, files, keeper, command, answer, &mut steps),
         None => {
             answer.extend_from_slice(b"refused 1 command\n")?;
             Ok(Ended::Refused)

@@ -1,10 +1,10 @@
 use Rattle.std.proofs.Common.{refl}
 use Rattle.std.specs.Prelude.{codes}
 use Rattle.mk_effects.specs.Effects.{Refuses}
-use Rattle.mk_session.proofs.ordering.step_order.Goals as goal
+use Rattle.mk_session.proofs.orders.step_order.Goals as goal
 
-pub returns-in_ok-extend_from_slice-in-None-clause-stepped : goal.returns-in_ok-extend_from_slice-in-None-clause-stepped
-returns-in_ok-extend_from_slice-in-None-clause-stepped g c =
+pub returns-clause-stepped : goal.returns-clause-stepped
+returns-clause-stepped g c =
     record { effect = Refuses (codes "refused 1 command\n"); comes = rw c.in-None.is refl; tables = refl; answer = c.in_ok-extend_from_slice-in-None.ensures.items; ends = refl }
 
 pub returns-in-Some-clause-missed : goal.returns-in-Some-clause-missed

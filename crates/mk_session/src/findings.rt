@@ -8,6 +8,7 @@ ghost use Rattle.mk_effects.specs.Drilling.{IsDrillAnswer};
 ghost use Rattle.mk_session.specs.Step.{Reaches};
 ghost use Rattle.mk_effects.specs.Findings.{FoundFits, MissesAt, effect_of, stands_for};
 ghost use Rattle.mk_session.specs.Stepping.{Seeks};
+ghost use Rattle.mk_session.specs.StepTicks.{BeginsOfCommand};
 
 use crate::Command;
 use mk_effects::{
@@ -32,6 +33,7 @@ pub fn found_of<F: Files, L: Ledger>(
 ) -> Result<Found, StepFail>
     requires { CanAsk command.now }
     ensures sought { Seeks (F.look_up files.old) (stands_for library.old saved.old) (Some command.now) (F.faults files.old) (F.faults files.new) result }
+    ensures begins { IfOk result (λ found. BeginsOfCommand (stands_for library.old saved.old) command.now (effect_of found) steps.old steps.new) }
     ensures fits { IfOk result (FoundFits library.new saved.new) }
     ensures same { IsSame library.old library.new }
     ensures same_saved { IsSameSaved saved.old saved.new }
@@ -42,17 +44,17 @@ pub fn found_of<F: Files, L: Ledger>(
         Command::Match { query, molecules } => {
             match_found(alloc, files, query.as_str(), molecules.as_str(), steps)
         }
-        Command::Load { file } => load_found(alloc, library, saved, files, file.as_str()),
+        Command::Load { file } => load_found(alloc, library, files, file.as_str()),
         Command::Replace { number, file } => {
-            replace_found(alloc, library, saved, files, *number, file.as_str())
+            replace_found(alloc, library, files, *number, file.as_str())
         }
-        Command::Remove { number } => Ok(remove_found(alloc, library, saved, *number)?),
-        Command::Show { number } => Ok(show_found(alloc, library, saved, *number)?),
+        Command::Remove { number } => Ok(remove_found(alloc, library, *number)?),
+        Command::Show { number } => Ok(show_found(alloc, library, *number)?),
         Command::List => Ok(list_found(alloc, library, saved)?),
         Command::Query { name, file } => {
-            keep_found(alloc, library, saved, files, name.as_str(), file.as_str())
+            keep_found(alloc, saved, files, name.as_str(), file.as_str())
         }
-        Command::Forget { name } => Ok(forget_found(alloc, library, saved, name.as_str())?),
+        Command::Forget { name } => Ok(forget_found(alloc, saved, name.as_str())?),
         Command::Search { name, limit } => {
             Ok(search_found(alloc, library, saved, name.as_str(), *limit, steps)?)
         }
