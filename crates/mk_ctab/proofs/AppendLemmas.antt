@@ -115,4 +115,6 @@ pub spelling_parts : (table : RawTable) → spelling table
 unfolding spelling
 spelling_parts table =
     ap (λ (rest : List ℕ). ended (counts_line table) ++ rest)
-    (ended_both atom_line table.atoms _ _ (ended_both bond_line table.bonds _ _ (ended_both numbers_line table.lists _ _ (ended_both property_line table.props (end_line ∷ []) (codes "M  END\n") refl))))
+    (ended_both atom_line table.atoms _ _ (ended_both bond_line table.bonds _ _
+    (ended_both numbers_line table.lists _ _ (ended_both property_line table.props (end_line ∷ [])
+    (codes "M  END\n") refl))))

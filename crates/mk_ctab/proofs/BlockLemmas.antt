@@ -141,7 +141,9 @@ some_end = refl
 
 -- their beginnings can be completed
 pub completes-properties : Completes properties_part
-completes-properties = completes-seen_as kept_in (completes-until is_end_line (completes-sequence (completes-line property_before_end (codes "M  ") (kinds.Passed 0) some_line) completes-after) (completes-line_where is_end_line (codes "M  END") some_end))
+completes-properties = completes-seen_as kept_in (completes-until is_end_line
+    (completes-sequence (completes-line property_before_end (codes "M  ") (kinds.Passed 0) some_line) completes-after)
+    (completes-line_where is_end_line (codes "M  END") some_end))
 
 -- ---- in the words of the definition
 

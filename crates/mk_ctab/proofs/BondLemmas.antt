@@ -9,7 +9,7 @@ use Rattle.mk_model.specs.Edges.{degree, IsBetween, AreBetween, HasEnds, IsSimpl
 use Rattle.mk_model.proofs.ForCallers.{length-numbers_from, slice_get-rows_of, touches-ends, numbers_at-each, numbers_at-all}
 use Rattle.mk_ctab.specs.declared.raw.RawBond.{RawBond}
 use Rattle.mk_ctab.specs.Numbers.{natural}
-use Rattle.mk_ctab.specs.Bonds.{HasTwoEnds, JoinSame, edge_of, edges_of, HasFewBonds, IsEdgeFront, IsNewBondAt}
+use Rattle.mk_ctab.specs.Bonds.{HasTwoEnds, JoinSame, raw_edge, edges_of, HasFewBonds, IsEdgeFront, IsNewBondAt}
 use Rattle.mk_text.specs.Items.{IsLeastFailing, OfItem}
 use Rattle.mk_ctab.specs.BondSearch.{IsNewAt, HasEarlier, IsNewAmong}
 use Rattle.std.proofs.lemmas.Option.{slice_get_within, get_or_from_slice_get, slice_get-get_or}
@@ -18,7 +18,9 @@ use Rattle.mk_ctab.proofs.EdgeLemmas.{atoms_differ}
 -- ---- the numbers of an atom's bonds
 
 -- what stands for an atom in the lists of all atoms
-pub numbers_are : (near : List (List ℕ)) (edges : List Edge) (n : ℕ) (numbers : List ℕ) → near ≡ rows_of (length near) edges → 1 ≤ n → n ≤ length near → slice_get near (n - 1) ≡ Some numbers → numbers ≡ numbers_at edges n
+pub numbers_are : (near : List (List ℕ)) (edges : List Edge) (n : ℕ) (numbers : List ℕ)
+    → near ≡ rows_of (length near) edges → 1 ≤ n → n ≤ length near → slice_get near (n - 1) ≡ Some numbers
+    → numbers ≡ numbers_at edges n
 numbers_are near edges n numbers are least most got =
     let place : n - 1 + 1 ≡ n = omega arith in
     let there : slice_get (rows_of (length near) edges) (n - 1) ≡ Some (numbers_at edges (n - 1 + 1)) = slice_get-rows_of (length near) edges (n - 1) (omega arith) in
@@ -94,11 +96,11 @@ new-all edges b all before item i d i_before item_in = before (item - 1) (omega 
 
 module _ (atoms : ℕ) (bonds : List RawBond) (edges : List Edge) (front : IsEdgeFront atoms bonds edges) where
   -- the edge at a place is that of the bond there
-  pub edge_at : (k : ℕ) (d : Edge) (r : RawBond) → k < length edges → get_or edges k d ≡ edge_of (get_or bonds k r)
+  pub edge_at : (k : ℕ) (d : Edge) (r : RawBond) → k < length edges → get_or edges k d ≡ raw_edge (get_or bonds k r)
   edge_at k d r below =
       let size : length (take (length edges) bonds) ≡ length edges = length-take-le (length edges) bonds front.few in
       let is : get_or edges k d ≡ get_or (edges_of (take (length edges) bonds)) k d = ap (λ (l : List Edge). get_or l k d) front.edges_are in
-      is ∙ get_or-map edge_of (take (length edges) bonds) k r d (omega arith) ∙ ap edge_of (get_or-take (length edges) bonds k r below)
+      is ∙ get_or-map raw_edge (take (length edges) bonds) k r d (omega arith) ∙ ap raw_edge (get_or-take (length edges) bonds k r below)
 
   -- its ends are two atoms
   pub ends_at : (k : ℕ) (r : RawBond) → k < length edges → HasTwoEnds atoms (get_or bonds k r)
@@ -108,12 +110,12 @@ module _ (atoms : ℕ) (bonds : List RawBond) (edges : List Edge) (front : IsEdg
       rw (get_or-take (length edges) bonds k r below) at here
 
   -- bonds that join the same atoms have edges that do
-  same_edges : (a b : RawBond) → JoinSame a b → HasEnds (edge_of a) (edge_of b).first (edge_of b).second
+  same_edges : (a b : RawBond) → JoinSame a b → HasEnds (raw_edge a) (raw_edge b).first (raw_edge b).second
   same_edges a b (inl same) = inl (ap natural same.0, ap natural same.1)
   same_edges a b (inr same) = inr (ap natural same.0, ap natural same.1)
 
   -- and the other way round, where the ends are atoms
-  same_bonds : (a b : RawBond) → HasTwoEnds atoms a → HasTwoEnds atoms b → HasEnds (edge_of a) (edge_of b).first (edge_of b).second → JoinSame a b
+  same_bonds : (a b : RawBond) → HasTwoEnds atoms a → HasTwoEnds atoms b → HasEnds (raw_edge a) (raw_edge b).first (raw_edge b).second → JoinSame a b
   same_bonds a b p q (inl same) = inl (atoms_differ atoms a.first b.first p.first q.first same.0, atoms_differ atoms a.second b.second p.second q.second same.1)
   same_bonds a b p q (inr same) = inr (atoms_differ atoms a.first b.second p.first q.second same.0, atoms_differ atoms a.second b.first p.second q.first same.1)
 
@@ -131,8 +133,8 @@ module _ (atoms : ℕ) (bonds : List RawBond) (edges : List Edge) (front : IsEdg
             let before : j < k = omega (arith, length-take-le k bonds (omega arith)) in
             let same' : JoinSame (get_or bonds j r) x = rw (get_or-take k bonds j r before) at same in
             let ends = same_edges (get_or bonds j r) x same' in
-            let at_j : get_or edges j d ≡ edge_of (get_or bonds j r) = edge_at j d r (omega arith) in
-            let at_k : get_or edges k d ≡ edge_of x = edge_at k d x in_edges ∙ ap edge_of here in
+            let at_j : get_or edges j d ≡ raw_edge (get_or bonds j r) = edge_at j d r (omega arith) in
+            let at_k : get_or edges k d ≡ raw_edge x = edge_at k d x in_edges ∙ ap raw_edge here in
             new j d before in_edges (rw (at_j, at_k) ends);
       }
 
@@ -146,7 +148,7 @@ module _ (atoms : ℕ) (bonds : List RawBond) (edges : List Edge) (front : IsEdg
       let is = new x (omega arith) (slice_get-get_or bonds k r in_bonds) in
       let at_j = edge_at j d r (omega arith) in
       let at_k = edge_at k d r below in
-      let ends' : HasEnds (edge_of (get_or bonds j r)) (edge_of x).first (edge_of x).second = rw (at_j, at_k) at ends in
+      let ends' : HasEnds (raw_edge (get_or bonds j r)) (raw_edge x).first (raw_edge x).second = rw (at_j, at_k) at ends in
       let same = same_bonds (get_or bonds j r) x (ends_at j r (omega arith)) (ends_at k r below) ends' in
       is.new j r (omega (arith, length-take-le k bonds (omega arith))) (rw (get_or-take k bonds j r before) same)
 

@@ -12,7 +12,9 @@ use Rattle.mk_ctab.specs.ChargePutting.{AreOfLines, IsOfLine, column_of, ArePut,
 use Rattle.std.proofs.lemmas.Option.{slice_get_within, get_or_from_slice_get}
 
 -- one atom line more
-pub lines-more : (aside : Bool) (lines : List RawAtom) (k : ℕ) (line : RawAtom) (atoms : List Electrons) (atom : Electrons) → k < length lines → line ≡ get_or lines k line → AreOfLines aside (take k lines) atoms → IsOfLine aside line atom → AreOfLines aside (take (k + 1) lines) (atoms ++ atom ∷ [])
+pub lines-more : (aside : Bool) (lines : List RawAtom) (k : ℕ) (line : RawAtom) (atoms : List Electrons)
+    (atom : Electrons) → k < length lines → line ≡ get_or lines k line → AreOfLines aside (take k lines) atoms
+    → IsOfLine aside line atom → AreOfLines aside (take (k + 1) lines) (atoms ++ atom ∷ [])
 lines-more aside lines k line atoms atom below at are is = record {
   size = omega (arith, length_push atoms atom, are.size, length-take-le k lines (omega arith), length-take-le (k + 1) lines (omega arith));
   each = λ i l a i_in.
@@ -42,17 +44,23 @@ none_listed (kinds.Radical pairs ∷ props) none = absurd cc
 none_listed (other ∷ props) none = none_listed props none
 
 -- the charge that holds
-charge_is : (aside : Bool) (table : RawTable) (n : ℕ) (line : RawAtom) → aside ≡ lists_values table.props → last_or (charge_of_column (column_of aside line)) (values_for n (charge_pairs table.props)) ≡ charge_at table n line
+charge_is : (aside : Bool) (table : RawTable) (n : ℕ) (line : RawAtom) → aside ≡ lists_values table.props
+    → last_or (charge_of_column (column_of aside line)) (values_for n (charge_pairs table.props)) ≡ charge_at table n
+    line
 charge_is true table n line is = rw (← is) refl
 charge_is false table n line is = rw (← is, (none_listed table.props (sym is)).0) refl
 
 -- the radical that holds
-radical_is : (aside : Bool) (table : RawTable) (n : ℕ) (line : RawAtom) → aside ≡ lists_values table.props → last_or (radical_of_column (column_of aside line)) (values_for n (radical_pairs table.props)) ≡ radical_at table n line
+radical_is : (aside : Bool) (table : RawTable) (n : ℕ) (line : RawAtom) → aside ≡ lists_values table.props
+    → last_or (radical_of_column (column_of aside line)) (values_for n (radical_pairs table.props)) ≡ radical_at table n
+    line
 radical_is true table n line is = rw (← is) refl
 radical_is false table n line is = rw (← is, (none_listed table.props (sym is)).1) refl
 
 -- what the lines say is what holds once the values were put
-pub are_electrons : (aside : Bool) (table : RawTable) (old new : List Electrons) → aside ≡ lists_values table.props → AreOfLines aside table.atoms old → ArePut (charge_pairs table.props) (radical_pairs table.props) old new → AreElectrons table new
+pub are_electrons : (aside : Bool) (table : RawTable) (old new : List Electrons) → aside ≡ lists_values table.props
+    → AreOfLines aside table.atoms old → ArePut (charge_pairs table.props) (radical_pairs table.props) old new
+    → AreElectrons table new
 are_electrons aside table old new is are put = record {
   size = put.size ∙ are.size;
   each = λ i line atom line_at atom_at.

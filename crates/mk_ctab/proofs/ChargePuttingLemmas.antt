@@ -60,17 +60,24 @@ put-more c r c' r' old mid new first second = record {
 }
 
 -- one charge more
-pub charges-more : (pairs : List Pair) (k : ℕ) (d : Pair) (old mid new : List Electrons) → k < length pairs → ArePut (take k pairs) [] old mid → ArePut (get_or pairs k d ∷ []) [] mid new → ArePut (take (k + 1) pairs) [] old new
+pub charges-more : (pairs : List Pair) (k : ℕ) (d : Pair) (old mid new : List Electrons) → k < length pairs
+    → ArePut (take k pairs) [] old mid → ArePut (get_or pairs k d ∷ []) [] mid new
+    → ArePut (take (k + 1) pairs) [] old new
 charges-more pairs k d old mid new below first second =
     rw (take_more pairs k d below) (put-more (take k pairs) [] (get_or pairs k d ∷ []) [] old mid new first second)
 
 -- one radical more
-pub radicals-more : (pairs : List Pair) (k : ℕ) (d : Pair) (old mid new : List Electrons) → k < length pairs → ArePut [] (take k pairs) old mid → ArePut [] (get_or pairs k d ∷ []) mid new → ArePut [] (take (k + 1) pairs) old new
+pub radicals-more : (pairs : List Pair) (k : ℕ) (d : Pair) (old mid new : List Electrons) → k < length pairs
+    → ArePut [] (take k pairs) old mid → ArePut [] (get_or pairs k d ∷ []) mid new
+    → ArePut [] (take (k + 1) pairs) old new
 radicals-more pairs k d old mid new below first second =
     rw (take_more pairs k d below) (put-more [] (take k pairs) [] (get_or pairs k d ∷ []) old mid new first second)
 
 -- one property more
-pub property-more : (props : List Property) (k : ℕ) (p : Property) (old mid new : List Electrons) → k < length props → p ≡ get_or props k p → ArePut (charge_pairs (take k props)) (radical_pairs (take k props)) old mid → ArePut (charges_of p) (radicals_of p) mid new → ArePut (charge_pairs (take (k + 1) props)) (radical_pairs (take (k + 1) props)) old new
+pub property-more : (props : List Property) (k : ℕ) (p : Property) (old mid new : List Electrons) → k < length props
+    → p ≡ get_or props k p → ArePut (charge_pairs (take k props)) (radical_pairs (take k props)) old mid
+    → ArePut (charges_of p) (radicals_of p) mid new → ArePut (charge_pairs (take (k + 1) props))
+    (radical_pairs (take (k + 1) props)) old new
 property-more props k p old mid new below is first second =
     let next : take (k + 1) props ≡ take k props ++ p ∷ [] = take_more props k p below ∙ ap (λ (x : Property). take k props ++ x ∷ []) (sym is) in
     rw (next, charge_pairs-push (take k props) p, radical_pairs-push (take k props) p)
@@ -79,7 +86,9 @@ property-more props k p old mid new below is first second =
 -- ---- one value
 
 -- the charge of the atom that the pair names
-pub put-charge : (list : List Electrons) (pair : Pair) (k : ℕ) (d new : Electrons) → k ≡ natural pair.atom → 1 ≤ k → k ≤ length list → new.charge ≡ pair.value → new.radical ≡ (get_or list (k - 1) d).radical → ArePut (pair ∷ []) [] list (set list (k - 1) new)
+pub put-charge : (list : List Electrons) (pair : Pair) (k : ℕ) (d new : Electrons) → k ≡ natural pair.atom → 1 ≤ k
+    → k ≤ length list → new.charge ≡ pair.value → new.radical ≡ (get_or list (k - 1) d).radical
+    → ArePut (pair ∷ []) [] list (set list (k - 1) new)
 put-charge list pair k d new names least most charge radical = record {
   size = length-set list (k - 1) new;
   each = λ i e below. by_place i e below (cases_eq i (k - 1));

@@ -8,7 +8,7 @@ use Rattle.mk_model.specs.declared.edge.Edge.{Edge}
 use Rattle.mk_model.specs.Edges.{IsBetween, AreBetween}
 use Rattle.mk_ctab.specs.declared.raw.RawBond.{RawBond}
 use Rattle.mk_ctab.specs.Numbers.{natural, IsAtom}
-use Rattle.mk_ctab.specs.Bonds.{HasTwoEnds, edge_of, edges_of, IsEdgeFront}
+use Rattle.mk_ctab.specs.Bonds.{HasTwoEnds, raw_edge, edges_of, IsEdgeFront}
 use Rattle.mk_ctab.specs.BondSearch.{IsEdge}
 use Rattle.mk_text.proofs.ForCallers.{of_item-at}
 
@@ -31,14 +31,14 @@ atoms_differ atoms y z y_is z_is same = atom_is atoms y y_is ∙ ap pos same ∙
 -- ---- one bond
 
 -- the edge of a bond whose ends are two atoms is between them
-pub IsBetween-edge_of : (atoms : ℕ) (bond : RawBond) → HasTwoEnds atoms bond → IsBetween atoms (edge_of bond)
+pub IsBetween-edge_of : (atoms : ℕ) (bond : RawBond) → HasTwoEnds atoms bond → IsBetween atoms (raw_edge bond)
 IsBetween-edge_of atoms bond ends = record {
   first = atom_within atoms bond.first ends.first;
   second = atom_within atoms bond.second ends.second;
   differ = λ same. ends.differ (atoms_differ atoms bond.first bond.second ends.first ends.second same);
 }
 
-pub IsEdge-edge_of : (atoms : ℕ) (bond : RawBond) (edge : Edge) → edge ≡ edge_of bond → HasTwoEnds atoms bond → IsEdge atoms bond edge
+pub IsEdge-edge_of : (atoms : ℕ) (bond : RawBond) (edge : Edge) → edge ≡ raw_edge bond → HasTwoEnds atoms bond → IsEdge atoms bond edge
 IsEdge-edge_of atoms bond edge is ends = record {
   ends = ends;
   is = is;
@@ -61,19 +61,22 @@ edges-none atoms bonds edges is = record {
 }
 
 -- one bond more
-pub edges-more : (atoms : ℕ) (bonds : List RawBond) (k : ℕ) (d : RawBond) (edges : List Edge) (edge : Edge) → k < length bonds → IsEdge atoms (get_or bonds k d) edge → AreEdges atoms bonds k edges → AreEdges atoms bonds (k + 1) (edges ++ edge ∷ [])
+pub edges-more : (atoms : ℕ) (bonds : List RawBond) (k : ℕ) (d : RawBond) (edges : List Edge) (edge : Edge)
+    → k < length bonds → IsEdge atoms (get_or bonds k d) edge → AreEdges atoms bonds k edges
+    → AreEdges atoms bonds (k + 1) (edges ++ edge ∷ [])
 edges-more atoms bonds k d edges edge below is are = record {
-  edges_are = rw (are.edges_are, is.is) (sym (map_more edge_of bonds k d below));
+  edges_are = rw (are.edges_are, is.is) (sym (map_more raw_edge bonds k d below));
   ends = All-more (HasTwoEnds atoms) bonds k d below are.ends is.ends;
   between = All-push (IsBetween atoms) edges edge are.between is.between;
 }
 
 -- as many edges as bonds
 edges-size : (atoms : ℕ) (bonds : List RawBond) (k : ℕ) (edges : List Edge) → k ≤ length bonds → AreEdges atoms bonds k edges → length edges ≡ k
-edges-size atoms bonds k edges few are = ap length are.edges_are ∙ length-map (take k bonds) edge_of ∙ length-take-le k bonds few
+edges-size atoms bonds k edges few are = ap length are.edges_are ∙ length-map (take k bonds) raw_edge ∙ length-take-le k bonds few
 
 -- the edges before a bond whose ends aren't two atoms
-pub front-stops : (atoms : ℕ) (bonds : List RawBond) (k : ℕ) (d : RawBond) (edges : List Edge) → k < length bonds → (HasTwoEnds atoms (get_or bonds k d) → ⊥) → AreEdges atoms bonds k edges → IsEdgeFront atoms bonds edges
+pub front-stops : (atoms : ℕ) (bonds : List RawBond) (k : ℕ) (d : RawBond) (edges : List Edge) → k < length bonds
+    → (HasTwoEnds atoms (get_or bonds k d) → ⊥) → AreEdges atoms bonds k edges → IsEdgeFront atoms bonds edges
 front-stops atoms bonds k d edges below fails are =
     let size : length edges ≡ k = edges-size atoms bonds k edges (omega arith) are in
     record {

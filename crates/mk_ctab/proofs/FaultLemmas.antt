@@ -93,30 +93,41 @@ module _ {V : Type 0} {p : Part Line V} (e : Exact is_v3000 Anything p) (lines :
 -- ---- a fault of a part
 
 -- where the first of two parts fails, both do
-pub fails_first : {X V : Type 0} (lines : List Line) (fault : TableFault) (reading : Reading Line X) (f : X → List Line → Reading Line V) → Fails lines fault reading → Fails lines fault (and_then reading f)
+pub fails_first : {X V : Type 0} (lines : List Line) (fault : TableFault) (reading : Reading Line X)
+    (f : X → List Line → Reading Line V) → Fails lines fault reading → Fails lines fault (and_then reading f)
 fails_first lines (Bad k) reading f h = stops_first lines false k reading f h
 fails_first lines (V3000 k) reading f h = stops_first lines true k reading f h
 fails_first lines Memory reading f h = tt
 
 -- where the first takes lines, both fail where the second does
-pub fails_second : {X V : Type 0} (lines : List Line) (fault : TableFault) (count : ℕ) (x : X) (reading : Reading Line X) (f : X → List Line → Reading Line V) → TakesLines lines count x reading → Fails lines fault (f x (drop count lines)) → Fails lines fault (and_then reading f)
+pub fails_second : {X V : Type 0} (lines : List Line) (fault : TableFault) (count : ℕ) (x : X)
+    (reading : Reading Line X) (f : X → List Line → Reading Line V) → TakesLines lines count x reading
+    → Fails lines fault (f x (drop count lines)) → Fails lines fault (and_then reading f)
 fails_second lines fault count x reading f takes h = subst (Fails lines fault) (sym (takes_first lines count x reading f takes)) h
 
 -- where a row fails, the rows do
-pub rows_fail : {X : Type 0} (p : Part Line X) (lines : List Line) (from count : ℕ) (front : List X) (i at : ℕ) (fault : TableFault) → i < count → RowsLeft p lines from count front i at → Fails lines fault (p.read (drop at lines)) → Fails lines fault ((rows count p).read (drop from lines))
+pub rows_fail : {X : Type 0} (p : Part Line X) (lines : List Line) (from count : ℕ) (front : List X) (i at : ℕ)
+    (fault : TableFault) → i < count → RowsLeft p lines from count front i at
+    → Fails lines fault (p.read (drop at lines)) → Fails lines fault ((rows count p).read (drop from lines))
 rows_fail p lines from count front i at (Bad k) lt left h = rows_left_stop p lines from count front i at k false lt left h
 rows_fail p lines from count front i at (V3000 k) lt left h = rows_left_stop p lines from count front i at k true lt left h
 rows_fail p lines from count front i at Memory lt left h = tt
 
-module _ {X U : Type 0} {says : Line → Bool} {Follows : List Line → Type 0} {b : Line → Bool} {p : Part Line X} {q : Part Line U} (e : Exact says Anything p) (f : Exact says Follows q) (s : Shows b false p) (t : Shows b true q) (lines : List Line) (from : ℕ) where
+module _ {X U : Type 0} {says : Line → Bool} {Follows : List Line → Type 0} {b : Line → Bool} {p : Part Line X}
+    {q : Part Line U} (e : Exact says Anything p) (f : Exact says Follows q) (s : Shows b false p) (t : Shows b true q)
+    (lines : List Line) (from : ℕ) where
   -- where a part before an end fails, the parts do
-  pub until_fails : (front : List X) (at : ℕ) (d : Line) (fault : TableFault) → at < length lines → b (get_or lines at d) ≡ false → UntilLeft b p q lines from front at → Fails lines fault (p.read (drop at lines)) → Fails lines fault ((until b p q).read (drop from lines))
+  pub until_fails : (front : List X) (at : ℕ) (d : Line) (fault : TableFault) → at < length lines
+      → b (get_or lines at d) ≡ false → UntilLeft b p q lines from front at → Fails lines fault (p.read (drop at lines))
+      → Fails lines fault ((until b p q).read (drop from lines))
   until_fails front at d (Bad k) lt goes left h = until_left_stop e f s t lines from front at k d false lt goes left h
   until_fails front at d (V3000 k) lt goes left h = until_left_stop e f s t lines from front at k d true lt goes left h
   until_fails front at d Memory lt goes left h = tt
 
   -- and where the end fails, they do
-  pub until_end_fails : (front : List X) (at : ℕ) (d : Line) (fault : TableFault) → at < length lines → b (get_or lines at d) ≡ true → UntilLeft b p q lines from front at → Fails lines fault (q.read (drop at lines)) → Fails lines fault ((until b p q).read (drop from lines))
+  pub until_end_fails : (front : List X) (at : ℕ) (d : Line) (fault : TableFault) → at < length lines
+      → b (get_or lines at d) ≡ true → UntilLeft b p q lines from front at → Fails lines fault (q.read (drop at lines))
+      → Fails lines fault ((until b p q).read (drop from lines))
   until_end_fails front at d (Bad k) lt ends left h = until_left_end_stop e f s t lines from front at k d false lt ends left h
   until_end_fails front at d (V3000 k) lt ends left h = until_left_end_stop e f s t lines from front at k d true lt ends left h
   until_end_fails front at d Memory lt ends left h = tt

@@ -15,7 +15,7 @@ use Rattle.mk_text.proofs.ForCallers.{both, both_read, columns_field, columns_le
 use Rattle.mk_ctab.specs.declared.raw.RawAtom.{RawAtom}
 use Rattle.mk_ctab.specs.declared.raw.RawBond.{RawBond}
 use Rattle.mk_ctab.specs.declared.raw.RawList.{RawList}
-use Rattle.mk_ctab.specs.declared.table_lines.Counts.{Counts}
+use Rattle.mk_ctab.specs.declared.table_lines.CountsLine.{CountsLine}
 use Rattle.mk_ctab.specs.declared.table_lines.AtomNumbers.{AtomNumbers}
 use Rattle.mk_ctab.specs.TableLines.{Line, word_of, natural_of, is_v2000_or_none, counts_of, is_coordinate, atom_numbers_of, raw_atom_of, raw_bond_of, list_flag_of, list_count_of, list_numbers_of, list_of}
 
@@ -47,12 +47,14 @@ text_same line a b text first order other is =
 version_same : (line : Line) → is_v2000_or_none line ≡ true → word_of (without_crs line) 34 39 ≡ word_of line 34 39
 version_same line is = by_tests (eqb (length (word_of line 34 39)) 0) refl (bytes_eq (word_of line 34 39) (codes "V2000")) refl is
   where
-    by_tests : (none : Bool) → eqb (length (word_of line 34 39)) 0 ≡ none → (version : Bool) → bytes_eq (word_of line 34 39) (codes "V2000") ≡ version → (none || version) ≡ true → word_of (without_crs line) 34 39 ≡ word_of line 34 39
+    by_tests : (none : Bool) → eqb (length (word_of line 34 39)) 0 ≡ none → (version : Bool)
+        → bytes_eq (word_of line 34 39) (codes "V2000") ≡ version → (none || version) ≡ true
+        → word_of (without_crs line) 34 39 ≡ word_of line 34 39
     by_tests true e version f is = text_same line 34 39 [] (lit≤ tt) (lit≤ tt) (ends_not [] 13 refl) (nil_from_length (word_of line 34 39) (eqb-true (length (word_of line 34 39)) 0 e))
     by_tests false e true f is = text_same line 34 39 (codes "V2000") (lit≤ tt) (lit≤ tt) (ends_not (codes "V2000") 13 refl) ((bytes_eq-Decides (word_of line 34 39) (codes "V2000")).0 f)
     by_tests false e false f is = absurd cc
 
-pub counts_left : (line : Line) (counts : Counts) → counts_of line ≡ Some counts → counts_of (without_crs line) ≡ Some counts
+pub counts_left : (line : Line) (counts : CountsLine) → counts_of line ≡ Some counts → counts_of (without_crs line) ≡ Some counts
 unfolding counts_of
 counts_left line counts read =
     let passed = test_passed (not (eqb (length (word_of line 1 3)) 0) && is_v2000_or_none line) _ counts read in

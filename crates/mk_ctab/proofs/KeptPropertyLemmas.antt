@@ -73,7 +73,9 @@ module _ (line : List ℕ) where
 
   -- ---- kinds
 
-  pair_line_left : (text : List ℕ) (most : ℕ) (pairs : List Pair) → eqb (get_or (trimmed text) (length (trimmed text) - 1) 0) 13 ≡ false → IsPairLine text most line pairs → IsPairLine text most (without_crs line) pairs
+  pair_line_left : (text : List ℕ) (most : ℕ) (pairs : List Pair)
+      → eqb (get_or (trimmed text) (length (trimmed text) - 1) 0) 13 ≡ false → IsPairLine text most line pairs
+      → IsPairLine text most (without_crs line) pairs
   pair_line_left text most pairs other is = record { begins = word 6 text (lit≤ tt) other is.begins; entries = pairs_left most 7 pairs (lit≤ tt) is.entries }
 
   link_line_left : (links : List LinkEntry) → IsLinkLine line links → IsLinkLine (without_crs line) links

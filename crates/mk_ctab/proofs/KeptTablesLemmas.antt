@@ -52,7 +52,9 @@ block_left None lines ends is =
     record { line = without_crs is.line; after = left is.after; whole = ap left is.whole; is = rw count (property_left is.line (kinds.Passed (length is.after)) tt is.is) }
 
 -- the first of some blocks, and the others
-first_ends : (block : Option Property) (blocks : List (Option Property)) → AllByRecursion EndsWithoutCr (values_of (block ∷ blocks)) → AllByRecursion EndsWithoutCr (values_of (block ∷ [])) × AllByRecursion EndsWithoutCr (values_of blocks)
+first_ends : (block : Option Property) (blocks : List (Option Property))
+    → AllByRecursion EndsWithoutCr (values_of (block ∷ blocks)) → AllByRecursion EndsWithoutCr (values_of (block ∷ []))
+    × AllByRecursion EndsWithoutCr (values_of blocks)
 first_ends (Some property) blocks ends = ((ends.0, tt), ends.1)
 first_ends None blocks ends = (tt, ends)
 
@@ -93,13 +95,16 @@ whole_is_table lines table is keeps = record {
   whole = ap left is.whole ∙ parts_left is.counts_line is.atom_lines is.bond_lines is.list_lines is.stext_lines is.property_lines (is.last_line ∷ []);
   stext = is.stext;
   counted = counts_left is.counts_line _ is.counted;
-  atoms = spell_left raw_atom_of (λ atom. EndsWith 13 atom.symbol → ⊥) atom_left table.atoms is.atom_lines (recursion_from_All (λ (atom : RawAtom). EndsWith 13 atom.symbol → ⊥) table.atoms keeps.symbols) is.atoms;
+  atoms = spell_left raw_atom_of (λ atom. EndsWith 13 atom.symbol → ⊥) atom_left table.atoms is.atom_lines
+      (recursion_from_All (λ (atom : RawAtom). EndsWith 13 atom.symbol → ⊥) table.atoms keeps.symbols) is.atoms;
   bonds = spell_left _ (λ _. Unit {0}) (λ line bond _ read. bond_left line bond read) table.bonds is.bond_lines (always table.bonds) is.bonds;
   lists = spell_left _ (λ _. Unit {0}) (λ line list _ read. list_left line list read) table.lists is.list_lines (always table.lists) is.lists;
   two_each = length-map is.stext_lines without_crs ∙ is.two_each;
   properties = record {
     blocks = is.properties.blocks;
-    each = blocks_left is.properties.blocks is.property_lines (subst (λ (ps : List Property). AllByRecursion EndsWithoutCr ps) is.properties.kept (recursion_from_All EndsWithoutCr table.props keeps.properties)) is.properties.each;
+    each = blocks_left is.properties.blocks is.property_lines
+        (subst (λ (ps : List Property). AllByRecursion EndsWithoutCr ps) is.properties.kept
+        (recursion_from_All EndsWithoutCr table.props keeps.properties)) is.properties.each;
     kept = is.properties.kept;
   };
   ended = property_left is.last_line kinds.End tt is.ended;

@@ -79,9 +79,13 @@ counts_are_read table few_atoms few_bonds few_lists =
     let tail : StandsBehind line 9 counts_tail = behind atoms 3 size_atoms (behind bonds 3 size_bonds (behind lists 3 size_lists (alone counts_tail))) in
     let one : natural_of line 1 3 ≡ Some (length table.atoms) = natural_at (length table.atoms) 1 3 few_atoms (first atoms (bonds ++ (lists ++ counts_tail))) refl refl in
     let two : natural_of line 4 6 ≡ Some (length table.bonds) = natural_at (length table.bonds) 4 6 few_bonds (behind atoms 3 size_atoms (first bonds (lists ++ counts_tail))) refl refl in
-    let three : natural_of line 7 9 ≡ Some (length table.lists) = natural_at (length table.lists) 7 9 few_lists (behind atoms 3 size_atoms (behind bonds 3 size_bonds (first lists counts_tail))) refl refl in
+    let three : natural_of line 7 9 ≡ Some (length table.lists) =
+    natural_at (length table.lists) 7 9 few_lists (behind atoms 3 size_atoms
+    (behind bonds 3 size_bonds (first lists counts_tail))) refl refl in
     let flag : field_of line 13 15 ≡ Some (pos 0) = ap field_in (literal_at 4 6 13 15 tail (lit≤ tt) (lit≤ tt) (lit≤ tt) refl refl) ∙ no_flag in
-    let stext : natural_of line 16 18 ≡ Some 0 = ap (λ (cells : List ℕ). field_in cells >>= not_negative) (literal_at 7 9 16 18 tail (lit≤ tt) (lit≤ tt) (lit≤ tt) refl refl) ∙ ap (λ (o : Option ℤ). o >>= not_negative) no_stext in
+    let stext : natural_of line 16 18 ≡ Some 0 = ap (λ (cells : List ℕ). field_in cells >>= not_negative)
+    (literal_at 7 9 16 18 tail (lit≤ tt) (lit≤ tt) (lit≤ tt) refl refl)
+    ∙ ap (λ (o : Option ℤ). o >>= not_negative) no_stext in
     let word : word_of line 34 39 ≡ codes "V2000" = ap trimmed (literal_at 25 30 34 39 tail (lit≤ tt) (lit≤ tt) (lit≤ tt) refl refl) ∙ version in
     let says : is_v2000_or_none line ≡ true = rw word refl in
     let some : eqb (length (word_of line 1 3)) 0 ≡ false =
@@ -134,13 +138,25 @@ atom_is_read atom fits symbol =
     let read_charge : field_of line 37 39 ≡ Some atom.charge =
     read_at atom.charge 37 39 fits.charge (behind coordinates 31 refl (behind text 3 wide (behind (codes " 0") 2 refl (first charge from_parity)))) refl refl in
     let parity : field_of line 40 42 ≡ Some (pos 0) =
-    ap field_in (text_at 3 40 42 (behind coordinates 31 refl (behind text 3 wide (behind (codes " 0") 2 refl (behind charge 3 wide_charge (first (codes "  0") from_hydrogens))))) refl (lit≤ tt) refl refl) ∙ zero_in_three in
+    ap field_in (text_at 3 40 42 (behind coordinates 31 refl
+    (behind text 3 wide (behind (codes " 0") 2 refl
+    (behind charge 3 wide_charge (first (codes "  0") from_hydrogens))))) refl (lit≤ tt) refl refl) ∙ zero_in_three
+    in
     let read_hydrogens : field_of line 43 45 ≡ Some atom.hydrogens =
-    read_at atom.hydrogens 43 45 fits.hydrogens (behind coordinates 31 refl (behind text 3 wide (behind (codes " 0") 2 refl (behind charge 3 wide_charge (behind (codes "  0") 3 refl (first hydrogens from_care)))))) refl refl in
+    read_at atom.hydrogens 43 45 fits.hydrogens (behind coordinates 31 refl
+    (behind text 3 wide (behind (codes " 0") 2 refl
+    (behind charge 3 wide_charge (behind (codes "  0") 3 refl (first hydrogens from_care)))))) refl refl in
     let care : field_of line 46 48 ≡ Some (pos 0) =
-    ap field_in (text_at 3 46 48 (behind coordinates 31 refl (behind text 3 wide (behind (codes " 0") 2 refl (behind charge 3 wide_charge (behind (codes "  0") 3 refl (behind hydrogens 3 wide_hydrogens (first (codes "  0") from_valence))))))) refl (lit≤ tt) refl refl) ∙ zero_in_three in
+    ap field_in (text_at 3 46 48 (behind coordinates 31 refl
+    (behind text 3 wide (behind (codes " 0") 2 refl
+    (behind charge 3 wide_charge (behind (codes "  0") 3 refl
+    (behind hydrogens 3 wide_hydrogens (first (codes "  0") from_valence))))))) refl (lit≤ tt) refl refl)
+    ∙ zero_in_three in
     let read_valence : field_of line 49 51 ≡ Some atom.valence =
-    read_at atom.valence 49 51 fits.valence (behind coordinates 31 refl (behind text 3 wide (behind (codes " 0") 2 refl (behind charge 3 wide_charge (behind (codes "  0") 3 refl (behind hydrogens 3 wide_hydrogens (behind (codes "  0") 3 refl (alone valence)))))))) refl refl in
+    read_at atom.valence 49 51 fits.valence (behind coordinates 31 refl
+    (behind text 3 wide (behind (codes " 0") 2 refl
+    (behind charge 3 wide_charge (behind (codes "  0") 3 refl
+    (behind hydrogens 3 wide_hydrogens (behind (codes "  0") 3 refl (alone valence)))))))) refl refl in
     let read : raw_atom_of line ≡ Some atom = rw (mass, read_charge, parity, read_hydrogens, care, read_valence, word) refl in
     read
 
@@ -238,7 +254,9 @@ list_is_read list fits =
     flag_is_read line list.not (text_at 1 5 5 (behind atom 3 wide_atom (behind (codes " ") 1 refl (first flag from_gap))) wide_flag (lit≤ tt) refl refl) in
     let digit : columns line 10 10 ≡ decimal n =
     text_at 1 10 10 (behind atom 3 wide_atom (behind (codes " ") 1 refl (behind flag 1 wide_flag (behind (codes "    ") 4 refl (first (decimal n) entries))))) wide_count (lit≤ tt) refl refl in
-    let count : list_count_of line ≡ Some n = ap (λ (cells : List ℕ). field_in cells >>= count_in 5) digit ∙ ap (λ (o : Option ℤ). o >>= count_in 5) (digit_is_read n small) ∙ count_passes 5 n fits.count.some fits.count.no_more in
+    let count : list_count_of line ≡ Some n = ap (λ (cells : List ℕ). field_in cells >>= count_in 5) digit
+    ∙ ap (λ (o : Option ℤ). o >>= count_in 5) (digit_is_read n small)
+    ∙ count_passes 5 n fits.count.some fits.count.no_more in
     let stand : StandsBehind line 10 entries =
     behind atom 3 wide_atom (behind (codes " ") 1 refl (behind flag 1 wide_flag (behind (codes "    ") 4 refl (behind (decimal n) 1 wide_count (alone entries))))) in
     let wide_each : AllByRecursion (λ (z : ℤ). length (spaced z) ≡ 4) list.numbers = each_of FitsThree (λ (z : ℤ). length (spaced z) ≡ 4) length-spaced list.numbers fits.numbers in
@@ -248,6 +266,8 @@ list_is_read list fits =
     let stands : StandsBehind (flat_map spaced list.numbers) (4 * i) (spaced z) = entry_at 4 spaced list.numbers wide_each i z is in
     spaced_read_at z (12 + 4 * i) (14 + 4 * i) fit (within (4 * i) stand stands) (omega arith) (omega arith) in
     let numbers : entries_of (λ i. field_of line (12 + 4 * i) (14 + 4 * i)) n 0 ≡ Some list.numbers =
-    entries_are_read (λ i. field_of line (12 + 4 * i) (14 + 4 * i)) 0 list.numbers (λ k z is. let there : 0 + k ≡ k = omega arith in ap (λ (i : ℕ). field_of line (12 + 4 * i) (14 + 4 * i)) there ∙ each k z is) in
+    entries_are_read (λ i. field_of line (12 + 4 * i) (14 + 4 * i)) 0 list.numbers
+    (λ k z is. let there : 0 + k ≡ k = omega arith in ap (λ (i : ℕ). field_of line (12 + 4 * i) (14 + 4 * i)) there
+    ∙ each k z is) in
     let read : list_of line ≡ Some list = rw (read_atom, read_flag, count, numbers) refl in
     read

@@ -75,7 +75,9 @@ wide_list_is_read list fits good =
       atom = spaced_at list.atom 7 fits.atom (behind word 6 refl (first atom from_count)) refl;
       space_before = text_at 1 14 14 (behind word 6 refl (behind atom 4 wide_atom (behind count 3 wide_count (first (codes " ") from_flag)))) refl (lit≤ tt) refl refl;
       flag = text_at 1 15 15 (behind word 6 refl (behind atom 4 wide_atom (behind count 3 wide_count (behind (codes " ") 1 refl (first flag from_gap))))) wide_flag (lit≤ tt) refl refl;
-      space_after = text_at 1 16 16 (behind word 6 refl (behind atom 4 wide_atom (behind count 3 wide_count (behind (codes " ") 1 refl (behind flag 1 wide_flag (first (codes " ") entries)))))) refl (lit≤ tt) refl refl;
+      space_after = text_at 1 16 16 (behind word 6 refl
+          (behind atom 4 wide_atom (behind count 3 wide_count
+          (behind (codes " ") 1 refl (behind flag 1 wide_flag (first (codes " ") entries)))))) refl (lit≤ tt) refl refl;
       symbols = record {
         some = fits.count.some;
         no_more = fits.count.no_more;
@@ -179,7 +181,9 @@ range_left logic fits range =
           let short : length (trimmed line) ≤ 22 = omega (arith, length-trimmed line, ap length (sym whole), length-append before logic.range, ap length none) in
           drop_all 22 (trimmed line) short ∙ sym none
       | Last front last is ↦
-          let kept : trimmed line ≡ before ++ logic.range = trimmed_ended line (before ++ logic.range) (sym whole) (end_behind before logic.range (last_ends logic.range front last is range.no_blank range.no_cr)) refl in
+          let kept : trimmed line ≡ before ++ logic.range =
+          trimmed_ended line (before ++ logic.range) (sym whole)
+          (end_behind before logic.range (last_ends logic.range front last is range.no_blank range.no_cr)) refl in
           ap (drop 22) kept ∙ drop_at before logic.range 22 size
     ]
 

@@ -43,7 +43,12 @@ module _ (lines : List Line) (at : ℕ) (lt : at < length lines) where
   block_kept : (p : Property) → property_of here ≡ Some p → IsKept p → TakesLines lines (at + 1) (Some p) (block.read (drop at lines))
   block_kept p is kept =
       let one = line_yes (λ _. false) property_before_end lines at [] p lt (rw is (before_kept p kept)) in
-      record { within = one.within; took = takes_first lines (at + 1) p (read_line (λ _. false) property_before_end (drop at lines)) (λ q. (after_property q).read) one ∙ nothing_read p kept (drop (at + 1) lines) }
+      record {
+        within = one.within;
+        took = takes_first lines (at + 1) p
+            (read_line (λ _. false) property_before_end (drop at lines)) (λ q. (after_property q).read) one
+            ∙ nothing_read p kept (drop (at + 1) lines);
+      }
 
   -- a line that is passed over
   line_passed : (n : ℕ) → property_of here ≡ Some (kinds.Passed n) → TakesLines lines (at + 1) (kinds.Passed n) (read_line (λ _. false) property_before_end (drop at lines))
@@ -52,15 +57,25 @@ module _ (lines : List Line) (at : ℕ) (lt : at < length lines) where
   -- with the lines after it
   block_passed : (n next : ℕ) → property_of here ≡ Some (kinds.Passed n) → TakesLines lines next tt ((any_lines n).read (drop (at + 1) lines)) → TakesLines lines next None (block.read (drop at lines))
   block_passed n next is takes =
-      record { within = takes.within; took = takes_first lines (at + 1) (kinds.Passed n) (read_line (λ _. false) property_before_end (drop at lines)) (λ q. (after_property q).read) (line_passed n is) ∙ ap (λ (r : Reading Line (Unit {0})). let w : Reading Line (Option Property) = and_then r (λ _. Took None) in w) takes.took }
+      record {
+        within = takes.within;
+        took = takes_first lines (at + 1) (kinds.Passed n)
+            (read_line (λ _. false) property_before_end (drop at lines)) (λ q. (after_property q).read) (line_passed n is)
+            ∙ ap (λ (r : Reading Line (Unit {0})). let w : Reading Line (Option Property) = and_then r (λ _. Took None)
+            in w) takes.took;
+      }
 
   -- or without them
   block_cut : (n : ℕ) (e : TableFault) → property_of here ≡ Some (kinds.Passed n) → Fails lines e ((any_lines n).read (drop (at + 1) lines)) → Fails lines e (block.read (drop at lines))
-  block_cut n e is h = fails_second lines e (at + 1) (kinds.Passed n) (read_line (λ _. false) property_before_end (drop at lines)) (λ q. (after_property q).read) (line_passed n is) (fails_first lines e ((any_lines n).read (drop (at + 1) lines)) (λ _. Took None) h)
+  block_cut n e is h = fails_second lines e (at + 1) (kinds.Passed n)
+      (read_line (λ _. false) property_before_end (drop at lines)) (λ q. (after_property q).read) (line_passed n is)
+      (fails_first lines e ((any_lines n).read (drop (at + 1) lines)) (λ _. Took None) h)
 
   -- a line that is no property
   block_bad : property_of here ≡ None → StopsAtLine lines false (at + 1) (block.read (drop at lines))
-  block_bad none = stops_first lines false (at + 1) (read_line (λ _. false) property_before_end (drop at lines)) (λ q. (after_property q).read) (line_no (λ _. false) property_before_end lines at [] false lt (none_before (property_of here) here none) refl)
+  block_bad none = stops_first lines false (at + 1) (read_line (λ _. false) property_before_end (drop at lines))
+      (λ q. (after_property q).read) (line_no (λ _. false) property_before_end lines at [] false lt
+      (none_before (property_of here) here none) refl)
 
 -- the values of blocks and one more
 values_push : (blocks : List (Option Property)) (x : Option Property) → values_of (blocks ++ x ∷ []) ≡ values_of blocks ++ values_of (x ∷ [])
@@ -87,7 +102,8 @@ module _ (lines : List Line) (from : ℕ) where
   module _ (props : List Property) (at : ℕ) (so_far : PropertiesLeft lines from props at) where
     -- no line is left
     pub properties_past : at ≡ length lines → StopsAtLine lines false (at + 1) (properties_part.read (drop from lines))
-    properties_past last = stops_first lines false (at + 1) (blocks_part.read (drop from lines)) (λ v. Took (kept_in v)) (until_left_past exact-block exact-end shows-block shows-end lines from so_far.blocks at last so_far.left)
+    properties_past last = stops_first lines false (at + 1) (blocks_part.read (drop from lines)) (λ v. Took (kept_in v))
+        (until_left_past exact-block exact-end shows-block shows-end lines from so_far.blocks at last so_far.left)
 
     module _ (lt : at < length lines) where
       -- a property that is kept
@@ -101,7 +117,8 @@ module _ (lines : List Line) (from : ℕ) where
           }
 
       -- a line that is passed over
-      pub properties_passed : (n next : ℕ) → property_of (get_or lines at []) ≡ Some (kinds.Passed n) → TakesLines lines next tt ((any_lines n).read (drop (at + 1) lines)) → PropertiesLeft lines from props next
+      pub properties_passed : (n next : ℕ) → property_of (get_or lines at []) ≡ Some (kinds.Passed n)
+          → TakesLines lines next tt ((any_lines n).read (drop (at + 1) lines)) → PropertiesLeft lines from props next
       properties_passed n next is takes =
           let goes : is_end_line (get_or lines at []) ≡ false = rw is refl in
           record {
@@ -118,19 +135,26 @@ module _ (lines : List Line) (from : ℕ) where
           let blocks = until_left_end exact-block exact-end shows-block shows-end lines from so_far.blocks at (at + 1) [] tt lt ends so_far.left last in
           record {
             within = blocks.within;
-            took = takes_first lines (at + 1) (so_far.blocks, tt) (blocks_part.read (drop from lines)) (λ v. Took (kept_in v)) blocks ∙ ap (λ (ps : List Property). Took ps (drop (at + 1) lines)) (sym so_far.kept);
+            took = takes_first lines (at + 1) (so_far.blocks, tt) (blocks_part.read (drop from lines))
+                (λ v. Took (kept_in v)) blocks ∙ ap (λ (ps : List Property). Took ps (drop (at + 1) lines))
+                (sym so_far.kept);
           }
 
       -- a block that fails
       properties_stop : (e : TableFault) → is_end_line (get_or lines at []) ≡ false → Fails lines e (block.read (drop at lines)) → Fails lines e (properties_part.read (drop from lines))
-      properties_stop e goes h = fails_first lines e (blocks_part.read (drop from lines)) (λ v. Took (kept_in v)) (until_fails exact-block exact-end shows-block shows-end lines from so_far.blocks at [] e lt goes so_far.left h)
+      properties_stop e goes h = fails_first lines e (blocks_part.read (drop from lines)) (λ v. Took (kept_in v))
+          (until_fails exact-block exact-end shows-block shows-end lines from so_far.blocks at [] e lt goes so_far.left
+          h)
 
       -- a line that is passed over, and not the lines after it
-      pub properties_cut : (n : ℕ) (e : TableFault) → property_of (get_or lines at []) ≡ Some (kinds.Passed n) → Fails lines e ((any_lines n).read (drop (at + 1) lines)) → Fails lines e (properties_part.read (drop from lines))
+      pub properties_cut : (n : ℕ) (e : TableFault) → property_of (get_or lines at []) ≡ Some (kinds.Passed n)
+          → Fails lines e ((any_lines n).read (drop (at + 1) lines))
+          → Fails lines e (properties_part.read (drop from lines))
       properties_cut n e is h = properties_stop e (rw is refl) (block_cut lines at lt n e is h)
 
       -- a line that is no property
       pub properties_fail : (e : TableFault) → AnswersProperty at (Err e) (property_of (get_or lines at [])) → Fails lines e (properties_part.read (drop from lines))
-      properties_fail (Bad k) h = subst (λ (n : ℕ). StopsAtLine lines false n (properties_part.read (drop from lines))) (sym h.0) (properties_stop (Bad (at + 1)) (rw h.1 refl) (block_bad lines at lt h.1))
+      properties_fail (Bad k) h = subst (λ (n : ℕ). StopsAtLine lines false n (properties_part.read (drop from lines)))
+          (sym h.0) (properties_stop (Bad (at + 1)) (rw h.1 refl) (block_bad lines at lt h.1))
       properties_fail (V3000 k) h = absurd h
       properties_fail Memory h = tt

@@ -9,7 +9,7 @@ use Rattle.mk_ctab.specs.declared.fault.TableFault.{TableFault}
 use Rattle.mk_ctab.specs.declared.raw.RawAtom.{RawAtom}
 use Rattle.mk_ctab.specs.declared.raw.RawBond.{RawBond}
 use Rattle.mk_ctab.specs.declared.raw.RawList.{RawList}
-use Rattle.mk_ctab.specs.declared.table_lines.Counts.{Counts}
+use Rattle.mk_ctab.specs.declared.table_lines.CountsLine.{CountsLine}
 use Rattle.mk_ctab.specs.TableLines.{Line, is_v3000, counts_of, raw_atom_of, raw_bond_of, list_of}
 use Rattle.mk_ctab.specs.TableReading.{Fails, properties_part, table_with, after_stext, after_lists, after_bonds, after_atoms, after_counts, table_part, table_at}
 use Rattle.mk_ctab.proofs.FaultLemmas.{fails_first, block_read}
@@ -20,7 +20,7 @@ unfolding table_at
 whole_left lines = refl
 
 -- the blocks of a table, from the line of index `at` on
-module _ (lines : List Line) (at : ℕ) {first : ℕ} (n : Counts) (counted : TakesLines lines first n ((counts_line is_v3000 counts_of).read (drop at lines))) where
+module _ (lines : List Line) (at : ℕ) {first : ℕ} (n : CountsLine) (counted : TakesLines lines first n ((counts_line is_v3000 counts_of).read (drop at lines))) where
   abbrev from : List Line
   from = drop at lines
 
@@ -53,5 +53,12 @@ module _ (lines : List Line) (at : ℕ) {first : ℕ} (n : Counts) (counted : Ta
           properties_fail_table e h = subst (Fails lines e) (sym properties_left) (fails_first lines e (properties_part.read (drop l lines)) (λ props. Took (table_with atoms bonds lists props)) h)
 
           -- where they are read, the table is
-          pub table_read : (props : List Property) (next : ℕ) → TakesLines lines next props (properties_part.read (drop l lines)) → TakesLines lines next (table_with atoms bonds lists props) (table_at from)
-          table_read props next h = record { within = h.within; took = properties_left ∙ takes_first lines next props (properties_part.read (drop l lines)) (λ props. Took (table_with atoms bonds lists props)) h }
+          pub table_read : (props : List Property) (next : ℕ)
+              → TakesLines lines next props (properties_part.read (drop l lines))
+              → TakesLines lines next (table_with atoms bonds lists props) (table_at from)
+          table_read props next h = record {
+            within = h.within;
+            took = properties_left
+                ∙ takes_first lines next props (properties_part.read (drop l lines))
+                (λ props. Took (table_with atoms bonds lists props)) h;
+          }

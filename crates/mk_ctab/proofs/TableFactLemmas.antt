@@ -19,7 +19,7 @@ use Rattle.mk_text.specs.Options.{◌>>=◌, count_in, not_negative, entries_of}
 use Rattle.mk_ctab.specs.declared.fault.TableFault.{TableFault}
 use Rattle.mk_ctab.specs.declared.raw.RawList.{RawList}
 use Rattle.mk_ctab.specs.declared.raw.RawTable.{RawTable}
-use Rattle.mk_ctab.specs.declared.table_lines.Counts.{Counts}
+use Rattle.mk_ctab.specs.declared.table_lines.CountsLine.{CountsLine}
 use Rattle.mk_ctab.specs.Table.{IsKept, IsBlock, values_of, IsTable}
 use Rattle.mk_ctab.specs.TableFacts.{HasSymbols, IsRawTable}
 use Rattle.mk_ctab.specs.TableLaws.{IsTableFrom}
@@ -45,7 +45,8 @@ field_small line a b n few (inl blank) = let same : n ≡ 0 = (let e = blank.1 i
 field_small line a b n few (inr field) =
     let ds = field.digits in
     let size : length (columns line a b) ≡ length field.before + (length (sign_text field.sign ++ ds) + length field.after) =
-    ap length field.whole ∙ length-append field.before ((sign_text field.sign ++ ds) ++ field.after) ∙ ap (λ (k : ℕ). length field.before + k) (length-append (sign_text field.sign ++ ds) field.after) in
+    ap length field.whole ∙ length-append field.before ((sign_text field.sign ++ ds) ++ field.after)
+    ∙ ap (λ (k : ℕ). length field.before + k) (length-append (sign_text field.sign ++ ds) field.after) in
     let short : length ds ≤ 3 = omega (arith, three_columns line a b few, length-append (sign_text field.sign) ds) in
     let value = digits_value-lt 10 ds (all_digits ds field.are_digits) in
     let power : 10 ^ length ds ≤ 10 ^ 3 = pow-le-pow_right {n = 10} (omega arith) short in
@@ -65,13 +66,13 @@ natural_small line a b n few read =
     field_small line a b n few (field_found line a b (pos n) (field.1 ∙ ap Some (not_negative_is field.0 n field.2)))
 
 -- the counts are at most 999
-record AreFew (n : Counts) : Type 0 where
+record AreFew (n : CountsLine) : Type 0 where
   atoms : n.atoms ≤ 999
   bonds : n.bonds ≤ 999
   lists : n.lists ≤ 999
 
 -- of every counts line
-counts_few : (line : Line) (n : Counts) → counts_of line ≡ Some n → AreFew n
+counts_few : (line : Line) (n : CountsLine) → counts_of line ≡ Some n → AreFew n
 unfolding counts_of
 counts_few line n read =
     let inside = test_passed (not (eqb (length (word_of line 1 3)) 0) && is_v2000_or_none line) _ n read in
@@ -80,7 +81,7 @@ counts_few line n read =
     let l = both_read (natural_of line 7 9) _ n b.2 in
     let f = both_read (field_of line 13 15) _ n l.2 in
     let s = both_read (natural_of line 16 18) _ n f.2 in
-    let made : Counts = record { atoms = a.0; bonds = b.0; lists = l.0; stext = s.0 } in
+    let made : CountsLine = record { atoms = a.0; bonds = b.0; lists = l.0; stext = s.0 } in
     let same : made ≡ n = cc in
     subst AreFew same (record {
       atoms = natural_small line 1 3 a.0 (omega arith) a.1;
@@ -151,7 +152,8 @@ all_spelled says P each lines [] h = All-nil P
 all_spelled says P each lines (v ∷ vs) h = all_cons P v vs (each h.3.line v h.3.spells) (all_spelled says P each h.1 vs h.4)
 
 -- what each block keeps
-all_kept : (P : Property → Type 0) → ((l : Line) (p : Property) → IsProperty l p → IsKept p → P p) → (lines : List Line) (blocks : List (Option Property)) → Series IsBlock lines blocks → All P (values_of blocks)
+all_kept : (P : Property → Type 0) → ((l : Line) (p : Property) → IsProperty l p → IsKept p → P p)
+    → (lines : List Line) (blocks : List (Option Property)) → Series IsBlock lines blocks → All P (values_of blocks)
 all_kept P each lines [] h = All-nil P
 all_kept P each lines (Some p ∷ blocks) h = all_cons P p (values_of blocks) (each h.3.line p h.3.is h.3.kept) (all_kept P each h.1 blocks h.4)
 all_kept P each lines (None ∷ blocks) h = all_kept P each h.1 blocks h.4
@@ -194,7 +196,17 @@ few_properties lines t table =
     let lists = table.list_lines ++ stext in
     let bonds = table.bond_lines ++ lists in
     let kept = few_kept table.property_lines properties.blocks properties.each in
-    omega (arith, kept, ap length properties.kept, ap length table.whole, length-append table.atom_lines bonds, length-append table.bond_lines lists, length-append table.list_lines stext, length-append table.stext_lines end, length-append table.property_lines (table.last_line ∷ []))
+    omega (
+      arith,
+      kept,
+      ap length properties.kept,
+      ap length table.whole,
+      length-append table.atom_lines bonds,
+      length-append table.bond_lines lists,
+      length-append table.list_lines stext,
+      length-append table.stext_lines end,
+      length-append table.property_lines (table.last_line ∷ []),
+    )
 
 -- by what was answered: what was read keeps all of it
 pub keeps_by : (lines : List Line) (at : ℕ) (answer : Result (RawTable × ℕ) TableFault) → IfOk answer (λ r. IsTableFrom at lines r.1 r.0) → IfOk answer (λ r. IsRawTable r.0)

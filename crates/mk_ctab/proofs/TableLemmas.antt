@@ -15,7 +15,7 @@ use Rattle.mk_text.specs.Fields.{field_of, digits_number}
 use Rattle.mk_text.specs.Options.{when}
 use Rattle.mk_ctab.specs.declared.raw.RawAtom.{RawAtom}
 use Rattle.mk_ctab.specs.declared.raw.RawTable.{RawTable}
-use Rattle.mk_ctab.specs.declared.table_lines.Counts.{Counts}
+use Rattle.mk_ctab.specs.declared.table_lines.CountsLine.{CountsLine}
 use Rattle.mk_ctab.specs.TableLines.{Line, word_of, natural_of, is_v3000, is_v2000_or_none, counts_of, atom_numbers_of, raw_atom_of, raw_bond_of, list_flag_of, list_count_of, list_numbers_of, list_of}
 use Rattle.mk_ctab.specs.Table.{IsTable}
 use Rattle.mk_ctab.specs.TableLaws.{table_form}
@@ -52,7 +52,7 @@ exact-table_part =
     exact-seen_as (table_with atoms bonds lists) exact-properties)))))
 
 -- behind the counts line no line is named
-never-after_counts : (n : Counts) → NeverDue (after_counts n)
+never-after_counts : (n : CountsLine) → NeverDue (after_counts n)
 never-after_counts n =
     never-sequence (never-rows n.atoms (never-line raw_atom_of)) (λ atoms.
     never-sequence (never-rows n.bonds (never-line raw_bond_of)) (λ bonds.
@@ -61,7 +61,7 @@ never-after_counts n =
     never-seen_as (table_with atoms bonds lists) never-properties))))
 
 -- a counts line, an atom line, a bond line and an atom-list line that read
-abbrev no_counts : Counts
+abbrev no_counts : CountsLine
 no_counts = record { atoms = 0; bonds = 0; lists = 0; stext = 0 }
 
 abbrev one_atom : RawAtom
@@ -96,7 +96,7 @@ completes-table_part =
 -- ---- in the words of the definition
 
 -- counts by their numbers
-counts_are : (n : Counts) (a b l : ℕ) → a ≡ n.atoms → b ≡ n.bonds → l ≡ n.lists → (let m : Counts = record { atoms = a; bonds = b; lists = l; stext = n.stext } in m) ≡ n
+counts_are : (n : CountsLine) (a b l : ℕ) → a ≡ n.atoms → b ≡ n.bonds → l ≡ n.lists → (let m : CountsLine = record { atoms = a; bonds = b; lists = l; stext = n.stext } in m) ≡ n
 counts_are n a b l e f g = rw (e, f, g) refl
 
 -- what the parts make up is a table

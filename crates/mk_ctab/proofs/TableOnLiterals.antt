@@ -14,7 +14,10 @@ unfolding table_at counts_of natural_of field_of digits_number columns property_
 empty_table = refl
 
 -- an atom and a bond, and two lines that are passed over, one of which looks like the end
-one_atom : table_at (codes "  1  1" ∷ codes "                               Cl   3" ∷ codes "  1  1  2" ∷ codes "A" ∷ codes "M  END" ∷ codes "M  END" ∷ []) ≡ Took (table_with (record { symbol = codes "Cl"; charge = pos 3; hydrogens = pos 0; valence = pos 0 } ∷ []) (record { first = pos 1; second = pos 1; kind = pos 2; topology = pos 0 } ∷ []) [] []) []
+one_atom : table_at (codes "  1  1" ∷ codes "                               Cl   3" ∷ codes "  1  1  2" ∷ codes
+    "A" ∷ codes "M  END" ∷ codes "M  END" ∷ []) ≡ Took (table_with
+    (record { symbol = codes "Cl"; charge = pos 3; hydrogens = pos 0; valence = pos 0 } ∷ [])
+    (record { first = pos 1; second = pos 1; kind = pos 2; topology = pos 0 } ∷ []) [] []) []
 unfolding table_at counts_of natural_of raw_atom_of atom_numbers_of raw_bond_of field_of digits_number columns property_of letter_line_of m_line_of cell_of
 one_atom = refl
 

@@ -60,7 +60,9 @@ atom_whole atom fits symbol =
       no_lf = no_lf_both coordinates (at_left 3 atom.symbol ++ charge) refl no_lf_symbol;
       end = end_behind coordinates (at_left 3 atom.symbol ++ charge) (end_behind (at_left 3 atom.symbol) charge
           (end_behind (codes " 0") (three atom.charge ++ hydrogens) (end_behind (three atom.charge) hydrogens
-          (end_behind (codes "  0") (three atom.hydrogens ++ valence) (end_behind (three atom.hydrogens) valence (end_behind (codes "  0") (three atom.valence) (three_end atom.valence fits.valence)))))));
+          (end_behind (codes "  0") (three atom.hydrogens ++ valence)
+          (end_behind (three atom.hydrogens) valence
+          (end_behind (codes "  0") (three atom.valence) (three_end atom.valence fits.valence)))))));
     }
 
 -- a bond line
@@ -174,7 +176,9 @@ wide_symbols_whole list fits good =
     let entries : List ℕ = flat_map (at_left 4) list.symbols in
     let flag : List ℕ = flag_text list.not ++ (codes " " ++ entries) in
     let count : List ℕ = count_text list.symbols ++ (codes " " ++ flag) in
-    let no_lf_entries : HasNoLf entries = no_lf_each (at_left 4) list.symbols (each_of (IsSymbol 4) (λ (symbol : List ℕ). HasNoLf (at_left 4 symbol)) (λ symbol is. no_lf_left 4 symbol is.no_lf) list.symbols good) in
+    let no_lf_entries : HasNoLf entries = no_lf_each (at_left 4) list.symbols
+    (each_of (IsSymbol 4) (λ (symbol : List ℕ). HasNoLf (at_left 4 symbol))
+    (λ symbol is. no_lf_left 4 symbol is.no_lf) list.symbols good) in
     let no_lf_letter : HasNoLf flag = no_lf_both (flag_text list.not) (codes " " ++ entries) (no_lf_flag list.not) no_lf_entries in
     let no_lf_number : HasNoLf count = no_lf_both (count_text list.symbols) (codes " " ++ flag) (no_lf_count list.symbols (omega (arith, fits.count.no_more))) no_lf_letter in
     no_lf_both (codes "M  ALS") (spaced list.atom ++ count) refl (no_lf_both (spaced list.atom) count (no_lf_three list.atom fits.atom) no_lf_number)

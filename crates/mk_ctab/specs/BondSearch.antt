@@ -7,12 +7,12 @@ use Rattle.std.specs.Prelude.{◌≡◌, ◌<◌, ◌-◌, ℕ, List, length, sl
 use Rattle.mk_model.specs.declared.edge.Edge.{Edge}
 use Rattle.mk_model.specs.Edges.{HasEnds, IsBetween}
 use Rattle.mk_ctab.specs.declared.raw.RawBond.{RawBond}
-use Rattle.mk_ctab.specs.Bonds.{HasTwoEnds, edge_of}
+use Rattle.mk_ctab.specs.Bonds.{HasTwoEnds, raw_edge}
 
 -- the edge of a bond whose ends are two atoms
 pub record IsEdge (atoms : ℕ) (bond : RawBond) (edge : Edge) : Type 0 where
   pub ends : HasTwoEnds atoms bond
-  pub is : edge ≡ edge_of bond
+  pub is : edge ≡ raw_edge bond
   pub between : IsBetween atoms edge
 
 -- no edge before the one at place b joins the same atoms
@@ -29,4 +29,6 @@ pub record HasEarlier (edges : List Edge) (b : ℕ) : Type 0 where
 -- none of the edges of these numbers that stand before place b joins the same atoms
 abbrev pub IsNewAmong : List Edge → List ℕ → ℕ → Type 0
 IsNewAmong edges numbers b =
-    (i : ℕ) (d : Edge) → i < length numbers → slice_index numbers i - 1 < b → ¬ (HasEnds (slice_index_or edges (slice_index numbers i - 1) d) (slice_index_or edges b d).first (slice_index_or edges b d).second)
+    (i : ℕ) (d : Edge) → i < length numbers → slice_index numbers i - 1 < b
+    → ¬ (HasEnds (slice_index_or edges (slice_index numbers i - 1) d) (slice_index_or edges b d).first
+    (slice_index_or edges b d).second)

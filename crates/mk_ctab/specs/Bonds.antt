@@ -41,12 +41,12 @@ HasFewBonds atoms edges item = 1 ≤ item → item ≤ atoms → degree edges it
 
 -- The bond as the definitions of graphs see it. A number below 0 is 0 there, and so is a type above
 -- 255: no atom and no type that passes has it.
-abbrev pub edge_of : RawBond → Edge
-edge_of bond = record { first = natural bond.first; second = natural bond.second; kind = byte bond.kind }
+abbrev pub raw_edge : RawBond → Edge
+raw_edge bond = record { first = natural bond.first; second = natural bond.second; kind = byte bond.kind }
 
 -- the bonds as the definitions of graphs see them
 abbrev pub edges_of : List RawBond → List Edge
-edges_of bonds = map edge_of bonds
+edges_of bonds = map raw_edge bonds
 
 -- the edges of the bonds before the first whose ends aren't two atoms
 pub record IsEdgeFront (atoms : ℕ) (bonds : List RawBond) (edges : List Edge) : Type 0 where

@@ -13,7 +13,7 @@ use Rattle.mk_text.specs.Options.{◌>>=◌, when, count_in, not_negative, entri
 use Rattle.mk_ctab.specs.declared.raw.RawAtom.{RawAtom}
 use Rattle.mk_ctab.specs.declared.raw.RawBond.{RawBond}
 use Rattle.mk_ctab.specs.declared.raw.RawList.{RawList}
-use Rattle.mk_ctab.specs.declared.table_lines.Counts.{Counts}
+use Rattle.mk_ctab.specs.declared.table_lines.CountsLine.{CountsLine}
 use Rattle.mk_ctab.specs.declared.table_lines.AtomNumbers.{AtomNumbers}
 
 -- a line is its bytes
@@ -40,7 +40,7 @@ is_v2000_or_none line = (length (word_of line 34 39) == 0) || bytes_eq (word_of 
 
 -- 1-3 atoms, not all blank, 4-6 bonds, 7-9 atom lists, 13-15 chiral flag, 16-18 stext entries,
 -- 34-39 the version; only the flag may be negative
-unfoldable pub counts_of : Line → Option Counts
+unfoldable pub counts_of : Line → Option CountsLine
 counts_of line =
     when (not (length (word_of line 1 3) == 0) && is_v2000_or_none line)
     (natural_of line 1 3 >>= λ atoms.

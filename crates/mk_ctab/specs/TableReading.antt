@@ -24,7 +24,7 @@ use Rattle.mk_ctab.specs.declared.raw.RawAtom.{RawAtom}
 use Rattle.mk_ctab.specs.declared.raw.RawBond.{RawBond}
 use Rattle.mk_ctab.specs.declared.raw.RawList.{RawList}
 use Rattle.mk_ctab.specs.declared.raw.RawTable.{RawTable}
-use Rattle.mk_ctab.specs.declared.table_lines.Counts.{Counts}
+use Rattle.mk_ctab.specs.declared.table_lines.CountsLine.{CountsLine}
 use Rattle.mk_ctab.specs.TableLines.{Line, is_v3000, counts_of, raw_atom_of, raw_bond_of, list_of}
 use Rattle.mk_ctab.specs.Table.{values_of}
 
@@ -86,19 +86,19 @@ abbrev pub after_stext : List RawAtom → List RawBond → List RawList → Part
 after_stext atoms bonds lists = seen_as (table_with atoms bonds lists) properties_part
 
 -- the stext entries, of two lines each, and the property lines
-abbrev pub after_lists : Counts → List RawAtom → List RawBond → List RawList → Part Line RawTable
+abbrev pub after_lists : CountsLine → List RawAtom → List RawBond → List RawList → Part Line RawTable
 after_lists n atoms bonds lists = sequence (any_lines (2 * n.stext)) (λ _. after_stext atoms bonds lists)
 
 -- the atom-list lines and all behind them
-abbrev pub after_bonds : Counts → List RawAtom → List RawBond → Part Line RawTable
+abbrev pub after_bonds : CountsLine → List RawAtom → List RawBond → Part Line RawTable
 after_bonds n atoms bonds = sequence (rows n.lists (line list_of)) (after_lists n atoms bonds)
 
 -- the bond lines and all behind them
-abbrev pub after_atoms : Counts → List RawAtom → Part Line RawTable
+abbrev pub after_atoms : CountsLine → List RawAtom → Part Line RawTable
 after_atoms n atoms = sequence (rows n.bonds (line raw_bond_of)) (after_bonds n atoms)
 
 -- the atom lines and all behind them
-abbrev pub after_counts : Counts → Part Line RawTable
+abbrev pub after_counts : CountsLine → Part Line RawTable
 after_counts n = sequence (rows n.atoms (line raw_atom_of)) (after_atoms n)
 
 -- a table from its counts line to `M  END`

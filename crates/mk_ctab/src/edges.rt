@@ -1,7 +1,7 @@
 // Bonds as edges, as far as their ends are atoms.
 ghost use Rattle.std.specs.Prelude.{◌≡◌, ◌≢◌, ◌↔◌, IfOk, IsTrue, MatchOption};
 ghost use Rattle.mk_model.specs.Edges.{IsBetween};
-ghost use Rattle.mk_ctab.specs.Bonds.{edge_of, HasTwoEnds, IsEdgeFront};
+ghost use Rattle.mk_ctab.specs.Bonds.{raw_edge, HasTwoEnds, IsEdgeFront};
 ghost use Rattle.mk_ctab.specs.BondSearch.{IsEdge};
 ghost use Rattle.mk_ctab.specs.Numbers.{IsAtom};
 
@@ -31,7 +31,7 @@ fn edge_between(atoms: u32, bond: RawBond) -> Option<Edge>
     if !has_two_ends(atoms, &bond) {
         return None;
     }
-    Some(edge_of(bond))
+    Some(raw_edge(bond))
 }
 
 /// Whether the ends of the bond are two of so many atoms.
@@ -65,8 +65,8 @@ fn differs(bond: &RawBond) -> bool
     bond.first != bond.second
 }
 
-fn edge_of(bond: RawBond) -> Edge
-    ensures { result ≡ edge_of bond }
+fn raw_edge(bond: RawBond) -> Edge
+    ensures { result ≡ raw_edge bond }
 {
     Edge {
         first: natural(bond.first),

@@ -12,7 +12,7 @@ use std::alloc::Global;
 
 /// The numbers of a counts line.
 #[derive(Clone, Copy)]
-pub struct Counts {
+pub struct CountsLine {
     pub atoms: u32,
     pub bonds: u32,
     pub lists: u32,
@@ -50,7 +50,7 @@ fn has_version(line: &[u8]) -> bool
 // aaabbblll   cccsss               vvvvvv   columns 1-3 atoms, 4-6 bonds, 7-9 atom lists, 13-15
 //                                           chiral flag, 16-18 stext entries, 34-39 the version
 #[tactic(auto, unfolding(crate::specs::TableLines::counts_of))]
-pub fn read_counts(line: &[u8]) -> Option<Counts>
+pub fn read_counts(line: &[u8]) -> Option<CountsLine>
     ensures { result ≡ counts_of line.now }
 {
     if trimmed_column(line, 1, 3).is_empty() || !has_version(line) {
@@ -61,7 +61,7 @@ pub fn read_counts(line: &[u8]) -> Option<Counts>
     let lists = natural(line, 7, 9)?;
     field(line, 13, 15)?;
     let stext = natural(line, 16, 18)?;
-    Some(Counts {
+    Some(CountsLine {
         atoms,
         bonds,
         lists,

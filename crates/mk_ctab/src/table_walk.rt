@@ -13,12 +13,12 @@ ghost use Rattle.mk_ctab.specs.TableWalk.{AnswersAt, AnswersPast};
 use crate::fault::TableFault;
 use crate::raw::{Properties, RawAtom, RawBond, RawList, RawTable};
 use crate::rows::Row;
-use crate::table_lines::{Counts, read_counts, says_v3000};
+use crate::table_lines::{CountsLine, read_counts, says_v3000};
 use mk_props::{LineFault, Property, read_property};
 use mk_text::{LineStart, Listed, line_from};
 use std::alloc::Global;
 
-fn counts_from(text: &[u8], at: LineStart) -> Result<(Counts, LineStart), TableFault>
+fn counts_from(text: &[u8], at: LineStart) -> Result<(CountsLine, LineStart), TableFault>
     requires { IsLineStart text.now at }
     ensures { AnswersAt text.now result ((counts_line is_v3000 counts_of).read (drop at.line (lines_of text.now))) }
 {

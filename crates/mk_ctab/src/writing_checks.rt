@@ -117,7 +117,7 @@ fn is_graphic(text: &[u8]) -> bool
 }
 
 // A symbol of such bytes.
-fn is_symbol(symbol: &[u8], width: usize) -> bool
+fn is_writable_symbol(symbol: &[u8], width: usize) -> bool
     ensures fits { IsTrue result → IsSymbol width symbol.now }
     ensures no_cr { IsTrue result → ¬ (EndsWith 13 symbol.now) }
 {
@@ -131,7 +131,7 @@ fn atom_fits(atom: &RawAtom) -> bool
     fits(atom.charge)
         && fits(atom.hydrogens)
         && fits(atom.valence)
-        && is_symbol(atom.symbol.as_slice(), 3)
+        && is_writable_symbol(atom.symbol.as_slice(), 3)
 }
 
 fn atoms_fit(atoms: &[RawAtom]) -> bool
@@ -151,7 +151,7 @@ fn symbols_fit(symbols: &Symbols) -> bool
     ensures no_cr { IsTrue result → All (λ symbol. ¬ (EndsWith 13 symbol)) symbols.now }
 {
     for i in 0..symbols.count() {
-        if !is_symbol(symbols.symbol(i), 4) {
+        if !is_writable_symbol(symbols.symbol(i), 4) {
             return false;
         }
     }

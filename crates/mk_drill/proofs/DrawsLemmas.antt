@@ -20,7 +20,8 @@ drilled_none first table is = record {
 }
 
 -- one draw more
-pub drilled_more : (first x : ℕ) (table after : RawTable) (state draw next : ℕ) → x < 7 → AreDrilled first x table state → draw ≡ draw_below 8 state → next ≡ next_state state → after ≡ substituted x draw table
+pub drilled_more : (first x : ℕ) (table after : RawTable) (state draw next : ℕ) → x < 7 → AreDrilled first x table state
+    → draw ≡ draw_below 8 state → next ≡ next_state state → after ≡ substituted x draw table
     → AreDrilled first (x + 1) after next
 drilled_more first x table after state draw next below are drilled moved put =
     let left : 7 - x ≡ suc (7 - (x + 1)) = omega arith in

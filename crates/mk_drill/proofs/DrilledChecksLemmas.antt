@@ -10,12 +10,12 @@ use Rattle.mk_text.specs.Items.{OfItem}
 use Rattle.mk_model.specs.Edges.{touches}
 use Rattle.mk_ctab.specs.declared.raw.RawBond.{RawBond}
 use Rattle.mk_ctab.specs.declared.raw.RawTable.{RawTable}
-use Rattle.mk_ctab.specs.Bonds.{HasTwoEnds, edge_of, edges_of}
+use Rattle.mk_ctab.specs.Bonds.{HasTwoEnds, raw_edge, edges_of}
 use Rattle.mk_ctab.specs.Table.{IsKept}
 use Rattle.mk_ctab.specs.TableSpelling.{AtomFits, BondFits, CanBeSpelt, IsSymbol, ListFits, PropertyFits, RangeFits, SymbolsEnd, SymbolsFit}
 use Rattle.mk_ctab.specs.Values.{HasKnownValues, NamesAtoms}
 use Rattle.mk_mol.specs.Checks.{HasKnownType, IsKnownAtom, IsOfMolecules}
-use Rattle.mk_mol.specs.FirstFault.{Check, Passes, PassesAll, few_bonds, known_atoms, known_properties, known_types, known_values, named_atoms, new_bonds}
+use Rattle.mk_mol.specs.FirstFault.{MoleculeCheck, MeetsCheck, MeetsAllChecks, few_bonds, known_atoms, known_properties, known_types, known_values, named_atoms, new_bonds}
 use Rattle.mk_drill.proofs.BondLemmas.{all_between, new_at}
 use Rattle.mk_drill.proofs.DrilledTableLemmas.{IsFit, IsFitAtom, IsFitBond}
 
@@ -58,15 +58,15 @@ can_be_spelt table fit few =
 each_item : {X : Type 0} (P : X → Type 0) (xs : List X) → All P xs → (item : ℕ) → OfItem P xs item
 each_item P xs all item = λ x least at. subst P (get_or_from_slice_get xs (item - 1) x x at) (all (item - 1) x (slice_get_within xs (item - 1) x at))
 
-passes : (table : RawTable) → IsFit table → length table.atoms ≤ 20 → (check : Check) → Passes table check
+passes : (table : RawTable) → IsFit table → length table.atoms ≤ 20 → (check : MoleculeCheck) → MeetsCheck table check
 passes table fit few known_atoms = each_item IsKnownAtom table.atoms (All-weaker IsFitAtom IsKnownAtom (λ atom is. is.known) table.atoms fit.atoms)
 passes table fit few new_bonds = new_at (length table.atoms) table.bonds fit.new
 passes table fit few known_types = each_item HasKnownType table.bonds (All-weaker IsFitBond HasKnownType (λ bond is. is.known) table.bonds fit.bonds)
 passes table fit few few_bonds =
-    λ item least most. omega (arith, count_by-le-length (touches item) (edges_of table.bonds), length-map table.bonds edge_of, fit.as_many)
+    λ item least most. omega (arith, count_by-le-length (touches item) (edges_of table.bonds), length-map table.bonds raw_edge, fit.as_many)
 passes table fit few named_atoms = each_item (NamesAtoms (length table.atoms)) table.props (of_none (NamesAtoms (length table.atoms)) table.props fit.no_properties)
 passes table fit few known_values = each_item HasKnownValues table.props (of_none HasKnownValues table.props fit.no_properties)
 passes table fit few known_properties = λ item. (λ zero. fit.no_lists, each_item IsOfMolecules table.props (of_none IsOfMolecules table.props fit.no_properties) item)
 
-pub passes_all : (table : RawTable) → IsFit table → length table.atoms ≤ 20 → PassesAll table
+pub passes_all : (table : RawTable) → IsFit table → length table.atoms ≤ 20 → MeetsAllChecks table
 passes_all table fit few = passes table fit few

@@ -13,7 +13,7 @@ use Rattle.mk_ctab.specs.declared.raw.RawAtom.{RawAtom}
 use Rattle.mk_ctab.specs.declared.raw.RawBond.{RawBond}
 use Rattle.mk_ctab.specs.declared.raw.RawTable.{RawTable}
 use Rattle.mk_ctab.specs.TableSpelling.{AtomFits, FitsThree, IsSymbol}
-use Rattle.mk_mol.specs.Checks.{HasKnownType, IsKnownAtom, IsNamed}
+use Rattle.mk_mol.specs.Checks.{HasKnownType, IsKnownAtom, IsElementSymbol}
 use Rattle.mk_drill.specs.Draws.{benzene, drilled_table, draws, plain_atom, plain_bond, substituted, substituted_from, with_atom, with_methoxy}
 use Rattle.mk_drill.proofs.BondLemmas.{AreNew, new_behind, ring_is_new}
 
@@ -43,7 +43,7 @@ pub record IsFit (table : RawTable) : Type 0 where
 zero_fits : FitsThree (pos 0)
 zero_fits = record { from = omega (arith, ints); to = omega (arith, ints) }
 
-fit_atom : (symbol : List ℕ) → IsNamed symbol → IsSymbol 3 symbol → IsFitAtom (plain_atom symbol)
+fit_atom : (symbol : List ℕ) → IsElementSymbol symbol → IsSymbol 3 symbol → IsFitAtom (plain_atom symbol)
 fit_atom symbol named is = record {
   known = record {
     symbol = named;
@@ -136,7 +136,8 @@ pub record IsFitWithin (least most : ℕ) (table : RawTable) : Type 0 where
   pub some : least ≤ length table.atoms
   pub few : length table.atoms ≤ most
 
-within_more : (symbol : List ℕ) (x least most : ℕ) (table : RawTable) → IsFitAtom (plain_atom symbol) → 1 ≤ x → x ≤ least → IsFitWithin least most table → IsFitWithin least (most + 1) (with_atom symbol x table)
+within_more : (symbol : List ℕ) (x least most : ℕ) (table : RawTable) → IsFitAtom (plain_atom symbol) → 1 ≤ x
+    → x ≤ least → IsFitWithin least most table → IsFitWithin least (most + 1) (with_atom symbol x table)
 within_more symbol x least most table atom first last is =
     let more = count_more symbol x table in
     record {
@@ -179,11 +180,13 @@ substituted_few x draw table =
     let bromine = count_more (codes "Br") x table in
     let oxygen = count_more (codes "O") x table in
     let carbon = count_more (codes "C") (length table.atoms + 1) (with_atom (codes "O") x table) in
-    by_tests (eqb draw 0) (eqb draw 1) (eqb draw 2) (λ t. length t.atoms ≤ length table.atoms + 2) _ _ _ _ (omega (arith, chlorine)) (omega (arith, bromine)) (omega (arith, carbon, oxygen)) (omega arith)
+    by_tests (eqb draw 0) (eqb draw 1) (eqb draw 2) (λ t. length t.atoms ≤ length table.atoms + 2) _ _ _ _
+    (omega (arith, chlorine)) (omega (arith, bromine)) (omega (arith, carbon, oxygen)) (omega arith)
 
 -- ---- all draws
 
-drilled_within : (ds : List ℕ) (x least most : ℕ) (table : RawTable) → 1 ≤ x → x + length ds ≤ least + 1 → IsFitWithin least most table → IsFitWithin least (most + 2 * length ds) (substituted_from x ds table)
+drilled_within : (ds : List ℕ) (x least most : ℕ) (table : RawTable) → 1 ≤ x → x + length ds ≤ least + 1
+    → IsFitWithin least most table → IsFitWithin least (most + 2 * length ds) (substituted_from x ds table)
 drilled_within [] x least most table first last is = within_less least most (most + 2 * 0) table (omega arith) is
 drilled_within (draw ∷ ds) x least most table first last is =
     within_less least ((most + 2) + 2 * length ds) (most + 2 * suc (length ds)) _ (omega arith)

@@ -17,9 +17,9 @@ use Rattle.mk_mol.specs.Filled.{IsFilled}
 use Rattle.mk_mol.specs.FirstFault.{known_atoms, known_properties}
 use Rattle.mk_mol.specs.Laws.{OneFilledMolecule}
 use Rattle.mk_mol.proofs.LawLemmas.{keeps_text}
-use Rattle.mk_library.specs.Records.{AreHeld, IsMoleculeOf, text_of}
+use Rattle.mk_library.specs.Records.{AreHeld, IsMoleculeOf, text_under}
 use Rattle.mk_drill.specs.Draws.{IsDrilled, drilled_table, state_for}
-use Rattle.mk_drill.specs.Drill.{IsHeld, IsLeft}
+use Rattle.mk_drill.specs.Drill.{HoldsDrilled, IsLeft}
 use Rattle.mk_drill.specs.DrilledRecords.{HoldsExactly, IsLoadable, drilled_text, is_left, left_below, record_text}
 use Rattle.mk_drill.proofs.DrilledTextLemmas.{drilled_is_loadable, is_sdfile, record_of}
 use Rattle.mk_drill.proofs.RecordsLemmas.{left_is_no_multiple, no_multiple_is_left, records_from, text_for, text_given, text_passing, text_there}
@@ -29,7 +29,8 @@ use Rattle.mk_drill.proofs.RecordsLemmas.{left_is_no_multiple, no_multiple_is_le
 -- the text of the record is a file of that record
 text_again : (table : RawTable) → IsLoadable table → IsSdfile (lines_of (record_text table)) (record_of table ∷ [])
 text_again table fits =
-    All-head (λ (r : RawRecord). KeepsItsText r.table → IsSdfile (lines_of r.text) (r ∷ [])) (record_of table) [] (text_is_its_record (drilled_text table) (record_of table ∷ []) (is_sdfile table fits.can))
+    All-head (λ (r : RawRecord). KeepsItsText r.table → IsSdfile (lines_of r.text) (r ∷ [])) (record_of table) []
+    (text_is_its_record (drilled_text table) (record_of table ∷ []) (is_sdfile table fits.can))
     (keeps_text table (fits.passes known_atoms) (fits.passes known_properties)).0
 
 first_is : (a b : RawRecord) → a ∷ [] ≡ b ∷ [] → a.table ≡ b.table
@@ -46,7 +47,7 @@ of_text table mol fits is =
 -- the molecule under a number is that of its text
 pub record IsOfText (records : List RecordRow) (n : ℕ) (mol : Molecule) : Type 0 where
   pub text : List ℕ
-  pub at : text_of n records ≡ Some text
+  pub at : text_under n records ≡ Some text
   pub is : IsMoleculeOf text mol
 
 row_at : (a b : Bool) (x y n : ℕ) (text : List ℕ) (item mol : Molecule) (texts : Option (List ℕ)) (items : Option Molecule) → x ≡ y → eqb x n ≡ a → eqb y n ≡ b → IsMoleculeOf text item
@@ -57,12 +58,14 @@ row_at true false x y n text item mol texts items same p q is rest at = absurd (
 row_at false true x y n text item mol texts items same p q is rest at = absurd (eqb-false x n p (same ∙ eqb-true y n q))
 row_at false false x y n text item mol texts items same p q is rest at = rest at
 
-found_text : (records : List RecordRow) (rows : List (Numbered Molecule)) (n : ℕ) (mol : Molecule) → AreHeld records rows → item_at n rows ≡ Some mol → (text : List ℕ) × (text_of n records ≡ Some text) × IsMoleculeOf text mol
+found_text : (records : List RecordRow) (rows : List (Numbered Molecule)) (n : ℕ) (mol : Molecule)
+    → AreHeld records rows → item_at n rows ≡ Some mol → (text : List ℕ) × (text_under n records ≡ Some text)
+    × IsMoleculeOf text mol
 found_text [] [] n mol held at = absurd cc
 found_text [] (row ∷ rows) n mol held at = absurd held
 found_text (first ∷ records) [] n mol held at = absurd held
 found_text (first ∷ records) (row ∷ rows) n mol held at =
-    row_at (eqb first.number n) (eqb row.number n) first.number row.number n first.text row.item mol (text_of n records) (item_at n rows) held.0 refl refl held.1
+    row_at (eqb first.number n) (eqb row.number n) first.number row.number n first.text row.item mol (text_under n records) (item_at n rows) held.0 refl refl held.1
     (found_text records rows n mol held.2) at
 
 item_there : (a b : Bool) (x y n : ℕ) (text found : List ℕ) (item : Molecule) (texts : Option (List ℕ)) (items : Option Molecule) → x ≡ y → eqb x n ≡ a → eqb y n ≡ b → IsMoleculeOf text item
@@ -73,12 +76,13 @@ item_there true false x y n text found item texts items same p q is rest at = ab
 item_there false true x y n text found item texts items same p q is rest at = absurd (eqb-false x n p (same ∙ eqb-true y n q))
 item_there false false x y n text found item texts items same p q is rest at = rest at
 
-found_item : (records : List RecordRow) (rows : List (Numbered Molecule)) (n : ℕ) (text : List ℕ) → AreHeld records rows → text_of n records ≡ Some text → (mol : Molecule) × (item_at n rows ≡ Some mol) × IsMoleculeOf text mol
+found_item : (records : List RecordRow) (rows : List (Numbered Molecule)) (n : ℕ) (text : List ℕ) → AreHeld records rows
+    → text_under n records ≡ Some text → (mol : Molecule) × (item_at n rows ≡ Some mol) × IsMoleculeOf text mol
 found_item [] [] n text held at = absurd cc
 found_item [] (row ∷ rows) n text held at = absurd held
 found_item (first ∷ records) [] n text held at = absurd held
 found_item (first ∷ records) (row ∷ rows) n text held at =
-    item_there (eqb first.number n) (eqb row.number n) first.number row.number n first.text text row.item (text_of n records) (item_at n rows) held.0 refl refl held.1
+    item_there (eqb first.number n) (eqb row.number n) first.number row.number n first.text text row.item (text_under n records) (item_at n rows) held.0 refl refl held.1
     (found_item records rows n text held.2) at
 
 -- ---- drilled molecules
@@ -92,14 +96,16 @@ drilled_of start n text mol same is =
 same_molecule : (start n : ℕ) (mol other : Molecule) → OneFilledMolecule → IsDrilled start n mol → IsDrilled start n other → mol ≡ other
 same_molecule start n mol other one a b = one (drilled_table (state_for start n)) mol other a.kept b.kept a.filled b.filled
 
-there : (start n : ℕ) (records : List RecordRow) (rows : List (Numbered Molecule)) (mol : Molecule) → OneFilledMolecule → AreHeld records rows → text_of n records ≡ Some (text_for start n) → IsDrilled start n mol → item_at n rows ≡ Some mol
+there : (start n : ℕ) (records : List RecordRow) (rows : List (Numbered Molecule)) (mol : Molecule) → OneFilledMolecule
+    → AreHeld records rows → text_under n records ≡ Some (text_for start n) → IsDrilled start n mol
+    → item_at n rows ≡ Some mol
 there start n records rows mol one held at drilled =
     let found = found_item records rows n (text_for start n) held at in
     let other = drilled_of start n (text_for start n) found.0 refl found.2 in
     found.1 ∙ ap (λ (m : Molecule). Some m) (same_molecule start n found.0 mol one other drilled)
 
 -- where all records are held, exactly the drilled molecules are
-pub all_held : (start count : ℕ) (rows : List (Numbered Molecule)) → OneFilledMolecule → AreHeld (records_from start 1 count) rows → HoldsExactly rows (IsHeld start count)
+pub all_held : (start count : ℕ) (rows : List (Numbered Molecule)) → OneFilledMolecule → AreHeld (records_from start 1 count) rows → HoldsExactly rows (HoldsDrilled start count)
 all_held start count rows one held n mol = (
   λ at.
       let found = found_text (records_from start 1 count) rows n mol held at in
@@ -118,7 +124,7 @@ left_held start count rows one held n mol = (
   λ at.
       let records = left_below (count / 5) (records_from start 1 count) in
       let found = found_text records rows n mol held at in
-      let both = given_left (is_left (count / 5) n) n (text_of n (records_from start 1 count)) found.0 (sym (text_passing (is_left (count / 5)) (records_from start 1 count) n) ∙ found.1) in
+      let both = given_left (is_left (count / 5) n) n (text_under n (records_from start 1 count)) found.0 (sym (text_passing (is_left (count / 5)) (records_from start 1 count) n) ∙ found.1) in
       let given = text_given start count n found.0 both.1 in
       let most : n ≤ count = omega (arith, given.below) in
       record {

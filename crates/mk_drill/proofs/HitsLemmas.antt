@@ -10,7 +10,7 @@ use Rattle.mk_rows.specs.declared.by_number.Numbered.{Numbered}
 use Rattle.mk_search.specs.declared.pages.Page.{Page}
 use Rattle.mk_search.specs.Pages.{IsHeldIn, IsPage}
 use Rattle.mk_search.proofs.ForCallers.{page_and_others}
-use Rattle.mk_drill.specs.Drill.{AreHits, IsHeld, IsLeft}
+use Rattle.mk_drill.specs.Drill.{AreHits, HoldsDrilled, IsLeft}
 use Rattle.mk_drill.specs.DrilledRecords.{HoldsExactly}
 use Rattle.mk_drill.specs.Listing.{AreOthers}
 
@@ -27,7 +27,8 @@ record AreAlike (A B : ℕ → Molecule → Type 0) : Type 0 where
 remains_by : (A B : ℕ → Molecule → Type 0) (query : QueryView) (place key : List ℕ) → ((n : ℕ) (mol : Molecule) → A n mol → B n mol) → Remains A query place key → Remains B query place key
 remains_by A B query place key to is = (key_by A B query key to is.0, is.1)
 
-first_by : (A B : ℕ → Molecule → Type 0) (query : QueryView) (place : List ℕ) (most : ℕ) (keys : List (List ℕ)) → AreAlike A B → AreFirst most (Remains A query place) keys → AreFirst most (Remains B query place) keys
+first_by : (A B : ℕ → Molecule → Type 0) (query : QueryView) (place : List ℕ) (most : ℕ) (keys : List (List ℕ))
+    → AreAlike A B → AreFirst most (Remains A query place) keys → AreFirst most (Remains B query place) keys
 first_by A B query place most keys alike are = record {
   rises = are.rises;
   each = λ key held. remains_by A B query place key alike.to (are.each key held);
@@ -35,7 +36,8 @@ first_by A B query place most keys alike are = record {
   others = λ key is. are.others key (remains_by B A query place key alike.from is);
 }
 
-all_by : (A B : ℕ → Molecule → Type 0) (query : QueryView) (place : List ℕ) (keys : List (List ℕ)) → AreAlike A B → IsRisingListOfAll (Remains A query place) keys → IsRisingListOfAll (Remains B query place) keys
+all_by : (A B : ℕ → Molecule → Type 0) (query : QueryView) (place : List ℕ) (keys : List (List ℕ)) → AreAlike A B
+    → IsRisingListOfAll (Remains A query place) keys → IsRisingListOfAll (Remains B query place) keys
 all_by A B query place keys alike are = record {
   rises = are.rises;
   each = λ key held. remains_by A B query place key alike.to (are.each key held);
@@ -95,7 +97,8 @@ listed_all rows query place former hits from page is ended so_far =
 -- ---- all hits
 
 -- those of one page
-pub one_page_of_hits : (start count : ℕ) (query : QueryView) (rows : List (Numbered Molecule)) (page : Page) → HoldsExactly rows (IsHeld start count) → IsPage (IsHeldIn rows) query [] 100 page → page.ended ≡ true
+pub one_page_of_hits : (start count : ℕ) (query : QueryView) (rows : List (Numbered Molecule)) (page : Page)
+    → HoldsExactly rows (HoldsDrilled start count) → IsPage (IsHeldIn rows) query [] 100 page → page.ended ≡ true
     → AreHits start count query page.hits
 one_page_of_hits start count query rows page holds is ended =
     let few : length page.hits < 100 = ltb-true (length page.hits) 100 (sym is.ended ∙ ended) in
@@ -103,13 +106,14 @@ one_page_of_hits start count query rows page holds is ended =
       page = page.hits;
       others = [];
       whole = sym (append-nil page.hits);
-      first = first_by (IsHeldIn rows) (IsHeld start count) query [] 100 page.hits (alike_of rows (IsHeld start count) holds) is.hits;
+      first = first_by (IsHeldIn rows) (HoldsDrilled start count) query [] 100 page.hits (alike_of rows (HoldsDrilled start count) holds) is.hits;
       ended = λ less. refl;
       behind = λ full. absurd (omega (arith, few, full));
     }
 
 -- those of a full page and of the pages behind the removal
-pub more_hits : (start count : ℕ) (query : QueryView) (rows left : List (Numbered Molecule)) (page : Page) (hits : List (List ℕ)) → HoldsExactly rows (IsHeld start count) → HoldsExactly left (IsLeft start count)
+pub more_hits : (start count : ℕ) (query : QueryView) (rows left : List (Numbered Molecule)) (page : Page)
+    (hits : List (List ℕ)) → HoldsExactly rows (HoldsDrilled start count) → HoldsExactly left (IsLeft start count)
     → IsPage (IsHeldIn rows) query [] 100 page → page.ended ≡ false → AreOthers left query page.place page.hits hits → AreHits start count query hits
 more_hits start count query rows left page hits holds leaves is ended more =
     let full : 100 ≤ length page.hits = ltb-false (length page.hits) 100 (sym is.ended ∙ ended) in
@@ -117,7 +121,7 @@ more_hits start count query rows left page hits holds leaves is ended more =
       page = page.hits;
       others = more.others;
       whole = more.whole;
-      first = first_by (IsHeldIn rows) (IsHeld start count) query [] 100 page.hits (alike_of rows (IsHeld start count) holds) is.hits;
+      first = first_by (IsHeldIn rows) (HoldsDrilled start count) query [] 100 page.hits (alike_of rows (HoldsDrilled start count) holds) is.hits;
       ended = λ less. absurd (omega (arith, full, less));
       behind = λ same.
           subst (λ (place : List ℕ). IsRisingListOfAll (Remains (IsLeft start count) query place) more.others) is.next

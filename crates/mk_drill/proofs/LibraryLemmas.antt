@@ -30,7 +30,8 @@ loaded_none start library none first = record {
 }
 
 -- the next record is that of the next molecule
-next_is : (start n : ℕ) (library : LibraryView) (table : RawTable) (state : ℕ) → AreLoaded start n library state → table ≡ drilled_table state → next_record library table ≡ drilled_record start (1 + n)
+next_is : (start n : ℕ) (library : LibraryView) (table : RawTable) (state : ℕ) → AreLoaded start n library state
+    → table ≡ drilled_table state → next_record library table ≡ drilled_record start (1 + n)
 unfolding drilled_record state_for
 next_is start n library table state are drilled =
     let number : library.next_record ≡ 1 + n = omega (arith, are.counted.counted, count start n library state are) in

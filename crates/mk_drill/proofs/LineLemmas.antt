@@ -25,7 +25,8 @@ weighed_behind : (i : ℕ) (hits : List (List ℕ)) (hit : List ℕ) → weighed
 weighed_behind i [] hit = let none : i + 0 ≡ i = omega arith in rw none (omega arith)
 weighed_behind i (first ∷ hits) hit =
     let place : (i + 1) + length hits ≡ i + suc (length hits) = omega arith in
-    let rest : weighed_from (i + 1) (hits ++ hit ∷ []) ≡ weighed_from (i + 1) hits + (i + suc (length hits)) * sum hit = weighed_behind (i + 1) hits hit ∙ ap (λ (k : ℕ). weighed_from (i + 1) hits + k * sum hit) place in
+    let rest : weighed_from (i + 1) (hits ++ hit ∷ []) ≡ weighed_from (i + 1) hits + (i + suc (length hits)) * sum hit =
+    weighed_behind (i + 1) hits hit ∙ ap (λ (k : ℕ). weighed_from (i + 1) hits + k * sum hit) place in
     omega (arith, rest)
 
 -- a product of remainders

@@ -16,7 +16,7 @@ use Rattle.mk_library.specs.Records.{text_bytes}
 use Rattle.mk_library.specs.Library.{IsSame, LibraryView, record_tables, tables_of}
 use Rattle.mk_library.specs.Limits.{HasKnownNumber, IsWithinLimits, most_number}
 use Rattle.mk_library.specs.Edits.{AreChanges, Edit, Load, puts_from, texts_of}
-use Rattle.mk_library.specs.FirstRefusal.{Demand, Demands, IfRefused, IsAllowed, IsFirstRefusal, IsMoleculeRecord, held_number, kept_limits, molecules, one_record, sdfile, short_file}
+use Rattle.mk_library.specs.FirstRefusal.{Demand, EditDemands, IfRefused, IsAllowedEdit, IsFirstRefusal, IsMoleculeRecord, held_number, kept_limits, molecules, one_record, sdfile, short_file}
 use Rattle.mk_library.specs.Steps.{LoadKeeps}
 use Rattle.mk_library.proofs.LoadLemmas.{bytes_behind, load_after, load_within}
 use Rattle.mk_drill.specs.DrilledRecords.{IsCounted, IsLoadable, drilled_text, next_record, record_text}
@@ -51,7 +51,7 @@ changes_are : (library : LibraryView) (table : RawTable) (changes : List Change)
 changes_are library table changes fits are = are.2 ∙ ap (λ (raws : List RawRecord). puts_from library.next_record (texts_of raws)) (only_record table fits.can are.0 are.1)
 
 pub demands_met : (library : LibraryView) (table : RawTable) → IsCounted library → length library.records < 10000 → IsLoadable table
-    → (demand : Demand) → Demands library.records library.next_record (Load (drilled_text table)) demand
+    → (demand : Demand) → EditDemands library.records library.next_record (Load (drilled_text table)) demand
 demands_met library table is few fits held_number = tt
 demands_met library table is few fits short_file = omega (arith, fits.short)
 demands_met library table is few fits sdfile = (record_of table ∷ [], is_sdfile table fits.can)
@@ -63,11 +63,11 @@ demands_met library table is few fits kept_limits = λ changes are.
     (load_within (record_text table ∷ []) library.next_record library.records is.below (within library is few) (keeps library table is few fits))
 
 -- where every demand is met, no refusal is the first
-none_first : (records : List RecordRow) (next : ℕ) (edit : Edit) (said : LoadRefusal) → ((demand : Demand) → Demands records next edit demand) → IsFirstRefusal records next edit said → ⊥
+none_first : (records : List RecordRow) (next : ℕ) (edit : Edit) (said : LoadRefusal) → ((demand : Demand) → EditDemands records next edit demand) → IsFirstRefusal records next edit said → ⊥
 none_first records next edit said met is = is.fails (met is.demand)
 
 -- so only want of memory refuses it
-pub want_alone : (records : List RecordRow) (next : ℕ) (edit : Edit) (said : LoadRefusal) → ((demand : Demand) → Demands records next edit demand)
+pub want_alone : (records : List RecordRow) (next : ℕ) (edit : Edit) (said : LoadRefusal) → ((demand : Demand) → EditDemands records next edit demand)
     → IfRefused {T = Unit {0}} (Err said) (IsFirstRefusal records next edit) → said ≡ refusal.Memory
 want_alone records next edit refusal.NoRecord met is = absurd (none_first records next edit _ met is)
 want_alone records next edit refusal.FileLarge met is = absurd (none_first records next edit _ met is)
@@ -94,13 +94,15 @@ pub record IsLoaded (before after : LibraryView) (table : RawTable) : Type 0 whe
   pub counted : IsCounted after
 
 pub loaded : (before ready after : LibraryView) (table : RawTable) (changes : List Change) → IsCounted before → IsLoadable table
-    → IsAllowed before.records before.next_record (Load (drilled_text table)) changes → IsSame before ready → tables_of after ≡ after_batch changes (tables_of ready)
+    → IsAllowedEdit before.records before.next_record (Load (drilled_text table)) changes → IsSame before ready → tables_of after ≡ after_batch changes (tables_of ready)
     → IsLoaded before after table
 loaded before ready after table changes is fits allowed same made =
     let n = before.next_record in
     let row = next_record before table in
     let tables : tables_of after ≡ after_batch (puts_from n (record_text table ∷ [])) (tables_of before) =
-    made ∙ ap (λ (t : Tables). after_batch changes t) (same_tables before ready same) ∙ ap (λ (made : List Change). after_batch made (tables_of before)) (changes_are before table changes fits allowed.are) in
+    made ∙ ap (λ (t : Tables). after_batch changes t) (same_tables before ready same)
+    ∙ ap (λ (made : List Change). after_batch made (tables_of before))
+    (changes_are before table changes fits allowed.are) in
     let records : after.records ≡ before.records ++ row ∷ [] = ap (λ (t : Tables). t.records) tables ∙ load_after (record_text table ∷ []) n before.records is.below in
     let next : after.next_record ≡ n + 1 = ap (λ (t : Tables). t.next_record) tables ∙ (let most : max n (n + 1) ≡ n + 1 = omega arith in most) in
     let count : length after.records ≡ length before.records + 1 = ap length records ∙ length-append before.records (row ∷ []) in

@@ -8,7 +8,7 @@ use Rattle.mk_model.specs.Queries.{QueryView}
 use Rattle.mk_rgfile.specs.declared.raw_query.RawQuery.{RawQuery}
 use Rattle.mk_query.specs.Compiled.{IsQueryOf}
 use Rattle.mk_query.specs.Laws.{OneQuery}
-use Rattle.mk_drill.specs.Drill.{AreHits, IsHeld, IsLeft, OneDrill, drill_line}
+use Rattle.mk_drill.specs.Drill.{AreHits, HoldsDrilled, IsLeft, OneDrill, drill_line}
 use Rattle.mk_drill.specs.DrillQuery.{IsDrillQuery}
 use Rattle.mk_drill.proofs.QueryFileLemmas.{one_raw}
 
@@ -18,7 +18,7 @@ one_meant one a b is other =
 
 module _ (start count : ℕ) (query : QueryView) (hits others : List (List ℕ)) (a : AreHits start count query hits) (b : AreHits start count query others) where
   same_page : a.page ≡ b.page
-  same_page = one_list_is_first 100 (Remains (IsHeld start count) query []) a.page b.page a.first b.first
+  same_page = one_list_is_first 100 (Remains (HoldsDrilled start count) query []) a.page b.page a.first b.first
 
   rest_of : (length a.page < 100) ⊎ (100 ≤ length a.page) → a.others ≡ b.others
   rest_of (inl less) = a.ended less ∙ sym (b.ended (subst (λ (page : List (List ℕ)). length page < 100) same_page less))

@@ -185,11 +185,17 @@ root_adds query is =
     let nine : added query is.root (root_slot ∷ []) 7 ≡ 9 = omega (arith, most) in
     ap (λ (slots : List Slot). added query is.root slots (length is.root.atoms)) is.root_slots ∙ ap (added query is.root (root_slot ∷ [])) is.root_count ∙ nine
 
-sized : (query : QueryView) (is : IsWritten query) (t : ℕ) (template : TemplateView) → slice_get (is.root ∷ is.chlorine ∷ is.bromine ∷ is.methoxy ∷ []) t ≡ Some template → sizes t ≡ size_by query sizes template
+sized : (query : QueryView) (is : IsWritten query) (t : ℕ) (template : TemplateView)
+    → slice_get (is.root ∷ is.chlorine ∷ is.bromine ∷ is.methoxy ∷ []) t ≡ Some template
+    → sizes t ≡ size_by query sizes template
 sized query is zero template at = (let same : is.root ≡ template = cc in subst (λ (u : TemplateView). 9 ≡ size_by query sizes u) same (sym (root_adds query is)))
 sized query is (suc zero) template at = (let same : is.chlorine ≡ template = cc in subst (λ (u : TemplateView). 1 ≡ size_by query sizes u) same (sym (member_adds query is.chlorine 1 is.is_chlorine)))
-sized query is (suc (suc zero)) template at = (let same : is.bromine ≡ template = cc in subst (λ (u : TemplateView). 1 ≡ size_by query sizes u) same (sym (member_adds query is.bromine 1 is.is_bromine)))
-sized query is (suc (suc (suc zero))) template at = (let same : is.methoxy ≡ template = cc in subst (λ (u : TemplateView). 2 ≡ size_by query sizes u) same (sym (member_adds query is.methoxy 2 is.is_methoxy)))
+sized query is (suc (suc zero)) template at = (let same : is.bromine ≡ template = cc
+    in subst (λ (u : TemplateView). 1 ≡ size_by query sizes u) same
+    (sym (member_adds query is.bromine 1 is.is_bromine)))
+sized query is (suc (suc (suc zero))) template at = (let same : is.methoxy ≡ template = cc
+    in subst (λ (u : TemplateView). 2 ≡ size_by query sizes u) same
+    (sym (member_adds query is.methoxy 2 is.is_methoxy)))
 sized query is (suc (suc (suc (suc t)))) template at = absurd cc
 
 small : (query : QueryView) → IsWritten query → IsSmall query

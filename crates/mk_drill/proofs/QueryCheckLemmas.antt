@@ -15,14 +15,14 @@ use Rattle.mk_ctab.specs.declared.raw.RawAtom.{RawAtom}
 use Rattle.mk_ctab.specs.declared.raw.RawBond.{RawBond}
 use Rattle.mk_ctab.specs.declared.raw.RawList.{RawList}
 use Rattle.mk_ctab.specs.declared.raw.RawTable.{RawTable}
-use Rattle.mk_ctab.specs.Bonds.{edge_of, edges_of}
+use Rattle.mk_ctab.specs.Bonds.{raw_edge, edges_of}
 use Rattle.mk_ctab.specs.Numbers.{IsAtom, IsWithin}
 use Rattle.mk_logic.specs.RangeTexts.{above, blank_text}
 use Rattle.mk_rgfile.specs.declared.raw_query.RawGroup.{RawGroup}
 use Rattle.mk_query.specs.Checks.{HasQueryType, IsElementName, IsQueryAtom, IsQueryProperty, LeavesFewBonds}
 use Rattle.mk_query.specs.CompileFaults.{PassEach}
 use Rattle.mk_query.specs.Drawn.{bears_point, drawn_neighbours, is_site, is_site_at, labels_at, links_at, lists_at}
-use Rattle.mk_query.specs.FirstFault.{Check, Passes, PassesAll, attachment_points, element_lists, group_logic, link_atoms, query_atoms, query_bonds, query_properties, site_labels, site_orders, site_places}
+use Rattle.mk_query.specs.FirstFault.{QueryCheck, Passes, PassesAll, attachment_points, element_lists, group_logic, link_atoms, query_atoms, query_bonds, query_properties, site_labels, site_orders, site_places}
 use Rattle.mk_query.specs.LinkChecks.{AreRightLinks, IsLogical, IsPointed, SpeaksOfSame}
 use Rattle.mk_query.specs.SiteChecks.{ArePlaced, HasKnownMembers, HasMember, IsLabelled, IsListed, IsOrdered}
 use Rattle.mk_drill.specs.Draws.{plain_atom, plain_bond}
@@ -65,7 +65,7 @@ typed x y kind least most = record { kind = within 1 8 kind least most; topology
 -- few bonds leave few at each atom
 leaves_few : (atoms : ℕ) (bonds : List RawBond) (item : ℕ) → length bonds ≤ 20 → LeavesFewBonds atoms bonds item
 leaves_few atoms bonds item few n least most =
-    omega (arith, count_by-le-length (touches n) (edges_of (take item bonds)), length-map (take item bonds) edge_of, length-take item bonds)
+    omega (arith, count_by-le-length (touches n) (edges_of (take item bonds)), length-map (take item bonds) raw_edge, length-take item bonds)
 
 bonds_pass : (groups : List RawGroup) (is_root : Bool) (table : RawTable) → AreNew (length table.atoms) [] table.bonds → EachFrom (λ item. HasQueryType) 1 table.bonds → length table.bonds ≤ 20
     → Passes groups is_root table query_bonds
@@ -108,7 +108,12 @@ labelled : IsLabelled query_groups (pos 1 ∷ []) (plain_atom (codes "R#"))
 labelled = record {
   word = (λ test none. cc, λ some. refl);
   alone = lit≤ tt;
-  members = All-cons (HasMember query_groups) (pos 1) [] (record { number = 1; members = single (codes "Cl") ∷ single (codes "Br") ∷ methoxy ∷ [] }, (0, lit< tt, refl), refl, lit≤ tt) (All-nil (HasMember query_groups));
+  members = All-cons (HasMember query_groups) (pos 1) [] (
+    record { number = 1; members = single (codes "Cl") ∷ single (codes "Br") ∷ methoxy ∷ [] },
+    (0, lit< tt, refl),
+    refl,
+    lit≤ tt,
+  ) (All-nil (HasMember query_groups));
 }
 
 -- an atom that is no site needs no place
@@ -158,7 +163,7 @@ right_logic = record {
   range = (above 0 ∷ [], blank_text refl refl);
 }
 
-root_passes : (check : Check) → Passes query_groups true root_table check
+root_passes : (check : QueryCheck) → Passes query_groups true root_table check
 root_passes query_atoms =
     let c = element (codes "C") carbon_named in
     each_item (λ (n : ℕ). IsQueryAtom) root_table.atoms (c, (c, (c, (c, (c, (c, (site, tt)))))))
@@ -200,7 +205,7 @@ root_passes group_logic = each_item (λ (n : ℕ). IsLogical true (drop n root_t
 
 -- ---- the members
 
-single_passes : (c : ℕ) (text : List ℕ) → IsElementName (c ∷ text) → (c ≡ 76 → ⊥) → is_site (plain_atom (c ∷ text)) ≡ false → (check : Check) → Passes query_groups false (single (c ∷ text)) check
+single_passes : (c : ℕ) (text : List ℕ) → IsElementName (c ∷ text) → (c ≡ 76 → ⊥) → is_site (plain_atom (c ∷ text)) ≡ false → (check : QueryCheck) → Passes query_groups false (single (c ∷ text)) check
 single_passes c text named no_list no_site query_atoms = each_item (λ (n : ℕ). IsQueryAtom) (single (c ∷ text)).atoms (element (c ∷ text) named, tt)
 single_passes c text named no_list no_site query_bonds = bonds_pass query_groups false (single (c ∷ text)) tt tt (lit≤ tt)
 single_passes c text named no_list no_site query_properties = each_item (λ (n : ℕ). IsQueryProperty 1) (single (c ∷ text)).props (known_point 1 (lit≤ tt), tt)
@@ -227,12 +232,15 @@ methoxy_pointed = record {
   first = λ bears. absurd (false≢true bears);
 }
 
-methoxy_passes : (check : Check) → Passes query_groups false methoxy check
+methoxy_passes : (check : QueryCheck) → Passes query_groups false methoxy check
 methoxy_passes query_atoms = each_item (λ (n : ℕ). IsQueryAtom) methoxy.atoms (element (codes "O") oxygen_named, (element (codes "C") carbon_named, tt))
 methoxy_passes query_bonds = bonds_pass query_groups false methoxy (new_behind 1 1 1 [] (lit≤ tt) (lit≤ tt) tt) (typed 1 2 1 (lit≤ tt) (lit≤ tt), tt) (lit≤ tt)
 methoxy_passes query_properties = each_item (λ (n : ℕ). IsQueryProperty 2) methoxy.props (known_point 2 (lit≤ tt), tt)
-methoxy_passes element_lists = λ item.
-    (λ first. All-nil (λ (list : RawList). IsAtom 2 list.atom), each_item (λ (n : ℕ). IsListed (lists_at methoxy n)) methoxy.atoms (unlisted 79 [] (λ same. omega (arith, same)), (unlisted 67 [] (λ same. omega (arith, same)), tt)) item)
+methoxy_passes element_lists = λ item. (
+  λ first. All-nil (λ (list : RawList). IsAtom 2 list.atom),
+  each_item (λ (n : ℕ). IsListed (lists_at methoxy n)) methoxy.atoms
+      (unlisted 79 [] (λ same. omega (arith, same)), (unlisted 67 [] (λ same. omega (arith, same)), tt)) item,
+)
 methoxy_passes site_labels =
     each_item (λ (n : ℕ). IsLabelled query_groups (labels_at methoxy n)) methoxy.atoms (unlabelled query_groups (codes "O") refl, (unlabelled query_groups (codes "C") refl, tt))
 methoxy_passes site_places =

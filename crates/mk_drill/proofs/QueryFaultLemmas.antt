@@ -19,12 +19,15 @@ use Rattle.mk_drill.proofs.QueryAcrossLemmas.{none_first}
 no_bad : (k : ℕ) → IsBadQueryLine (lines_of query_text) k → ⊥
 no_bad k bad = (bad_where_none (lines_of query_text)).0 (k, bad) query_raw text_is_query
 
-pub only_memory : (fault : TableFault) → IfBad {T = Unit {0}} (Err fault) (IsBadQueryLine (lines_of query_text)) → IfV3000 {T = Unit {0}} (Err fault) (IsBadQueryLine (lines_of query_text)) → fault ≡ table_fault.Memory
+pub only_memory : (fault : TableFault) → IfBad {T = Unit {0}} (Err fault) (IsBadQueryLine (lines_of query_text))
+    → IfV3000 {T = Unit {0}} (Err fault) (IsBadQueryLine (lines_of query_text)) → fault ≡ table_fault.Memory
 only_memory (table_fault.Bad k) bad named = absurd (no_bad k bad)
 only_memory (table_fault.V3000 k) bad named = absurd (no_bad k named)
 only_memory table_fault.Memory bad named = refl
 
 -- and its tables have no fault
 pub memory_alone : (raw : RawQuery) (fault : CompileFault) → IsQueryFile (lines_of query_text) raw → IfFault {T = Unit {0}} (Err fault) (IsFirstCompileFault raw) → fault ≡ compile_fault.Memory
-memory_alone raw (compile_fault.Check check table item) read first = absurd (none_first _ (subst (λ (r : RawQuery). IsFirstCompileFault r (record { check = check; table = table; item = item })) (one_raw raw read) first))
+memory_alone raw (compile_fault.Check check table item) read first =
+    absurd (none_first _ (subst (λ (r : RawQuery). IsFirstCompileFault r
+    (record { check = check; table = table; item = item })) (one_raw raw read) first))
 memory_alone raw compile_fault.Memory read first = refl

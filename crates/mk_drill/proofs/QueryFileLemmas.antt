@@ -55,7 +55,9 @@ lines_are = text_of_lines_is_read (root_lines ++ group_lines) (All-from_recursio
 -- ---- what they say
 
 lines_read : query_at (root_lines ++ group_lines) ≡ Took query_raw []
-unfolding query_at block_at group_at group_number_of table_at counts_of natural_of raw_atom_of atom_numbers_of raw_bond_of field_of digits_number columns property_of letter_line_of m_line_of cell_of number_of count_of pair_of pairs_of logic_of
+unfolding query_at block_at group_at group_number_of table_at counts_of natural_of raw_atom_of atom_numbers_of
+    raw_bond_of field_of digits_number columns property_of letter_line_of m_line_of cell_of number_of count_of pair_of
+    pairs_of logic_of
 lines_read = refl
 
 of_front : (lines : List (List ℕ)) → query_at lines ≡ Took query_raw [] → IsQueryFile lines query_raw

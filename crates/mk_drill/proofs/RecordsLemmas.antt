@@ -9,7 +9,7 @@ use Rattle.std.proofs.lemmas.List.Elements.{filter_agree}
 use Rattle.mk_outside.specs.declared.tables.RecordRow.{RecordRow}
 use Rattle.mk_outside.specs.Rows.{without}
 use Rattle.mk_outside.specs.Tables.{record_number}
-use Rattle.mk_library.specs.Records.{is_held, text_of}
+use Rattle.mk_library.specs.Records.{is_held, text_under}
 use Rattle.mk_drill.specs.Draws.{drilled_table, state_for}
 use Rattle.mk_drill.specs.DrilledRecords.{drilled_record, is_left, left_below, record_text}
 
@@ -40,10 +40,10 @@ there_at true x n first text others is same other = ap (λ (t : List ℕ). Some 
 there_at false x n first text others is same other = other (eqb-false x n is)
 
 -- the text of each of them
-text_from : (start n m k : ℕ) → m ≤ n → n < m + k → text_of n (records_from start m k) ≡ Some (text_for start n)
+text_from : (start n m k : ℕ) → m ≤ n → n < m + k → text_under n (records_from start m k) ≡ Some (text_for start n)
 text_from start n m zero least below = absurd (omega arith)
 text_from start n m (suc k) least below =
-    there_at (eqb (drilled_record start m).number n) (drilled_record start m).number n (drilled_record start m).text (text_for start n) (text_of n (records_from start (m + 1) k)) refl
+    there_at (eqb (drilled_record start m).number n) (drilled_record start m).number n (drilled_record start m).text (text_for start n) (text_under n (records_from start (m + 1) k)) refl
     (λ same. text_is start m ∙ ap (text_for start) (sym (number_of start m) ∙ same))
     (λ other. text_from start n (m + 1) k (by_order (cases_lt m n) other) (omega arith))
   where
@@ -51,7 +51,7 @@ text_from start n m (suc k) least below =
     by_order (inl less) other = omega arith
     by_order (inr more) other = absurd (other (number_of start m ∙ (let same : m ≡ n = omega arith in same)))
 
-pub text_there : (start count n : ℕ) → 1 ≤ n → n ≤ count → text_of n (records_from start 1 count) ≡ Some (text_for start n)
+pub text_there : (start count n : ℕ) → 1 ≤ n → n ≤ count → text_under n (records_from start 1 count) ≡ Some (text_for start n)
 text_there start count n least most = text_from start n 1 count least (omega arith)
 
 -- the text under a number is that of the molecule
@@ -60,14 +60,16 @@ pub record IsTextFor (start m k n : ℕ) (text : List ℕ) : Type 0 where
   pub below : n < m + k
   pub is : text ≡ text_for start n
 
-given_at : (b : Bool) (x n : ℕ) (first text : List ℕ) (others : Option (List ℕ)) (P : Type 0) → eqb x n ≡ b → cond b (Some first) others ≡ Some text → (x ≡ n → first ≡ text → P) → (others ≡ Some text → P) → P
+given_at : (b : Bool) (x n : ℕ) (first text : List ℕ) (others : Option (List ℕ)) (P : Type 0) → eqb x n ≡ b
+    → cond b (Some first) others ≡ Some text → (x ≡ n → first ≡ text → P) → (others ≡ Some text → P) → P
 given_at true x n first text others P is at same other = same (eqb-true x n is) cc
 given_at false x n first text others P is at same other = other at
 
-given_from : (start n m k : ℕ) (text : List ℕ) → text_of n (records_from start m k) ≡ Some text → IsTextFor start m k n text
+given_from : (start n m k : ℕ) (text : List ℕ) → text_under n (records_from start m k) ≡ Some text → IsTextFor start m k n text
 given_from start n m zero text at = absurd cc
 given_from start n m (suc k) text at =
-    given_at (eqb (drilled_record start m).number n) (drilled_record start m).number n (drilled_record start m).text text (text_of n (records_from start (m + 1) k)) (IsTextFor start m (suc k) n text) refl at
+    given_at (eqb (drilled_record start m).number n) (drilled_record start m).number n (drilled_record start m).text
+    text (text_under n (records_from start (m + 1) k)) (IsTextFor start m (suc k) n text) refl at
     (λ same first.
     let number : m ≡ n = sym (number_of start m) ∙ same in
     record { least = omega (arith, number); below = omega (arith, number); is = sym first ∙ text_is start m ∙ ap (text_for start) number })
@@ -75,14 +77,14 @@ given_from start n m (suc k) text at =
     let rest = given_from start n (m + 1) k text later in
     record { least = omega (arith, rest.least); below = omega (arith, rest.below); is = rest.is })
 
-pub text_given : (start count n : ℕ) (text : List ℕ) → text_of n (records_from start 1 count) ≡ Some text → IsTextFor start 1 count n text
+pub text_given : (start count n : ℕ) (text : List ℕ) → text_under n (records_from start 1 count) ≡ Some text → IsTextFor start 1 count n text
 text_given start count n text at = given_from start n 1 count text at
 
 -- ---- those that pass
 
 passing_at : (a b : Bool) (keep : ℕ → Bool) (row : RecordRow) (records : List RecordRow) (n : ℕ) → keep row.number ≡ a → eqb row.number n ≡ b
-    → text_of n (passing keep records) ≡ cond (keep n) (text_of n records) None
-    → text_of n (cond a (row ∷ passing keep records) (passing keep records)) ≡ cond (keep n) (cond b (Some row.text) (text_of n records)) None
+    → text_under n (passing keep records) ≡ cond (keep n) (text_under n records) None
+    → text_under n (cond a (row ∷ passing keep records) (passing keep records)) ≡ cond (keep n) (cond b (Some row.text) (text_under n records)) None
 passing_at true true keep row records n kept is rest =
     let passes : keep n ≡ true = ap keep (sym (eqb-true row.number n is)) ∙ kept in
     rw (is, passes) refl
@@ -97,7 +99,7 @@ either_same true text = refl
 either_same false text = refl
 
 -- the text under a number, where it passes
-pub text_passing : (keep : ℕ → Bool) (records : List RecordRow) (n : ℕ) → text_of n (passing keep records) ≡ cond (keep n) (text_of n records) None
+pub text_passing : (keep : ℕ → Bool) (records : List RecordRow) (n : ℕ) → text_under n (passing keep records) ≡ cond (keep n) (text_under n records) None
 text_passing keep [] n = either_same (keep n) None
 text_passing keep (row ∷ records) n = passing_at (keep row.number) (eqb row.number n) keep row records n refl refl (text_passing keep records n)
 
@@ -106,9 +108,9 @@ held_at : (b : Bool) (first text : List ℕ) (others : Option (List ℕ)) (held 
 held_at true first text others held at rest = refl
 held_at false first text others held at rest = rest at
 
-pub held_by_text : (n : ℕ) (records : List RecordRow) (text : List ℕ) → text_of n records ≡ Some text → is_held n records ≡ true
+pub held_by_text : (n : ℕ) (records : List RecordRow) (text : List ℕ) → text_under n records ≡ Some text → is_held n records ≡ true
 held_by_text n [] text at = absurd cc
-held_by_text n (row ∷ records) text at = held_at (eqb row.number n) row.text text (text_of n records) (is_held n records) at (held_by_text n records text)
+held_by_text n (row ∷ records) text at = held_at (eqb row.number n) row.text text (text_under n records) (is_held n records) at (held_by_text n records text)
 
 -- ---- multiples of 5
 
@@ -152,7 +154,9 @@ none_at false b x multiple less least = refl
 pub left_none : (start m k : ℕ) → 1 ≤ m → left_below 0 (records_from start m k) ≡ records_from start m k
 left_none start m zero least = refl
 left_none start m (suc k) least =
-    let first : is_left 0 (drilled_record start m).number ≡ true = none_at (eqb ((drilled_record start m).number % 5) 0) (leb (drilled_record start m).number 0) (drilled_record start m).number refl refl (omega (arith, number_of start m)) in
+    let first : is_left 0 (drilled_record start m).number ≡ true =
+    none_at (eqb ((drilled_record start m).number % 5) 0) (leb (drilled_record start m).number 0)
+    (drilled_record start m).number refl refl (omega (arith, number_of start m)) in
     rw first (ap (λ (rows : List RecordRow). drilled_record start m ∷ rows) (left_none start (m + 1) k (omega arith)))
 
 -- the next multiple is held

@@ -1,14 +1,14 @@
 -- The drill: a search of drilled molecules page by page, with records removed behind the first
 -- page.
---     IsHeld start count n mol         the molecule is held under the number n at first
---     IsLeft start count n mol         it is held there behind the removal
---     AreHits start count query hits   the hits that are listed
---     fold hits                        a number that each hit's place and each number of its key
---                                      changes
---     drill_line count hits            the line
---     IsDrill start count line         the line of the drill
---     AppendsDrill start count before after     the line is appended
---     OneDrill                         a start and a count have at most one line
+--     HoldsDrilled start count n mol         the molecule is held under the number n at first
+--     IsLeft start count n mol               it is held there behind the removal
+--     AreHits start count query hits         the hits that are listed
+--     fold hits                              a number that each hit's place and each number of its
+--                                            key changes
+--     drill_line count hits                  the line
+--     IsDrill start count line               the line of the drill
+--     AppendsDrill start count before after  the line is appended
+--     OneDrill                               a start and a count have at most one line
 use Rattle.std.specs.Prelude.{◌≡◌, ◌≢◌, ℕ, ◌+◌, ◌*◌, ◌%◌, ◌<◌, ◌≤◌, List, [], ◌∷◌, ◌++◌, length, sum, codes, decimal}
 use Rattle.mk_text.specs.Rising.{AreFirst, IsRisingListOfAll, place_behind}
 use Rattle.mk_model.specs.Keys.{Remains}
@@ -20,14 +20,14 @@ use Rattle.mk_drill.specs.DrillQuery.{IsDrillQuery}
 -- ---- what is held
 
 -- the drill's molecules are held under the numbers from 1 to their count
-pub record IsHeld (start count n : ℕ) (mol : Molecule) : Type 0 where
+pub record HoldsDrilled (start count n : ℕ) (mol : Molecule) : Type 0 where
   pub from_one : 1 ≤ n
   pub to_count : n ≤ count
   pub drilled : IsDrilled start n mol
 
 -- behind the removal those are left whose number is no multiple of 5
 pub record IsLeft (start count n : ℕ) (mol : Molecule) : Type 0 where
-  pub held : IsHeld start count n mol
+  pub held : HoldsDrilled start count n mol
   pub no_multiple : n % 5 ≢ 0
 
 -- ---- the hits
@@ -38,7 +38,7 @@ pub record AreHits (start count : ℕ) (query : QueryView) (hits : List (List �
   pub page : List (List ℕ)
   pub others : List (List ℕ)
   pub whole : hits ≡ page ++ others
-  pub first : AreFirst 100 (Remains (IsHeld start count) query []) page
+  pub first : AreFirst 100 (Remains (HoldsDrilled start count) query []) page
   pub ended : length page < 100 → others ≡ []
   pub behind : length page ≡ 100 → IsRisingListOfAll (Remains (IsLeft start count) query (place_behind [] page)) others
 

@@ -15,7 +15,7 @@ use Rattle.mk_model.specs.Molecules.{Molecule}
 use Rattle.mk_outside.specs.declared.tables.RecordRow.{RecordRow}
 use Rattle.mk_ctab.specs.declared.raw.RawTable.{RawTable}
 use Rattle.mk_ctab.specs.TableSpelling.{CanBeSpelt, spelling}
-use Rattle.mk_mol.specs.FirstFault.{PassesAll}
+use Rattle.mk_mol.specs.FirstFault.{MeetsAllChecks}
 use Rattle.mk_rows.specs.declared.by_number.Numbered.{Numbered}
 use Rattle.mk_library.specs.Library.{LibraryView}
 use Rattle.mk_library.specs.Records.{text_bytes}
@@ -33,7 +33,7 @@ record_text table = kept_lines (lines_of (drilled_text table))
 -- It can be written, its text is short, and it passes the checks of a molecule.
 pub record IsLoadable (table : RawTable) : Type 0 where
   pub can : CanBeSpelt table
-  pub passes : PassesAll table
+  pub passes : MeetsAllChecks table
   pub short : length (drilled_text table) ≤ 2523
   pub kept_short : length (record_text table) ≤ 2524
 

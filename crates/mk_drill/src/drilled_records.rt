@@ -4,7 +4,7 @@ ghost use Rattle.mk_library.specs.declared.refusal.LoadRefusal.TheVariants as re
 ghost use Rattle.mk_library.specs.Records.{is_held};
 ghost use Rattle.mk_outside.specs.Rows.{without};
 ghost use Rattle.mk_outside.specs.Tables.{record_number};
-ghost use Rattle.mk_drill.specs.Drill.{IsHeld, IsLeft};
+ghost use Rattle.mk_drill.specs.Drill.{HoldsDrilled, IsLeft};
 ghost use Rattle.mk_drill.specs.DrilledRecords.{HoldsExactly, IsCounted, IsLoadable, drilled_records, drilled_text, left_below, next_record};
 
 use crate::draws::Draws;
@@ -19,7 +19,7 @@ use std::alloc::Global;
 pub fn drilled_library(alloc: Global, start: u32, count: u32) -> Result<Library, Memory>
     requires { count ≤ 10000 }
     ensures records { IfOk result (λ library. library.records ≡ drilled_records start count) }
-    ensures held { IfOk result (λ library. HoldsExactly library.rows (IsHeld start count)) }
+    ensures held { IfOk result (λ library. HoldsExactly library.rows (HoldsDrilled start count)) }
 {
     one_filled_molecule();
     let mut library = Library::new(alloc);

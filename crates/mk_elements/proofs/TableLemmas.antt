@@ -7,7 +7,7 @@ use Rattle.std.proofs.lemmas.Nat.{div-mul-add, mod-mul-add}
 use Rattle.std.specs.Prelude.{◌&&◌, ◌||◌, ◌⊎◌, IfSome, slice_get}
 use Rattle.std.proofs.lemmas.Bool.{and_parts, or_cases, eqb-true, leb-true, ltb-false, eqb-false, ne_eqb}
 use Rattle.mk_elements.specs.Letters.{at_letters, by_letters, columns_of}
-use Rattle.mk_elements.specs.Symbols.{symbols, IsSymbol, Names}
+use Rattle.mk_elements.specs.Symbols.{symbols, IsSymbol, NamesElement}
 use Rattle.mk_elements.specs.declared.symbols.TheConstants.{NUMBERS, SYMBOLS}
 
 -- ---- lists of bytes that are equal
@@ -82,7 +82,7 @@ unfolding all_name is_symbol is_heavy letters same symbols
 table_names = refl
 
 -- what each number of such a list names
-all_name-at : (i k : ℕ) (zs : List ℕ) → all_name symbols i zs ≡ true → k < length zs → get_or zs k 0 ≢ 0 → Names (letters (65 + (i + k) / 27) (96 + (i + k) % 27)) (get_or zs k 0)
+all_name-at : (i k : ℕ) (zs : List ℕ) → all_name symbols i zs ≡ true → k < length zs → get_or zs k 0 ≢ 0 → NamesElement (letters (65 + (i + k) / 27) (96 + (i + k) % 27)) (get_or zs k 0)
 unfolding all_name
 all_name-at i k [] h below other = absurd (omega arith)
 all_name-at i zero (z ∷ zs) h below other =
@@ -128,7 +128,7 @@ at_letters-entry first second z h = by_tests (ltb first 65) (ltb 90 first) (ltb 
         }
 
 -- the letters of an entry name its number
-letters-name : (first second z : ℕ) → 96 ≤ second → at_letters first second ≡ Some z → Names (letters first second) z
+letters-name : (first second z : ℕ) → 96 ≤ second → at_letters first second ≡ Some z → NamesElement (letters first second) z
 letters-name first second z low h =
     let e = at_letters-entry first second z h in
     let c : second - 96 < 27 = omega (arith, e.column) in
@@ -139,13 +139,13 @@ letters-name first second z low h =
     rw (row, column, e.number) at there
 
 -- what the letters give is what they name
-pub by_letters-names : (s : List ℕ) (z : ℕ) → by_letters s ≡ Some z → Names s z
+pub by_letters-names : (s : List ℕ) (z : ℕ) → by_letters s ≡ Some z → NamesElement s z
 unfolding by_letters letters
 by_letters-names [] z h = cc
 by_letters-names (first ∷ []) z h = letters-name first 96 z (omega arith) h
 by_letters-names (first ∷ second ∷ []) z h = by_test (ltb second 97) refl h
   where
-    by_test : (b : Bool) → ltb second 97 ≡ b → cond b None (at_letters first second) ≡ Some z → Names (first ∷ second ∷ []) z
+    by_test : (b : Bool) → ltb second 97 ≡ b → cond b None (at_letters first second) ≡ Some z → NamesElement (first ∷ second ∷ []) z
     by_test true e h = cc
     by_test false e h =
         let small = ltb-false second 97 e in
@@ -194,7 +194,7 @@ unfolding by_letters at_letters
 heavy_read = (refl, refl)
 
 -- what bytes name is what their letters give
-pub Names-by_letters : (s : List ℕ) (z : ℕ) → Names s z → by_letters s ≡ Some z
+pub Names-by_letters : (s : List ℕ) (z : ℕ) → NamesElement s z → by_letters s ≡ Some z
 Names-by_letters s z names =
     ⊎_elim
     (λ is.
@@ -239,7 +239,7 @@ slice_get-below (y ∷ ys) zero x is = omega arith
 slice_get-below (y ∷ ys) (suc k) x is = omega (arith, slice_get-below ys k x is)
 
 -- what bytes name is an element of the table
-Names-in_range : (s : List ℕ) (z : ℕ) → Names s z → (1 ≤ z) × (z ≤ 118)
+Names-in_range : (s : List ℕ) (z : ℕ) → NamesElement s z → (1 ≤ z) × (z ≤ 118)
 Names-in_range s z names =
     ⊎_elim (λ is. (is.0, omega (arith, how_many, slice_get-below symbols (z - 1) s is.1, is.0)))
     (λ is. (omega (arith, is.0), omega (arith, is.0)))

@@ -1,7 +1,7 @@
 -- The elements' symbols, and the bytes that name an element.
---     symbols                  the 118 symbols by rising atomic number
---     IsSymbol symbol z        the bytes are the symbol of element z
---     Names symbol z           the bytes name element z
+--     symbols                the 118 symbols by rising atomic number
+--     IsSymbol symbol z      the bytes are the symbol of element z
+--     NamesElement symbol z  the bytes name element z
 use Rattle.std.specs.Prelude.{◌≡◌, ◌≤◌, ◌-◌, ◌⊎◌, ℕ, List, [], ◌∷◌, Some, codes, map, slice_get}
 
 -- the symbols by rising atomic number, a line for each period of the table
@@ -26,5 +26,5 @@ abbrev pub IsSymbol : List ℕ → ℕ → Type 0
 IsSymbol symbol z = (1 ≤ z) × (slice_get symbols (z - 1) ≡ Some symbol)
 
 -- the bytes name element z: they are its symbol, or z is hydrogen and they are `D` or `T`
-abbrev pub Names : List ℕ → ℕ → Type 0
-Names symbol z = IsSymbol symbol z ⊎ ((z ≡ 1) × ((symbol ≡ codes "D") ⊎ (symbol ≡ codes "T")))
+abbrev pub NamesElement : List ℕ → ℕ → Type 0
+NamesElement symbol z = IsSymbol symbol z ⊎ ((z ≡ 1) × ((symbol ≡ codes "D") ⊎ (symbol ≡ codes "T")))

@@ -1,6 +1,6 @@
 // The symbols: one text from numbers to symbols, and one table from letters to numbers.
 ghost use Rattle.std.specs.Prelude.{◌≡◌, ◌≤◌, ◌<◌, ◌+◌, ◌*◌, ◌↔◌, ℕ, IfSome, Some, length, slice_index};
-ghost use Rattle.mk_elements.specs.Symbols.{IsSymbol, Names};
+ghost use Rattle.mk_elements.specs.Symbols.{IsSymbol, NamesElement};
 ghost use Rattle.mk_elements.specs.Letters.{at_letters, by_letters, columns_of};
 
 // Two columns for each element, by rising atomic number. A symbol of one letter has a blank behind
@@ -63,7 +63,7 @@ fn columns_of(text: &'static [u8], z: u8) -> &'static [u8]
 
 /// Gives the element that the bytes name: the one with this symbol, and hydrogen for `D` and `T`.
 pub fn number_of(symbol: &[u8]) -> Option<u8>
-    ensures names { (z : ℕ) → (result ≡ Some z) ↔ Names symbol.now z }
+    ensures names { (z : ℕ) → (result ≡ Some z) ↔ NamesElement symbol.now z }
     ensures in_range { IfSome result (λ z. (1 ≤ z) × (z ≤ 118)) }
 {
     by_letters(symbol)

@@ -12,7 +12,7 @@ use Rattle.mk_model.specs.Tests.{IsBondInRange, IsTestInRange}
 use Rattle.mk_model.specs.Templates.{TemplateView, joins, slot_atom}
 use Rattle.mk_model.specs.Queries.{members_of}
 use Rattle.mk_model.specs.Sizes.{IsSizing, size_by}
-use Rattle.mk_model.specs.QueryFits.{AreApart, AreJoined, FitsPoints, HasClosedBlocks, HasFittingPoints, HasFreePoints, HasPairsOnce, HasRisingSlots, HasSitesApart, IsAtomOf, IsClosed, IsInRange, IsSlotOf, NamesItsNeighbours, NamesNeighbours, QueryFits}
+use Rattle.mk_model.specs.QueryFits.{AreApart, AreNeighbours, FitsPoints, HasClosedBlocks, HasFittingPoints, HasFreePoints, HasPairsOnce, HasRisingSlots, HasSitesApart, IsAtomOf, HoldsItsBlock, IsInRange, IsSlotOf, NamesItsNeighbours, NamesNeighbours, QueryFits}
 use Rattle.mk_model.proofs.ForCallers.{none_in_itself, ranked_by_size}
 use Rattle.mk_model.proofs.ForCallers.{NoPair, all_1, all_2, all_3, all_same, edge, once_by, pairs_none, pairs_one, pairs_two}
 use Rattle.mk_model.proofs.OnLiterals.{atom, bond, group, plain_group, range, single, site_atom, then_query, two_sites}
@@ -38,7 +38,15 @@ single_pairs z = record { differ = All-nil (λ b. b.first ≢ b.second); once = 
 
 element : (z : ℕ) → 1 ≤ z → z ≤ 118 → IsTestInRange (atom z)
 unfolding atom
-element z least most = record { kind = (least, most); charge = search rules; radical = omega arith; hydrogens = omega arith; ring_bonds = search rules; no_single_ring_bond = λ e. (cc); substitution = search rules }
+element z least most = record {
+  kind = (least, most);
+  charge = search rules;
+  radical = omega arith;
+  hydrogens = omega arith;
+  ring_bonds = search rules;
+  no_single_ring_bond = λ e. (cc);
+  substitution = search rules;
+}
 
 any : IsTestInRange site_atom
 unfolding site_atom
@@ -65,8 +73,11 @@ unfolding two_sites
 root_range = record {
   tests = all_3 IsTestInRange (atom 6) site_atom site_atom (element 6 (omega arith) (omega arith)) any any;
   bond_tests = all_2 (λ (b : QueryBond). IsBondInRange b.kind b.topology) (bond 1 2) (bond 1 3) (asked 1 2) (asked 1 3);
-  ends = all_2 (λ (b : QueryBond). IsAtomOf (two_sites 1 2) b.first × IsAtomOf (two_sites 1 2) b.second) (bond 1 2) (bond 1 3) (ends 2 (omega arith) (omega arith)) (ends 3 (omega arith) (omega arith));
-  slots = all_2 (IsSlotOf (two_sites 1 2)) (Site 2 1 1 0) (Site 3 2 1 0) (site 2 1 (omega arith) (omega arith) (omega arith) (omega arith)) (site 3 2 (omega arith) (omega arith) (omega arith) (omega arith));
+  ends = all_2 (λ (b : QueryBond). IsAtomOf (two_sites 1 2) b.first × IsAtomOf (two_sites 1 2) b.second) (bond 1 2)
+      (bond 1 3) (ends 2 (omega arith) (omega arith)) (ends 3 (omega arith) (omega arith));
+  slots = all_2 (IsSlotOf (two_sites 1 2)) (Site 2 1 1 0) (Site 3 2 1 0)
+      (site 2 1 (omega arith) (omega arith) (omega arith) (omega arith))
+      (site 3 2 (omega arith) (omega arith) (omega arith) (omega arith));
   points = All-nil (IsAtomOf (two_sites 1 2));
   few_points = omega arith;
 }
@@ -98,11 +109,11 @@ root_neighbours =
     (record { some = λ e. omega (arith, e); differ = λ e. omega (arith, e); neighbours = λ y. (λ found. inl (joined 2 y found.0 (omega arith) found.1 found.2), λ named. first y 0 named refl) })
     (record { some = λ e. omega (arith, e); differ = λ e. omega (arith, e); neighbours = λ y. (λ found. inl (joined 3 y found.0 (omega arith) found.1 found.2), λ named. second y 0 named refl) })
   where
-    first : (y none : ℕ) → (y ≡ 1) ⊎ ((y ≡ none) × (none ≢ 0)) → none ≡ 0 → AreJoined (two_sites 1 2) 2 y
+    first : (y none : ℕ) → (y ≡ 1) ⊎ ((y ≡ none) × (none ≢ 0)) → none ≡ 0 → AreNeighbours (two_sites 1 2) 2 y
     first y none (inl same) zero_is = (bond 1 2, (0, omega arith, refl), rw same refl)
     first y none (inr other) zero_is = absurd (other.1 zero_is)
 
-    second : (y none : ℕ) → (y ≡ 1) ⊎ ((y ≡ none) × (none ≢ 0)) → none ≡ 0 → AreJoined (two_sites 1 2) 3 y
+    second : (y none : ℕ) → (y ≡ 1) ⊎ ((y ≡ none) × (none ≢ 0)) → none ≡ 0 → AreNeighbours (two_sites 1 2) 3 y
     second y none (inl same) zero_is = (bond 1 3, (1, omega arith, refl), rw same refl)
     second y none (inr other) zero_is = absurd (other.1 zero_is)
 
@@ -126,7 +137,7 @@ root_apart slot other at at' =
 
 root_blocks : HasClosedBlocks (two_sites 1 2)
 unfolding two_sites
-root_blocks = all_2 (IsClosed (two_sites 1 2)) (Site 2 1 1 0) (Site 3 2 1 0) tt tt
+root_blocks = all_2 (HoldsItsBlock (two_sites 1 2)) (Site 2 1 1 0) (Site 3 2 1 0) tt tt
 
 root_rises : HasRisingSlots (two_sites 1 2)
 unfolding two_sites
@@ -228,7 +239,8 @@ fits = record {
     templates = all_3 IsInRange (two_sites 1 2) (single 9) (single 17) root_range (single_range 9 (omega arith) (omega arith)) (single_range 17 (omega arith) (omega arith));
     members = All-cons (λ (one : Group). All (λ u. (1 ≤ u) × (u < 3)) one.members) (group (1 ∷ []) 2 (range 0 1)) (group (2 ∷ []) 0 (range 1 1) ∷ replicate 30 (plain_group []))
         (all_1 (λ u. (1 ≤ u) × (u < 3)) 1 (omega arith, omega arith))
-        (All-cons (λ (one : Group). All (λ u. (1 ≤ u) × (u < 3)) one.members) (group (2 ∷ []) 0 (range 1 1)) (replicate 30 (plain_group [])) (all_1 (λ u. (1 ≤ u) × (u < 3)) 2 (omega arith, omega arith))
+        (All-cons (λ (one : Group). All (λ u. (1 ≤ u) × (u < 3)) one.members) (group (2 ∷ []) 0 (range 1 1))
+        (replicate 30 (plain_group [])) (all_1 (λ u. (1 ≤ u) × (u < 3)) 2 (omega arith, omega arith))
         (all_same (λ (one : Group). All (λ u. (1 ≤ u) × (u < 3)) one.members) (plain_group []) 30 (All-nil (λ u. (1 ≤ u) × (u < 3)))));
   };
   pairs_once = all_3 HasPairsOnce (two_sites 1 2) (single 9) (single 17) root_pairs (single_pairs 9) (single_pairs 17);
@@ -236,13 +248,14 @@ fits = record {
   neighbours = all_3 NamesNeighbours (two_sites 1 2) (single 9) (single 17) root_neighbours (no_slots 9 (NamesItsNeighbours (single 9))) (no_slots 17 (NamesItsNeighbours (single 17)));
   points_free = all_3 HasFreePoints (two_sites 1 2) (single 9) (single 17) root_points (single_points 9) (single_points 17);
   sites_apart = all_3 HasSitesApart (two_sites 1 2) (single 9) (single 17) root_apart (single_apart 9) (single_apart 17);
-  blocks_closed = all_3 HasClosedBlocks (two_sites 1 2) (single 9) (single 17) root_blocks (no_slots 9 (IsClosed (single 9))) (no_slots 17 (IsClosed (single 17)));
+  blocks_closed = all_3 HasClosedBlocks (two_sites 1 2) (single 9) (single 17) root_blocks (no_slots 9 (HoldsItsBlock (single 9))) (no_slots 17 (HoldsItsBlock (single 17)));
   no_cycle = none_in_itself then_query sizes (ranked_by_size then_query sizes adds_up);
   points_fit = points_fit;
   small_root = record { root = two_sites 1 2; at = refl; some = root_atom; size = sizes; adds_up = adds_up; small = small };
   few_members = record { all_groups = refl; few = omega arith };
   members_once = record {
-    rise = All-cons (λ (one : Group). AllPairs (λ u later. u < later) one.members) (group (1 ∷ []) 2 (range 0 1)) (group (2 ∷ []) 0 (range 1 1) ∷ replicate 30 (plain_group [])) (pairs_one (λ u later. u < later) 1)
+    rise = All-cons (λ (one : Group). AllPairs (λ u later. u < later) one.members) (group (1 ∷ []) 2 (range 0 1))
+        (group (2 ∷ []) 0 (range 1 1) ∷ replicate 30 (plain_group [])) (pairs_one (λ u later. u < later) 1)
         (All-cons (λ (one : Group). AllPairs (λ u later. u < later) one.members) (group (2 ∷ []) 0 (range 1 1)) (replicate 30 (plain_group [])) (pairs_one (λ u later. u < later) 2)
         (all_same (λ (one : Group). AllPairs (λ u later. u < later) one.members) (plain_group []) 30 (pairs_none (λ u later. u < later))));
     one_group = λ g h u least least' at at'. in_group g u least at ∙ sym (in_group h u least' at');

@@ -16,7 +16,9 @@ use Rattle.mk_model.specs.Tests.{IsBondInRange, IsTestInRange}
 use Rattle.mk_model.proofs.ForCallers.{all_mapped}
 
 -- a molecule of atoms that are elements and of the bonds of a graph
-pub molecule-built : (count : ℕ) (atoms : List Atom) (drawn : List Edge) (bonds : List MolBond) → count ≡ length atoms → length atoms ≤ 512 → length drawn ≤ 9999 → All (λ atom. IsElement atom.element) atoms → IsSimple count drawn → edges bonds ≡ drawn
+pub molecule-built : (count : ℕ) (atoms : List Atom) (drawn : List Edge) (bonds : List MolBond) → count ≡ length atoms
+    → length atoms ≤ 512 → length drawn ≤ 9999 → All (λ atom. IsElement atom.element) atoms → IsSimple count drawn
+    → edges bonds ≡ drawn
     → ((b : ℕ) (bond : MolBond) → slice_get bonds b ≡ Some bond → HasMarks drawn b bond) → IsMolecule (record { written = count; atoms = atoms; bonds = bonds })
 molecule-built count atoms drawn bonds is_count few few_bonds elements simple same marks = record {
   written = omega arith;
@@ -28,7 +30,10 @@ molecule-built count atoms drawn bonds is_count few few_bonds elements simple sa
 }
 
 -- a graph but for its marks, of atoms and bonds whose tests are in range
-pub graph-built : (atoms : List GraphAtom) (bonds : List GraphBond) → length atoms ≤ 512 → All (λ atom. IsTestInRange atom.test) atoms → All (λ bond. IsBondInRange bond.kind bond.topology) bonds → IsSimple (length atoms) (graph_edges bonds) → All (λ edge. edge.first < edge.second) (graph_edges bonds) → AllPairs IsEdgeBefore (graph_edges bonds) → IsUnmarked (record { atoms = atoms; bonds = bonds })
+pub graph-built : (atoms : List GraphAtom) (bonds : List GraphBond) → length atoms ≤ 512
+    → All (λ atom. IsTestInRange atom.test) atoms → All (λ bond. IsBondInRange bond.kind bond.topology) bonds
+    → IsSimple (length atoms) (graph_edges bonds) → All (λ edge. edge.first < edge.second) (graph_edges bonds)
+    → AllPairs IsEdgeBefore (graph_edges bonds) → IsUnmarked (record { atoms = atoms; bonds = bonds })
 graph-built atoms bonds few tests bond_tests simple lower_first order = record {
   few = few;
   tests = tests;

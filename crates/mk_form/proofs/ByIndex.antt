@@ -41,11 +41,13 @@ any_no n at lines le lt =
     record { counted = (omega arith, omega arith); stop = any_few n (drop at lines) (omega (arith, length-drop at lines)) ∙ ap (Stop false) (sym none) }
 
 -- a stop of the first of two parts is a stop of both
-pub stops_first : {L X V : Type 0} (lines : List L) (named : Bool) (k : ℕ) (reading : Reading L X) (f : X → List L → Reading L V) → StopsAtLine lines named k reading → StopsAtLine lines named k (and_then reading f)
+pub stops_first : {L X V : Type 0} (lines : List L) (named : Bool) (k : ℕ) (reading : Reading L X)
+    (f : X → List L → Reading L V) → StopsAtLine lines named k reading → StopsAtLine lines named k (and_then reading f)
 stops_first lines named k reading f h = record { counted = h.counted; stop = ap (λ r. and_then r f) h.stop }
 
 -- and where the first takes lines, the second goes on behind them
-pub takes_first : {L X V : Type 0} (lines : List L) (count : ℕ) (x : X) (reading : Reading L X) (f : X → List L → Reading L V) → TakesLines lines count x reading → and_then reading f ≡ f x (drop count lines)
+pub takes_first : {L X V : Type 0} (lines : List L) (count : ℕ) (x : X) (reading : Reading L X)
+    (f : X → List L → Reading L V) → TakesLines lines count x reading → and_then reading f ≡ f x (drop count lines)
 takes_first lines count x reading f h = ap (λ r. and_then r f) h.took
 
 -- ---- lines to the end that all pass a test: a loop over them knows that what is left to read is what was to be read
@@ -75,7 +77,9 @@ module _ {L V : Type 0} (lines : List L) (j k : ℕ) (named also : Bool) (first 
   farther_second le =
       let left = length-drop (j - 1) lines in
       let right = length-drop (k - 1) lines in
-      let test : ltb (length (drop (j - 1) lines)) (length (drop (k - 1) lines)) ≡ false = le-ltb (length (drop (j - 1) lines)) (length (drop (k - 1) lines)) (omega (arith, first.0, first.1, second.0, second.1)) in
+      let test : ltb (length (drop (j - 1) lines)) (length (drop (k - 1) lines)) ≡ false =
+      le-ltb (length (drop (j - 1) lines)) (length (drop (k - 1) lines))
+      (omega (arith, first.0, first.1, second.0, second.1)) in
       rw test refl
 
   -- the second is nearer
@@ -83,5 +87,7 @@ module _ {L V : Type 0} (lines : List L) (j k : ℕ) (named also : Bool) (first 
   farther_first lt =
       let left = length-drop (j - 1) lines in
       let right = length-drop (k - 1) lines in
-      let test : ltb (length (drop (j - 1) lines)) (length (drop (k - 1) lines)) ≡ true = lt-ltb (length (drop (j - 1) lines)) (length (drop (k - 1) lines)) (omega (arith, first.0, first.1, second.0, second.1)) in
+      let test : ltb (length (drop (j - 1) lines)) (length (drop (k - 1) lines)) ≡ true =
+      lt-ltb (length (drop (j - 1) lines)) (length (drop (k - 1) lines))
+      (omega (arith, first.0, first.1, second.0, second.1)) in
       rw test refl

@@ -67,12 +67,15 @@ pub shows-with_lines : {L V : Type 0} {b : L → Bool} {t : Bool} {p : Part L V}
 shows-with_lines s = record { text = λ lines v h. s.text lines v.0 h.is; live = s.live; due = s.due }
 
 -- a form shows what each text and each place of a name in it shows
-pub shows-form : {L V : Type 0} (b : L → Bool) (t : Bool) (Is : List L → V → Type 0) (Due : List L → Type 0) (reader : List L → Reading L V) → ((lines : List L) (v : V) → Is lines v → FirstIs b t lines) → ((lines : List L) → Due lines → FirstIs b t lines) → Shows b t (form Is Due reader)
+pub shows-form : {L V : Type 0} (b : L → Bool) (t : Bool) (Is : List L → V → Type 0) (Due : List L → Type 0)
+    (reader : List L → Reading L V) → ((lines : List L) (v : V) → Is lines v → FirstIs b t lines)
+    → ((lines : List L) → Due lines → FirstIs b t lines) → Shows b t (form Is Due reader)
 shows-form b t Is Due reader text due = record { text = text; live = λ lines h. first_of_front b t lines h.0 (text (lines ++ h.0) h.1 h.2); due = due }
 
 -- ---- the choice
 
-module _ {L V : Type 0} {says : L → Bool} {Follows : List L → Type 0} {b : L → Bool} {p q : Part L V} (e : Exact says Follows p) (f : Exact says Follows q) (s : Shows b true p) (t : Shows b false q) where
+module _ {L V : Type 0} {says : L → Bool} {Follows : List L → Type 0} {b : L → Bool} {p q : Part L V}
+    (e : Exact says Follows p) (f : Exact says Follows q) (s : Shows b true p) (t : Shows b false q) where
   -- a text of one of the two
   abbrev Is : List L → V → Type 0
   Is = (choice b p q).is
@@ -153,8 +156,26 @@ module _ {L V : Type 0} {says : L → Bool} {Follows : List L → Type 0} {b : L
 
   -- no other line is named, by what the test says
   named_at : (u : Bool) (l : L) (lines rest : List L) → cond u (p.read (l ∷ lines)) (q.read (l ∷ lines)) ≡ Stop true rest → NamedAt says Due (l ∷ lines) rest
-  named_at true l lines rest h = let k = e.named (l ∷ lines) rest h in record { front = k.front; line = k.line; behind = k.behind; whole = k.whole; rest_is = k.rest_is; due = inl k.due; says_so = k.says_so }
-  named_at false l lines rest h = let k = f.named (l ∷ lines) rest h in record { front = k.front; line = k.line; behind = k.behind; whole = k.whole; rest_is = k.rest_is; due = inr k.due; says_so = k.says_so }
+  named_at true l lines rest h = let k = e.named (l ∷ lines) rest h in
+      record {
+        front = k.front;
+        line = k.line;
+        behind = k.behind;
+        whole = k.whole;
+        rest_is = k.rest_is;
+        due = inl k.due;
+        says_so = k.says_so;
+      }
+  named_at false l lines rest h = let k = f.named (l ∷ lines) rest h in
+      record {
+        front = k.front;
+        line = k.line;
+        behind = k.behind;
+        whole = k.whole;
+        rest_is = k.rest_is;
+        due = inr k.due;
+        says_so = k.says_so;
+      }
 
   -- no other line is named
   choice_named : (lines rest : List L) → read lines ≡ Stop true rest → NamedAt says Due lines rest

@@ -28,7 +28,9 @@ pub record StopOf {L V : Type 0} (x y : Reading L V) (n : Bool) (rest : List L) 
   pub near : length rest ≤ length other
 
 -- which stop it is, by what the comparison says
-farther_stop_at : {L V : Type 0} (t : Bool) (n m : Bool) (a b : List L) (k : Bool) (rest : List L) (x y : Reading L V) → x ≡ Stop n a → y ≡ Stop m b → ltb (length a) (length b) ≡ t → cond t x y ≡ Stop k rest → StopOf x y k rest ⊎ StopOf y x k rest
+farther_stop_at : {L V : Type 0} (t : Bool) (n m : Bool) (a b : List L) (k : Bool) (rest : List L) (x y : Reading L V)
+    → x ≡ Stop n a → y ≡ Stop m b → ltb (length a) (length b) ≡ t → cond t x y ≡ Stop k rest → StopOf x y k rest
+    ⊎ StopOf y x k rest
 farther_stop_at true n m a b k rest x y ex ey t e =
     let lt = ltb-true (length a) (length b) t in
     let both = sym ex ∙ e in

@@ -42,10 +42,20 @@ lives_are_fronts e c lines = (c.completed lines, front_is_live e lines)
 -- where what is live are fronts, the part with fronts is read exactly
 pub exact-plain : {L V : Type 0} {says : L → Bool} {Follows : List L → Type 0} {p : Part L V} → Exact says Follows p → Completes p → Exact says Follows (plain p)
 exact-plain {p} e c =
-    exact-in_words (record { is_to = λ lines v h. h; is_from = λ lines v h. h; live_to = c.completed; live_from = front_is_live e; due_to = λ lines h. h; due_from = λ lines h. h; reads = λ lines. refl }) e
+    exact-in_words (record {
+      is_to = λ lines v h. h;
+      is_from = λ lines v h. h;
+      live_to = c.completed;
+      live_from = front_is_live e;
+      due_to = λ lines h. h;
+      due_from = λ lines h. h;
+      reads = λ lines. refl;
+    }) e
 
 -- the part is this form, in other words, and what is live in it are its fronts
-pub exact-form : {L V : Type 0} {says : L → Bool} {Follows : List L → Type 0} {p : Part L V} {Is : List L → V → Type 0} {Due : List L → Type 0} → Exact says Follows p → Completes p → SameForm p Is Due → Exact says Follows (form Is Due p.read)
+pub exact-form : {L V : Type 0} {says : L → Bool} {Follows : List L → Type 0} {p : Part L V} {Is : List L → V → Type 0}
+    {Due : List L → Type 0} → Exact says Follows p → Completes p → SameForm p Is Due
+    → Exact says Follows (form Is Due p.read)
 exact-form {p} {Is} e c w =
     exact-in_words {p = p} (record {
       is_to = w.is_to;
@@ -58,7 +68,9 @@ exact-form {p} {Is} e c w =
     }) e
 
 -- what is live in a form are its fronts
-pub completes-form : {L V : Type 0} {says : L → Bool} {Follows : List L → Type 0} {Is : List L → V → Type 0} {Due : List L → Type 0} {read : List L → Reading L V} → Exact says Follows (form Is Due read) → Completes (form Is Due read)
+pub completes-form : {L V : Type 0} {says : L → Bool} {Follows : List L → Type 0} {Is : List L → V → Type 0}
+    {Due : List L → Type 0} {read : List L → Reading L V} → Exact says Follows (form Is Due read)
+    → Completes (form Is Due read)
 completes-form e = record { starts = goes_on e; completed = λ lines h. h }
 
 -- a front of the plain part is a front
@@ -156,8 +168,19 @@ module _ {L X U : Type 0} (b : L → Bool) {p : Part L X} {q : Part L U} (c : Co
     | inl m ↦
         let one = c.completed h.back m in
         let two = d.completed [] d.starts in
-        let whole : lines ++ (one.0 ++ two.0) ≡ (h.front ++ (h.back ++ one.0)) ++ two.0 = sym (append_assoc lines one.0 two.0) ∙ ap (λ (x : List L). x ++ two.0) (regroup lines h.front h.back one.0 h.whole) in
-        (one.0 ++ two.0, (h.values ++ one.1 ∷ [], two.1), record { front = h.front ++ (h.back ++ one.0); back = two.0; whole = whole; items = series_push p.is h.values h.front (h.back ++ one.0) one.1 h.items one.2; last = two.2 })
+        let whole : lines ++ (one.0 ++ two.0) ≡ (h.front ++ (h.back ++ one.0)) ++ two.0 =
+        sym (append_assoc lines one.0 two.0) ∙ ap (λ (x : List L). x ++ two.0)
+        (regroup lines h.front h.back one.0 h.whole) in (
+          one.0 ++ two.0,
+          (h.values ++ one.1 ∷ [], two.1),
+          record {
+            front = h.front ++ (h.back ++ one.0);
+            back = two.0;
+            whole = whole;
+            items = series_push p.is h.values h.front (h.back ++ one.0) one.1 h.items one.2;
+            last = two.2;
+          },
+        )
     | inr m ↦
         let two = d.completed h.back m in
         (two.0, (h.values, two.1), record { front = h.front; back = h.back ++ two.0; whole = regroup lines h.front h.back two.0 h.whole; items = h.items; last = two.2 })
@@ -178,8 +201,20 @@ completes-up_to b {p} c = record {
   completed = λ lines h. elim h [
     | inl h ↦ ([], (lines, None), record { none = h; rest = append-nil lines })
     | inr h ↦
-        let k = c.completed h.back h.here in
-        (k.0, (h.before, Some k.1), record { none = h.none; rest = record { separator = h.separator; back = h.back ++ k.0; whole = regroup lines h.before (h.separator ∷ h.back) k.0 h.whole; separates = h.separates; after = k.2 } })
+        let k = c.completed h.back h.here in (
+          k.0,
+          (h.before, Some k.1),
+          record {
+            none = h.none;
+            rest = record {
+              separator = h.separator;
+              back = h.back ++ k.0;
+              whole = regroup lines h.before (h.separator ∷ h.back) k.0 h.whole;
+              separates = h.separates;
+              after = k.2;
+            };
+          },
+        )
   ];
 }
 

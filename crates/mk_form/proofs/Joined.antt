@@ -40,7 +40,9 @@ module _ {L V : Type 0} (goes_on closes : L → Bool) where
   cons_is f l lines v g h = record { firsts = l ∷ h.firsts; last = h.last; whole = ap (λ (x : List L). l ∷ x) h.whole; go_on = (g, h.go_on); ends = h.ends; closed = h.closed; spells = h.spells }
 
   -- the first line goes on, or it is all, by the lines that go on
-  uncons_at : (f : List L → Option V) (l : L) (lines firsts : List L) (last : L) (v : V) → l ∷ lines ≡ firsts ++ last ∷ [] → EachIs goes_on true firsts → goes_on last ≡ false → closes last ≡ true → f (l ∷ lines) ≡ Some v
+  uncons_at : (f : List L → Option V) (l : L) (lines firsts : List L) (last : L) (v : V)
+      → l ∷ lines ≡ firsts ++ last ∷ [] → EachIs goes_on true firsts → goes_on last ≡ false → closes last ≡ true
+      → f (l ∷ lines) ≡ Some v
       → ((goes_on l ≡ true) × Is (behind f l) lines v) ⊎ Closes f l lines v
   uncons_at f l lines [] last v whole go_on ends closed spells =
       let first : l ≡ last = cc in

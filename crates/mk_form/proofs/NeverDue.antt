@@ -74,7 +74,9 @@ pub never-in_words : {L V : Type 0} {p q : Part L V} → InWords p q → NeverDu
 never-in_words w none = record { never = λ lines d. none.never lines (w.due_from lines d) }
 
 -- a name due behind n lines, in a part where it is due at once, is due behind exactly n lines
-pub due_behind_any : {L V : Type 0} (n : ℕ) (p : Unit {0} → Part L V) → ((u : Unit {0}) (lines : List L) → (p u).due lines → AtOnce lines) → (lines : List L) → (sequence (any_lines n) p).due lines → length lines ≡ n
+pub due_behind_any : {L V : Type 0} (n : ℕ) (p : Unit {0} → Part L V)
+    → ((u : Unit {0}) (lines : List L) → (p u).due lines → AtOnce lines) → (lines : List L)
+    → (sequence (any_lines n) p).due lines → length lines ≡ n
 due_behind_any n p at_once lines d = elim d [
   | inl d ↦ absurd d
   | inr d ↦ omega (arith, ap length d.whole, length-append d.front d.back, ap length (at_once d.middle d.back d.second), d.first)

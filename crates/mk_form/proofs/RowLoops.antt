@@ -28,16 +28,23 @@ pub record RowsLeft {L X : Type 0} (p : Part L X) (lines : List L) (from count :
 module _ {L X : Type 0} (p : Part L X) (lines : List L) (from count : ℕ) where
   -- before the first row
   pub rows_left_start : from ≤ length lines → RowsLeft p lines from count [] 0 from
-  rows_left_start le = record { within = le; so_far = front_none ((rows (count - 0) p).read (drop from lines)) ∙ ap (λ (n : ℕ). (rows n p).read (drop from lines)) (let e : count - 0 ≡ count = omega arith in e) }
+  rows_left_start le = record {
+    within = le;
+    so_far = front_none ((rows (count - 0) p).read (drop from lines))
+        ∙ ap (λ (n : ℕ). (rows n p).read (drop from lines)) (let e : count - 0 ≡ count = omega arith in e);
+  }
 
   -- a row that reads
-  pub rows_left_item : (front : List X) (i at next : ℕ) (x : X) → i < count → RowsLeft p lines from count front i at → TakesLines lines next x (p.read (drop at lines)) → RowsLeft p lines from count (front ++ x ∷ []) (i + 1) next
+  pub rows_left_item : (front : List X) (i at next : ℕ) (x : X) → i < count → RowsLeft p lines from count front i at
+      → TakesLines lines next x (p.read (drop at lines)) → RowsLeft p lines from count (front ++ x ∷ []) (i + 1) next
   rows_left_item front i at next x lt h t =
       let k : count - i ≡ suc (count - (i + 1)) = omega arith in
       record { within = t.within; so_far = sym (front_more front x ((rows (count - (i + 1)) p).read (drop next lines))) ∙ sym (rw (k, t.took) refl) ∙ h.so_far }
 
   -- a row that stops
-  pub rows_left_stop : (front : List X) (i at k : ℕ) (named : Bool) → i < count → RowsLeft p lines from count front i at → StopsAtLine lines named k (p.read (drop at lines)) → StopsAtLine lines named k ((rows count p).read (drop from lines))
+  pub rows_left_stop : (front : List X) (i at k : ℕ) (named : Bool) → i < count → RowsLeft p lines from count front i at
+      → StopsAtLine lines named k (p.read (drop at lines))
+      → StopsAtLine lines named k ((rows count p).read (drop from lines))
   rows_left_stop front i at k named lt h s =
       let e : count - i ≡ suc (count - (i + 1)) = omega arith in
       record { counted = s.counted; stop = sym h.so_far ∙ rw (e, s.stop) refl }

@@ -45,7 +45,15 @@ rows_none p = record { is_to = none_to p.is; is_from = none_from p.is; live_to =
 
 -- one part, and then the others
 pub rows_more : {L X : Type 0} (n : ℕ) (p : Part L X) → InWords (sequence p (λ x. seen_as (λ xs. x ∷ xs) (rows n p))) (rows (suc n) p)
-rows_more n p = record { is_to = one_more_to p.is n; is_from = one_more_from p.is n; live_to = λ lines h. h; live_from = λ lines h. h; due_to = λ lines h. h; due_from = λ lines h. h; reads = λ lines. refl }
+rows_more n p = record {
+  is_to = one_more_to p.is n;
+  is_from = one_more_from p.is n;
+  live_to = λ lines h. h;
+  live_from = λ lines h. h;
+  due_to = λ lines h. h;
+  due_from = λ lines h. h;
+  reads = λ lines. refl;
+}
 
 -- the same part n times is read exactly
 pub exact-rows : {L X : Type 0} {says : L → Bool} {p : Part L X} (n : ℕ) → Exact says Anything p → Exact says Anything (rows n p)
@@ -61,7 +69,8 @@ any_at true n lines reading h e = inl (leb-true n (length lines) h, sym e)
 any_at false n lines reading h e = inr (leb-false n (length lines) h, sym e)
 
 -- there are enough lines, or not
-any_cases : {L : Type 0} (n : ℕ) (lines : List L) (reading : Reading L (Unit {0})) → read_any n lines ≡ reading → ((n ≤ length lines) × (reading ≡ Took tt (drop n lines))) ⊎ ((length lines < n) × (reading ≡ Stop false []))
+any_cases : {L : Type 0} (n : ℕ) (lines : List L) (reading : Reading L (Unit {0})) → read_any n lines ≡ reading
+    → ((n ≤ length lines) × (reading ≡ Took tt (drop n lines))) ⊎ ((length lines < n) × (reading ≡ Stop false []))
 any_cases n lines reading e = any_at (leb n (length lines)) n lines reading refl e
 
 -- where there are enough lines, they are taken

@@ -140,7 +140,14 @@ module _ {L X V : Type 0} {says : L → Bool} {Follows : List L → Type 0} {p :
   sequence_shorter front more h = elim h [
     | inl h ↦ inl (e.shorter front more h)
     | inr h ↦ elim (split_two h.front h.back front more (sym h.whole)) [
-      | inl s ↦ inr (record { front = h.front; back = s.between; middle = h.middle; whole = s.front_is; first = h.first; second = (f h.middle).shorter s.between more (subst (q h.middle).live s.back_is h.second) })
+      | inl s ↦ inr (record {
+        front = h.front;
+        back = s.between;
+        middle = h.middle;
+        whole = s.front_is;
+        first = h.first;
+        second = (f h.middle).shorter s.between more (subst (q h.middle).live s.back_is h.second);
+      })
       | inr s ↦ inl (e.shorter front s.between (subst p.live s.front_is (e.live h.front h.middle h.first)))
     ]
   ]
@@ -163,4 +170,15 @@ module _ {L X V : Type 0} {says : L → Bool} {Follows : List L → Type 0} {p :
 
   -- one part and then another are read exactly
   pub exact-sequence : Exact says Follows (sequence p q)
-  exact-sequence = record { took = sequence_took; again = sequence_again; fits = sequence_fits; none = sequence_none; due = sequence_due; named = sequence_named; live = sequence_live; shorter = sequence_shorter; ends = sequence_ends }
+  exact-sequence = record {
+    took = sequence_took;
+    again = sequence_again;
+    fits = sequence_fits;
+    none = sequence_none;
+    due = sequence_due;
+    named = sequence_named;
+    live = sequence_live;
+    shorter = sequence_shorter;
+    ends =
+        sequence_ends;
+  }

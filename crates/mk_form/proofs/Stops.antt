@@ -46,13 +46,15 @@ shifted : {L : Type 0} (at k : ℕ) (lines : List L) → at < k → drop (k - at
 shifted at k lines lt = ap (λ n. drop n (drop at lines)) (let i : k - at - 1 ≡ (k - 1) - at = omega arith in i) ∙ drop_again at (k - 1) lines (omega arith)
 
 -- a stop in the part is a stop in the whole text
-pub stop_in_text : {L V : Type 0} (at k : ℕ) (lines : List L) (named : Bool) (reading : Reading L V) → at ≤ length lines → at < k → StopsAtLine (drop at lines) named (k - at) reading → StopsAtLine lines named k reading
+pub stop_in_text : {L V : Type 0} (at k : ℕ) (lines : List L) (named : Bool) (reading : Reading L V) → at ≤ length lines
+    → at < k → StopsAtLine (drop at lines) named (k - at) reading → StopsAtLine lines named k reading
 stop_in_text at k lines named reading inside from h =
     let c = h.counted in
     record { counted = (omega arith, omega (arith, c.1, length-drop at lines)); stop = h.stop ∙ ap (Stop named) (shifted at k lines from) }
 
 -- and the other way
-pub stop_in_part : {L V : Type 0} (at k : ℕ) (lines : List L) (named : Bool) (reading : Reading L V) → at ≤ length lines → at < k → StopsAtLine lines named k reading → StopsAtLine (drop at lines) named (k - at) reading
+pub stop_in_part : {L V : Type 0} (at k : ℕ) (lines : List L) (named : Bool) (reading : Reading L V) → at ≤ length lines
+    → at < k → StopsAtLine lines named k reading → StopsAtLine (drop at lines) named (k - at) reading
 stop_in_part at k lines named reading inside from h =
     let c = h.counted in
     record { counted = (omega arith, omega (arith, c.1, length-drop at lines)); stop = h.stop ∙ ap (Stop named) (sym (shifted at k lines from)) }
@@ -261,8 +263,15 @@ module _ {L V : Type 0} {says : L → Bool} {p : Part L V} (e : Exact says Anyth
   -- what is read is some part
   takes_somewhere : (lines rest : List L) (v : V) → p.read lines ≡ Took v rest → (count : ℕ) × IsPart p.is lines count v
   takes_somewhere lines rest v h =
-      let t = e.took lines rest v h in
-      (length t.front, taken_part lines (length t.front) v (record { within = omega (arith, ap length t.whole, length-append t.front rest); took = h ∙ ap (Took v) (drop_is lines t.front rest t.whole) }))
+      let t = e.took lines rest v h in (
+        length t.front,
+        taken_part lines (length t.front) v
+            (record {
+              within = omega (arith, ap length t.whole, length-append t.front rest);
+              took = h
+                  ∙ ap (Took v) (drop_is lines t.front rest t.whole);
+            }),
+      )
 
   -- a stop is the bad line
   bad_part_of_stop : (lines : List L) (k : ℕ) (named : Bool) → StopsAtLine lines named k (p.read lines) → IsBadLineOfPartWhere p.live p.is lines k
@@ -298,7 +307,12 @@ module _ {L V : Type 0} {says : L → Bool} {p : Part L V} (e : Exact says Anyth
     λ h.
         let le = h.0 in
         let t = h.1 in
-        let again : TakesLines (drop at lines) (next - at) v (p.read (drop at lines)) = record { within = omega (arith, t.within, length-drop at lines); took = t.took ∙ ap (Took v) (sym (drop_again at next lines h.0)) } in
+        let again : TakesLines (drop at lines) (next - at) v (p.read (drop at lines)) =
+        record {
+          within = omega (arith, t.within, length-drop at lines);
+          took = t.took
+              ∙ ap (Took v) (sym (drop_again at next lines h.0));
+        } in
         record { from = h.0; part = taken_part (drop at lines) (next - at) v again },
   )
 

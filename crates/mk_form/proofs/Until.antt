@@ -62,7 +62,8 @@ module _ {L X : Type 0} (M : List L → Type 0) (P : List L → X → Type 0) (N
         second = by_steps step n (items.1 ++ back) xs items.1 back refl items.4 last (omega (arith, few'));
       })))
 
-module _ {L X U : Type 0} {says : L → Bool} {Follows : List L → Type 0} {b : L → Bool} {p : Part L X} {q : Part L U} (e : Exact says Anything p) (f : Exact says Follows q) (s : Shows b false p) (t : Shows b true q) where
+module _ {L X U : Type 0} {says : L → Bool} {Follows : List L → Type 0} {b : L → Bool} {p : Part L X} {q : Part L U}
+    (e : Exact says Anything p) (f : Exact says Follows q) (s : Shows b false p) (t : Shows b true q) where
   -- with no more than n parts
   pub exact-within : (n : ℕ) → Exact says Follows (within n b p q)
   exact-within zero = exact-seen_as with_none f
@@ -226,7 +227,8 @@ module _ {L X U : Type 0} {says : L → Bool} {Follows : List L → Type 0} {b :
   until_end l lines h = rw h refl
 
   -- at another line one part is read, and then the others
-  pub until_item : (l : L) (lines mid : List L) (x : X) → b l ≡ false → p.read (l ∷ lines) ≡ Took x mid → (until b p q).read (l ∷ lines) ≡ and_then ((until b p q).read mid) (λ v. Took (with_first x v))
+  pub until_item : (l : L) (lines mid : List L) (x : X) → b l ≡ false → p.read (l ∷ lines) ≡ Took x mid
+      → (until b p q).read (l ∷ lines) ≡ and_then ((until b p q).read mid) (λ v. Took (with_first x v))
   until_item l lines mid x h is =
       let short : length mid < suc (length lines) = left_shorter (l ∷ lines) mid x is in
       let same = same_fuel (length lines) (length mid) mid (omega arith) (omega arith) in

@@ -27,13 +27,17 @@ pub record UntilLeft {L X U : Type 0} (b : L → Bool) (p : Part L X) (q : Part 
   pub within : at ≤ length lines
   pub so_far : with_items front ((until b p q).read (drop at lines)) ≡ (until b p q).read (drop from lines)
 
-module _ {L X U : Type 0} {says : L → Bool} {Follows : List L → Type 0} {b : L → Bool} {p : Part L X} {q : Part L U} (e : Exact says Anything p) (f : Exact says Follows q) (s : Shows b false p) (t : Shows b true q) (lines : List L) (from : ℕ) where
+module _ {L X U : Type 0} {says : L → Bool} {Follows : List L → Type 0} {b : L → Bool} {p : Part L X} {q : Part L U}
+    (e : Exact says Anything p) (f : Exact says Follows q) (s : Shows b false p) (t : Shows b true q) (lines : List L)
+    (from : ℕ) where
   -- before the first part
   pub until_left_start : from ≤ length lines → UntilLeft b p q lines from [] from
   until_left_start le = record { within = le; so_far = items_none ((until b p q).read (drop from lines)) }
 
   -- a part that reads
-  pub until_left_item : (front : List X) (at next : ℕ) (d : L) (x : X) → at < length lines → b (get_or lines at d) ≡ false → UntilLeft b p q lines from front at → TakesLines lines next x (p.read (drop at lines)) → UntilLeft b p q lines from (front ++ x ∷ []) next
+  pub until_left_item : (front : List X) (at next : ℕ) (d : L) (x : X) → at < length lines
+      → b (get_or lines at d) ≡ false → UntilLeft b p q lines from front at
+      → TakesLines lines next x (p.read (drop at lines)) → UntilLeft b p q lines from (front ++ x ∷ []) next
   until_left_item front at next d x lt goes h k =
       let split = drop_more lines at d lt in
       let one = until_item e f s t (get_or lines at d) (drop (at + 1) lines) (drop next lines) x goes (ap p.read (sym split) ∙ k.took) in
@@ -43,7 +47,10 @@ module _ {L X U : Type 0} {says : L → Bool} {Follows : List L → Type 0} {b :
       }
 
   -- a part that stops
-  pub until_left_stop : (front : List X) (at k : ℕ) (d : L) (named : Bool) → at < length lines → b (get_or lines at d) ≡ false → UntilLeft b p q lines from front at → StopsAtLine lines named k (p.read (drop at lines)) → StopsAtLine lines named k ((until b p q).read (drop from lines))
+  pub until_left_stop : (front : List X) (at k : ℕ) (d : L) (named : Bool) → at < length lines
+      → b (get_or lines at d) ≡ false → UntilLeft b p q lines from front at
+      → StopsAtLine lines named k (p.read (drop at lines))
+      → StopsAtLine lines named k ((until b p q).read (drop from lines))
   until_left_stop front at k d named lt goes h stop =
       let split = drop_more lines at d lt in
       let one = until_stop e f s t (get_or lines at d) (drop (at + 1) lines) (drop (k - 1) lines) named goes (ap p.read (sym split) ∙ stop.stop) in
@@ -60,20 +67,31 @@ module _ {L X U : Type 0} {says : L → Bool} {Follows : List L → Type 0} {b :
       }
 
   -- the end is read
-  pub until_left_end : (front : List X) (at next : ℕ) (d : L) (u : U) → at < length lines → b (get_or lines at d) ≡ true → UntilLeft b p q lines from front at → TakesLines lines next u (q.read (drop at lines)) → TakesLines lines next (front, u) ((until b p q).read (drop from lines))
+  pub until_left_end : (front : List X) (at next : ℕ) (d : L) (u : U) → at < length lines → b (get_or lines at d) ≡ true
+      → UntilLeft b p q lines from front at → TakesLines lines next u (q.read (drop at lines))
+      → TakesLines lines next (front, u) ((until b p q).read (drop from lines))
   until_left_end front at next d u lt ends h k =
       let split = drop_more lines at d lt in
       let one = until_end e f s t (get_or lines at d) (drop (at + 1) lines) ends in
-      let last : (until b p q).read (drop at lines) ≡ Took (with_none u) (drop next lines) = ap (until b p q).read split ∙ one ∙ ap (λ (r : Reading L U). let w : Reading L (List X × U) = and_then r (λ u. Took (with_none u)) in w) (ap q.read (sym split) ∙ k.took) in
+      let last : (until b p q).read (drop at lines) ≡ Took (with_none u) (drop next lines) = ap (until b p q).read split
+      ∙ one ∙ ap (λ (r : Reading L U). let w : Reading L (List X × U) = and_then r (λ u. Took (with_none u)) in w)
+      (ap q.read (sym split) ∙ k.took) in
       record {
         within = k.within;
-        took = sym h.so_far ∙ ap (λ (r : Reading L (List X × U)). with_items front r) last ∙ ap (λ (xs : List X). let r : Reading L (List X × U) = Took (xs, u) (drop next lines) in r) (append-nil front);
+        took = sym h.so_far ∙ ap (λ (r : Reading L (List X × U)). with_items front r) last
+            ∙ ap (λ (xs : List X). let r : Reading L (List X × U) = Took (xs, u) (drop next lines) in r)
+            (append-nil front);
       }
 
   -- the end stops
-  pub until_left_end_stop : (front : List X) (at k : ℕ) (d : L) (named : Bool) → at < length lines → b (get_or lines at d) ≡ true → UntilLeft b p q lines from front at → StopsAtLine lines named k (q.read (drop at lines)) → StopsAtLine lines named k ((until b p q).read (drop from lines))
+  pub until_left_end_stop : (front : List X) (at k : ℕ) (d : L) (named : Bool) → at < length lines
+      → b (get_or lines at d) ≡ true → UntilLeft b p q lines from front at
+      → StopsAtLine lines named k (q.read (drop at lines))
+      → StopsAtLine lines named k ((until b p q).read (drop from lines))
   until_left_end_stop front at k d named lt ends h stop =
       let split = drop_more lines at d lt in
       let one = until_end e f s t (get_or lines at d) (drop (at + 1) lines) ends in
-      let last : (until b p q).read (drop at lines) ≡ Stop named (drop (k - 1) lines) = ap (until b p q).read split ∙ one ∙ ap (λ (r : Reading L U). let w : Reading L (List X × U) = and_then r (λ u. Took (with_none u)) in w) (ap q.read (sym split) ∙ stop.stop) in
+      let last : (until b p q).read (drop at lines) ≡ Stop named (drop (k - 1) lines) = ap (until b p q).read split
+      ∙ one ∙ ap (λ (r : Reading L U). let w : Reading L (List X × U) = and_then r (λ u. Took (with_none u)) in w)
+      (ap q.read (sym split) ∙ stop.stop) in
       record { counted = stop.counted; stop = sym h.so_far ∙ ap (λ (r : Reading L (List X × U)). with_items front r) last }

@@ -98,7 +98,17 @@ module _ {L V : Type 0} {says : L → Bool} (b : L → Bool) {p : Part L V} (e :
   up_to_again (x ∷ ds) lines None h = ap read h.rest ∙ rw (h.none.0, up_to_again ds ds None (record { none = h.none.1; rest = refl })) refl
   up_to_again (x ∷ ds) lines (Some v) h =
       let r = h.rest in
-      let back = up_to_again ds (ds ++ r.separator ∷ r.back) (Some v) (record { none = h.none.1; rest = record { separator = r.separator; back = r.back; whole = refl; separates = r.separates; after = r.after } }) in
+      let back = up_to_again ds (ds ++ r.separator ∷ r.back) (Some v)
+      (record {
+        none = h.none.1;
+        rest = record {
+          separator = r.separator;
+          back = r.back;
+          whole = refl;
+          separates = r.separates;
+          after = r.after;
+        };
+      }) in
       ap read r.whole ∙ rw (h.none.0, back) refl
 
   -- ---- what may go on
@@ -107,7 +117,15 @@ module _ {L V : Type 0} {says : L → Bool} (b : L → Bool) {p : Part L V} (e :
   cons_live : (l : L) (lines : List L) → b l ≡ false → Live lines → Live (l ∷ lines)
   cons_live l lines misses h = elim h [
     | inl h ↦ inl (misses, h)
-    | inr h ↦ inr (record { before = l ∷ h.before; separator = h.separator; back = h.back; whole = ap (λ (x : List L). l ∷ x) h.whole; none = (misses, h.none); separates = h.separates; here = h.here })
+    | inr h ↦ inr (record {
+      before = l ∷ h.before;
+      separator = h.separator;
+      back = h.back;
+      whole = ap (λ (x : List L). l ∷ x) h.whole;
+      none = (misses, h.none);
+      separates = h.separates;
+      here = h.here;
+    })
   ]
 
   -- a separator before what is live in the part
@@ -165,7 +183,9 @@ module _ {L V : Type 0} {says : L → Bool} (b : L → Bool) {p : Part L V} (e :
   ]
 
   -- a line that says its name where one is due is named
-  up_to_due : (before front rest : List L) (separator l : L) (back : List L) → front ≡ before ++ separator ∷ back → EachIs b false before → b separator ≡ true → p.due back → says l ≡ true → read (front ++ l ∷ rest) ≡ Stop true (l ∷ rest)
+  up_to_due : (before front rest : List L) (separator l : L) (back : List L) → front ≡ before ++ separator ∷ back
+      → EachIs b false before → b separator ≡ true → p.due back → says l ≡ true
+      → read (front ++ l ∷ rest) ≡ Stop true (l ∷ rest)
   up_to_due [] front rest separator l back whole none holds d h = ap (λ (x : List L). read (x ++ l ∷ rest)) whole ∙ rw (holds, e.due back rest l d h) refl
   up_to_due (x ∷ before) front rest separator l back whole none holds d h =
       ap (λ (x : List L). read (x ++ l ∷ rest)) whole ∙ rw (none.0, up_to_due before (before ++ separator ∷ back) rest separator l back refl none.1 holds d h) refl
@@ -202,7 +222,16 @@ module _ {L V : Type 0} {says : L → Bool} (b : L → Bool) {p : Part L V} (e :
   -- a text is live
   up_to_live : (lines ds : List L) (o : Option V) → Is lines (ds, o) → Live lines
   up_to_live lines ds None h = inl (subst (EachIs b false) (sym h.rest) h.none)
-  up_to_live lines ds (Some v) h = let r = h.rest in inr (record { before = ds; separator = r.separator; back = r.back; whole = r.whole; none = h.none; separates = r.separates; here = e.live r.back v r.after })
+  up_to_live lines ds (Some v) h = let r = h.rest in inr
+      (record {
+        before = ds;
+        separator = r.separator;
+        back = r.back;
+        whole = r.whole;
+        none = h.none;
+        separates = r.separates;
+        here = e.live r.back v r.after;
+      })
 
   -- the first lines of what is live are live
   up_to_shorter : (front more : List L) → Live (front ++ more) → Live front
@@ -210,7 +239,15 @@ module _ {L V : Type 0} {says : L → Bool} (b : L → Bool) {p : Part L V} (e :
     | inl h ↦ inl (each-shorter b false front more h)
     | inr h ↦ elim (split_at front more h.before h.separator h.back h.whole) [
       | inl s ↦ inl (each-shorter b false front s.between (subst (EachIs b false) s.front_is h.none))
-      | inr s ↦ inr (record { before = h.before; separator = h.separator; back = s.between; whole = s.front_is; none = h.none; separates = h.separates; here = e.shorter s.between more (subst p.live s.more_is h.here) })
+      | inr s ↦ inr (record {
+        before = h.before;
+        separator = h.separator;
+        back = s.between;
+        whole = s.front_is;
+        none = h.none;
+        separates = h.separates;
+        here = e.shorter s.between more (subst p.live s.more_is h.here);
+      })
     ]
   ]
 
@@ -231,7 +268,8 @@ module _ {L V : Type 0} {says : L → Bool} (b : L → Bool) {p : Part L V} (e :
   }
 
 -- two readers of what stands behind the separator that agree on fewer lines are one
-pub same_up_to : {L V : Type 0} (b : L → Bool) (r s : List L → Reading L V) (lines : List L) → ((rest : List L) → length rest < length lines → r rest ≡ s rest) → read_up_to b r lines ≡ read_up_to b s lines
+pub same_up_to : {L V : Type 0} (b : L → Bool) (r s : List L → Reading L V) (lines : List L)
+    → ((rest : List L) → length rest < length lines → r rest ≡ s rest) → read_up_to b r lines ≡ read_up_to b s lines
 same_up_to b r s [] same = refl
 same_up_to {L} {V} b r s (l ∷ lines) same =
     let behind = same lines (let e : length lines < suc (length lines) = omega arith in e) in
@@ -251,12 +289,17 @@ put_twice (Took v rest) f g = refl
 put_twice (Stop n rest) f g = refl
 
 -- the separator is the first line that passes
-pub up_to_separator : {L V : Type 0} (b : L → Bool) (s : List L → Reading L V) (before rest : List L) (l : L) → EachIs b false before → b l ≡ true → read_up_to b s (before ++ l ∷ rest) ≡ and_then (s rest) (λ v. Took (before, Some v))
+pub up_to_separator : {L V : Type 0} (b : L → Bool) (s : List L → Reading L V) (before rest : List L) (l : L)
+    → EachIs b false before → b l ≡ true → read_up_to b s (before ++ l ∷ rest) ≡ and_then (s rest)
+    (λ v. Took (before, Some v))
 up_to_separator b s [] rest l none e = rw e refl
 up_to_separator {L} {V} b s (x ∷ before) rest l none e =
-    rw none.0 (ap (λ (r : Reading L (List L × Option V)). let w : Reading L (List L × Option V) = and_then r (λ d. Took (x ∷ d.0, d.1)) in w) (up_to_separator b s before rest l none.1 e) ∙ put_twice (s rest) (λ v. (before, Some v)) (λ d. (x ∷ d.0, d.1)))
+    rw none.0 (ap (λ (r : Reading L (List L × Option V)). let w : Reading L (List L × Option V) = and_then r
+    (λ d. Took (x ∷ d.0, d.1)) in w) (up_to_separator b s before rest l none.1 e)
+    ∙ put_twice (s rest) (λ v. (before, Some v)) (λ d. (x ∷ d.0, d.1)))
 
 -- and no line passes
 pub up_to_end : {L V : Type 0} (b : L → Bool) (s : List L → Reading L V) (lines : List L) → EachIs b false lines → read_up_to b s lines ≡ Took (lines, None) []
 up_to_end b s [] none = refl
-up_to_end {L} {V} b s (x ∷ lines) none = rw none.0 (ap (λ (r : Reading L (List L × Option V)). let w : Reading L (List L × Option V) = and_then r (λ d. Took (x ∷ d.0, d.1)) in w) (up_to_end b s lines none.1))
+up_to_end {L} {V} b s (x ∷ lines) none = rw none.0 (ap (λ (r : Reading L (List L × Option V)). let w : Reading L
+    (List L × Option V) = and_then r (λ d. Took (x ∷ d.0, d.1)) in w) (up_to_end b s lines none.1))

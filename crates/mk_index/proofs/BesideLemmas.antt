@@ -20,7 +20,9 @@ beside_size [] (screen ∷ screens) are = absurd are
 beside_size (row ∷ rows) [] are = absurd are
 beside_size (row ∷ rows) (screen ∷ screens) are = ap suc (beside_size rows screens are.1)
 
-pub beside_at : (rows : List (Numbered Molecule)) (screens : List Screen) → AreScreens rows screens → (i : ℕ) (d : Numbered Molecule) (e : Screen) → i < length rows → IsScreenOf (get_or rows i d).item (get_or screens i e)
+pub beside_at : (rows : List (Numbered Molecule)) (screens : List Screen) → AreScreens rows screens
+    → (i : ℕ) (d : Numbered Molecule) (e : Screen) → i < length rows
+    → IsScreenOf (get_or rows i d).item (get_or screens i e)
 beside_at [] screens are i d e within = absurd (omega arith)
 beside_at (row ∷ rows) [] are i d e within = absurd are
 beside_at (row ∷ rows) (screen ∷ screens) are zero d e within = are.0
@@ -89,7 +91,8 @@ beside_without n (x ∷ rows) (other ∷ screens) are rising held =
     ]
 
 -- the screen at the place of a number is that of its molecule
-pub beside_item : (n : ℕ) (rows : List (Numbered Molecule)) (screens : List Screen) → AreScreens rows screens → IsRising rows → holds n rows ≡ true → (screen : Screen) → screen ≡ get_or screens (place_of n rows) screen
+pub beside_item : (n : ℕ) (rows : List (Numbered Molecule)) (screens : List Screen) → AreScreens rows screens
+    → IsRising rows → holds n rows ≡ true → (screen : Screen) → screen ≡ get_or screens (place_of n rows) screen
     → IfSome (item_at n rows) (λ mol. IsScreenOf mol screen)
 beside_item n rows screens are rising held screen is =
     let d : Numbered Molecule = record { number = 0; item = record { written = 0; atoms = []; bonds = [] } } in

@@ -32,7 +32,9 @@ module _ (blocks at q : ℕ) (old new : List ℕ) (word : ℕ) (from : at / 64 *
 
       by_place : (k j : ℕ) → at / 64 * 512 ≤ k → k < q + 1 → j < 64 → bit_at (get_or (set new q word) k 0) j ≡ closed_bit (get_or old k 0) (next_word old blocks k) (low_at at k) j
       by_place k j first up within = elim (cases_eq k q) [
-        | inl same ↦ rw (same, get_or-set_same new q word 0 below) (is j within ∙ ap (λ n. closed_bit n (next_word new blocks q) (low_at at q) j) here ∙ ap (λ n. closed_bit (get_or old q 0) n (low_at at q) j) next)
+        | inl same ↦ rw (same, get_or-set_same new q word 0 below)
+            (is j within ∙ ap (λ n. closed_bit n (next_word new blocks q) (low_at at q) j) here
+            ∙ ap (λ n. closed_bit (get_or old q 0) n (low_at at q) j) next)
         | inr other ↦ rw (get_or-set_other new q k word 0 other) (so_far.done k j first (omega arith) within)
       ]
 
@@ -56,7 +58,9 @@ closed_all blocks at old new all i b within bit = elim (cases_lt (i / 64) (at / 
     k = 512 * (i / 64) + b
 
     -- in its own block, and behind it
-    low_is : (low : ℕ) → (i < at → i % 64 < low) → (at ≤ i → low ≤ i % 64) → closed_bit (get_or old (512 * (i / 64) + b) 0) (next_word old blocks (512 * (i / 64) + b)) low (i % 64) ≡ cond (ltb i at) (cell old i b) (cell old (i + 1) b)
+    low_is : (low : ℕ) → (i < at → i % 64 < low) → (at ≤ i → low ≤ i % 64)
+        → closed_bit (get_or old (512 * (i / 64) + b) 0) (next_word old blocks (512 * (i / 64) + b)) low (i % 64) ≡ cond
+        (ltb i at) (cell old i b) (cell old (i + 1) b)
     low_is low under over = elim (cases_lt i at) [
       | inl less ↦ rw (lt-ltb i at less, lt-ltb (i % 64) low (under less)) refl
       | inr more ↦ rw (le-ltb i at more, le-ltb (i % 64) low (over more)) (elim (cases_lt (i % 64) 63) [
@@ -69,7 +73,9 @@ closed_all blocks at old new all i b within bit = elim (cases_lt (i / 64) (at / 
       ])
     ]
 
-    moved : at / 64 ≤ i / 64 → closed_bit (get_or old (512 * (i / 64) + b) 0) (next_word old blocks (512 * (i / 64) + b)) (low_at at (512 * (i / 64) + b)) (i % 64) ≡ cond (ltb i at) (cell old i b) (cell old (i + 1) b)
+    moved : at / 64 ≤ i / 64 → closed_bit (get_or old (512 * (i / 64) + b) 0)
+        (next_word old blocks (512 * (i / 64) + b)) (low_at at (512 * (i / 64) + b)) (i % 64) ≡ cond (ltb i at)
+        (cell old i b) (cell old (i + 1) b)
     moved from =
         elim (cases_lt (at / 64) ((512 * (i / 64) + b) / 512)) [
           | inl later ↦ rw (lt-ltb (at / 64) ((512 * (i / 64) + b) / 512) later) (low_is 0 (λ less. absurd (omega arith)) (λ more. omega arith))
@@ -98,7 +104,9 @@ module _ (blocks at q : ℕ) (old new : List ℕ) (word : ℕ) (below : q < leng
 
       by_place : (k j : ℕ) → q ≤ k → k < blocks * 512 → j < 64 → bit_at (get_or (set new q word) k 0) j ≡ opened_bit (get_or old k 0) (word_before old at k) (low_at at k) j
       by_place k j first last within = elim (cases_eq k q) [
-        | inl same ↦ rw (same, get_or-set_same new q word 0 below) (is j within ∙ ap (λ n. opened_bit n (word_before new at q) (low_at at q) j) here ∙ ap (λ n. opened_bit (get_or old q 0) n (low_at at q) j) before)
+        | inl same ↦ rw (same, get_or-set_same new q word 0 below)
+            (is j within ∙ ap (λ n. opened_bit n (word_before new at q) (low_at at q) j) here
+            ∙ ap (λ n. opened_bit (get_or old q 0) n (low_at at q) j) before)
         | inr other ↦ rw (get_or-set_other new q k word 0 other) (so_far.done k j (omega arith) last within)
       ]
 
@@ -141,7 +149,8 @@ opened_all blocks at old new all i b within bit other = elim (cases_lt (i / 64) 
           | inr inside ↦ (let next = before_inside i (omega arith) (omega arith) in rw (ne_eqb (i % 64) 0 inside, next.0, next.1) refl)
         ])
 
-    moved : at / 64 ≤ i / 64 → opened_bit (get_or old (512 * (i / 64) + b) 0) (word_before old at (512 * (i / 64) + b)) (low_at at (512 * (i / 64) + b)) (i % 64) ≡ cond (ltb i at) (cell old i b) (cell old (i - 1) b)
+    moved : at / 64 ≤ i / 64 → opened_bit (get_or old (512 * (i / 64) + b) 0) (word_before old at (512 * (i / 64) + b))
+        (low_at at (512 * (i / 64) + b)) (i % 64) ≡ cond (ltb i at) (cell old i b) (cell old (i - 1) b)
     moved from =
         let block : (512 * (i / 64) + b) / 512 ≡ i / 64 = omega arith in
         elim (cases_lt (at / 64) (i / 64)) [
@@ -155,7 +164,8 @@ pub put_none : (at : ℕ) (bits old : List ℕ) → PutTo at 0 bits old old
 put_none at bits old = record { size = refl; done = λ c j below within. absurd (omega arith); rest = λ k other. refl }
 
 module _ (at b : ℕ) (bits old new : List ℕ) (word : ℕ) (below : at / 64 * 512 + b < length new) (so_far : PutTo at b bits old new) where
-  pub put_more : ((j : ℕ) → j < 64 → bit_at word j ≡ put_in_bit (get_or new (at / 64 * 512 + b) 0) (at % 64) (get_or bits (b / 64) 0) (b % 64) j) → PutTo at (b + 1) bits old (set new (at / 64 * 512 + b) word)
+  pub put_more : ((j : ℕ) → j < 64 → bit_at word j ≡ put_in_bit (get_or new (at / 64 * 512 + b) 0) (at % 64)
+      (get_or bits (b / 64) 0) (b % 64) j) → PutTo at (b + 1) bits old (set new (at / 64 * 512 + b) word)
   put_more is = record {
     size = length-set new (at / 64 * 512 + b) word ∙ so_far.size;
     done = λ c j up within. by_place c j up within;
@@ -166,7 +176,9 @@ module _ (at b : ℕ) (bits old new : List ℕ) (word : ℕ) (below : at / 64 * 
       here : get_or new (at / 64 * 512 + b) 0 ≡ get_or old (at / 64 * 512 + b) 0
       here = so_far.rest (at / 64 * 512 + b) (inr (omega arith))
 
-      by_place : (c j : ℕ) → c < b + 1 → j < 64 → bit_at (get_or (set new (at / 64 * 512 + b) word) (at / 64 * 512 + c) 0) j ≡ put_in_bit (get_or old (at / 64 * 512 + c) 0) (at % 64) (get_or bits (c / 64) 0) (c % 64) j
+      by_place : (c j : ℕ) → c < b + 1 → j < 64 → bit_at
+          (get_or (set new (at / 64 * 512 + b) word) (at / 64 * 512 + c) 0) j ≡ put_in_bit
+          (get_or old (at / 64 * 512 + c) 0) (at % 64) (get_or bits (c / 64) 0) (c % 64) j
       by_place c j up within = elim (cases_eq c b) [
         | inl same ↦ rw (same, get_or-set_same new (at / 64 * 512 + b) word 0 below) (is j within ∙ ap (λ n. put_in_bit n (at % 64) (get_or bits (b / 64) 0) (b % 64) j) here)
         | inr other ↦ rw (get_or-set_other new (at / 64 * 512 + b) (at / 64 * 512 + c) word 0 (λ e. other (omega arith))) (so_far.done c j (omega arith) within)
@@ -182,6 +194,7 @@ put_all at bits old new all i b bit = elim (cases_eq (i / 64) (at / 64)) [
       ]))
   | inr differ ↦
       (let other : i ≢ at = λ e. differ (omega arith) in
-      let apart : (512 * (i / 64) + b < at / 64 * 512) ⊎ (at / 64 * 512 + 512 ≤ 512 * (i / 64) + b) = elim (cases_lt (i / 64) (at / 64)) [ inl less ↦ inl (omega arith) | inr more ↦ inr (omega arith) ] in
+      let apart : (512 * (i / 64) + b < at / 64 * 512) ⊎ (at / 64 * 512 + 512 ≤ 512 * (i / 64) + b) =
+      elim (cases_lt (i / 64) (at / 64)) [ inl less ↦ inl (omega arith) | inr more ↦ inr (omega arith) ] in
       rw (ne_eqb i at other) (ap (λ n. bit_at n (i % 64)) (all.rest (512 * (i / 64) + b) apart)))
 ]

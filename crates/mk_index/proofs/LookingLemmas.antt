@@ -36,14 +36,17 @@ module _ (screens : List Screen) (need : Screen) (low base rows : ℕ) (from_bas
   }
 
   -- a screen without a bit that is left doesn't cover the need
-  unset : (left old new : ℕ) → (are : AreLeft screens need low base rows left old new) → (k : ℕ) (d : Screen) → k < 64 → are.place ≤ k → bit_at left k ≡ 0 → base + k < length screens → low ≤ base + k → Covers (get_or screens (base + k) d) need → ⊥
+  unset : (left old new : ℕ) → (are : AreLeft screens need low base rows left old new) → (k : ℕ) (d : Screen) → k < 64
+      → are.place ≤ k → bit_at left k ≡ 0 → base + k < length screens → low ≤ base + k
+      → Covers (get_or screens (base + k) d) need → ⊥
   unset left old new are k d below from none within over covers =
       let same : bit_at left k ≡ bit_at rows k = are.bits k below ∙ (rw (le-ltb k are.place from) refl) in
       let posted : IsPostedAt screens need (base + k) = (within, λ e. subst (λ (s : Screen). HasBits s need) (get_or_default screens (base + k) d e within) covers.bits) in
       let set = open'.all k below within over posted in
       omega (arith, same)
 
-  none_to : (left old new : ℕ) → (are : AreLeft screens need low base rows left old new) → (to : ℕ) → to ≤ 64 → ((k : ℕ) → are.place ≤ k → k < to → bit_at left k ≡ 0) → NoneCovers screens need low (base + to)
+  none_to : (left old new : ℕ) → (are : AreLeft screens need low base rows left old new) → (to : ℕ) → to ≤ 64
+      → ((k : ℕ) → are.place ≤ k → k < to → bit_at left k ≡ 0) → NoneCovers screens need low (base + to)
   none_to left old new are to top none i d over under within covers = elim (cases_lt i (base + are.place)) [
     | inl before ↦ are.none i d over before within covers
     | inr from ↦
@@ -92,12 +95,19 @@ module _ (screens : List Screen) (need : Screen) (low base rows : ℕ) (from_bas
         -- it covers the need
         pub left_found : (d : Screen) → Covers (get_or screens (base + k) d) need → IsFirstFrom screens need low (base + k) × LooksTo screens need low (base + k + 1) old next
         left_found d covers = (
-          record { not_below = (open'.have k below within set_there).0; within = within; covers = λ e. subst (λ (s : Screen). Covers s need) (get_or_default screens (base + k) d e within) covers; none = none_before },
+          record {
+            not_below = (open'.have k below within set_there).0;
+            within = within;
+            covers = λ e. subst (λ (s : Screen). Covers s need) (get_or_default screens (base + k) d e within) covers;
+            none = none_before;
+          },
           looked,
         )
 
         -- it doesn't
-        pub left_next : (rest : ℕ) (e : Screen) → (Covers (get_or screens (base + k) e) need → ⊥) → ((j : ℕ) → j < 64 → bit_at rest j ≡ without_bit left k j) → AreLeft screens need low base rows rest old next
+        pub left_next : (rest : ℕ) (e : Screen) → (Covers (get_or screens (base + k) e) need → ⊥)
+            → ((j : ℕ) → j < 64 → bit_at rest j ≡ without_bit left k j)
+            → AreLeft screens need low base rows rest old next
         left_next rest e lacks bits = record {
           place = k + 1;
           within = omega arith;
@@ -164,7 +174,9 @@ first_joined screens need low mid i up h is = record {
   none = none_joined screens need low mid i h is.none;
 }
 
-pub looks_joined : (screens : List Screen) (need : Screen) (low mid high old between new : ℕ) → low ≤ mid → mid ≤ high → LooksTo screens need low mid old between → LooksTo screens need mid high between new → LooksTo screens need low high old new
+pub looks_joined : (screens : List Screen) (need : Screen) (low mid high old between new : ℕ) → low ≤ mid → mid ≤ high
+    → LooksTo screens need low mid old between → LooksTo screens need mid high between new
+    → LooksTo screens need low high old new
 looks_joined screens need low mid high old between new up up' h k = counts_join (IsPostedAt screens need) low mid high old between new up up' h k
 
 -- no look is behind the last screen

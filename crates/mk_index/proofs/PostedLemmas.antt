@@ -44,7 +44,8 @@ module _ (rows : List (Numbered Molecule)) (columns : List ℕ) (b i : ℕ) (wor
       let set : eqb (cell columns i b) 1 ≡ true = eq-eqb (cell columns i b) 1 (omega (arith, sym read, bit_at-lt (get_or columns (512 * (i / 64) + b) 0) (i % 64))) in
       rw (set, at_place rows i row within, sym at) refl
 
-module _ (rows : List (Numbered Molecule)) (screens : List Screen) (columns : List ℕ) (b : ℕ) (below : b < 512) (rising : IsRising rows) (beside : AreScreens rows screens) (are : AreColumns screens columns) where
+module _ (rows : List (Numbered Molecule)) (screens : List Screen) (columns : List ℕ) (b : ℕ) (below : b < 512)
+    (rising : IsRising rows) (beside : AreScreens rows screens) (are : AreColumns screens columns) where
   -- a row before a place that has the bit, under this number
   record IsBefore (n number : ℕ) : Type 0 where
     place : ℕ
@@ -63,7 +64,9 @@ module _ (rows : List (Numbered Molecule)) (screens : List Screen) (columns : Li
   one_row row n within = rw (at_place rows n row within) refl
 
   -- each of the numbers is below that of a later row
-  each_below : (row : Numbered Molecule) (n : ℕ) (numbers : List ℕ) → n < length rows → ((number : ℕ) → Contains numbers number → IsBefore n number) → AllByRecursion (λ number. number < (get_or rows n row).number) numbers
+  each_below : (row : Numbered Molecule) (n : ℕ) (numbers : List ℕ) → n < length rows
+      → ((number : ℕ) → Contains numbers number → IsBefore n number)
+      → AllByRecursion (λ number. number < (get_or rows n row).number) numbers
   each_below row n [] within each = tt
   each_below row n (number ∷ numbers) within each =
       let first = each number (0, omega arith, refl) in
@@ -77,17 +80,41 @@ module _ (rows : List (Numbered Molecule)) (screens : List Screen) (columns : Li
     | inl set ↦ rw (set, one_row row n within) (record {
       rises = rises_append (get_or rows n row).number numbers ((get_or rows n row).number ∷ []) (each_below row n numbers within is.each) (omega arith, tt) is.rises (tt, tt);
       each = λ number has. (elim (Contains-push_cases numbers (get_or rows n row).number number has) [
-        | inl earlier ↦ (let before = is.each number earlier in record { place = before.place; before = (let lt = before.before in omega arith); within = before.within; is = before.is; set = before.set })
+        | inl earlier ↦ (let before = is.each number earlier
+            in record {
+              place = before.place;
+              before = (let lt = before.before in omega arith);
+              within = before.within;
+              is = before.is;
+              set = before.set;
+            })
         | inr last ↦ record { place = n; before = omega arith; within = within; is = λ d. ap (λ (r : Numbered Molecule). r.number) (get_or_default rows n d row within) ∙ last; set = set }
       ]);
       all = λ number before. (elim (cases_lt before.place n) [
-        | inl earlier ↦ Contains-append_left numbers ((get_or rows n row).number ∷ []) number (is.all number (record { place = before.place; before = earlier; within = before.within; is = before.is; set = before.set }))
-        | inr last ↦ (let lt = before.before in let same : before.place ≡ n = omega arith in let number_is : (get_or rows n row).number ≡ number = rw same at (before.is row) in subst (Contains (numbers ++ (get_or rows n row).number ∷ [])) number_is (Contains-push numbers (get_or rows n row).number))
+        | inl earlier ↦ Contains-append_left numbers ((get_or rows n row).number ∷ []) number
+            (is.all number (record {
+              place = before.place;
+              before = earlier;
+              within = before.within;
+              is = before.is;
+              set = before.set;
+            }))
+        | inr last ↦ (let lt = before.before in let same : before.place ≡ n = omega arith
+            in let number_is : (get_or rows n row).number ≡ number = rw same at (before.is row) in
+            subst (Contains (numbers ++ (get_or rows n row).number ∷ [])) number_is
+            (Contains-push numbers (get_or rows n row).number))
       ]);
     })
     | inr unset ↦ rw (unset, append-nil numbers) (record {
       rises = is.rises;
-      each = λ number has. (let before = is.each number has in record { place = before.place; before = (let lt = before.before in omega arith); within = before.within; is = before.is; set = before.set });
+      each = λ number has. (let before = is.each number has
+          in record {
+            place = before.place;
+            before = (let lt = before.before in omega arith);
+            within = before.within;
+            is = before.is;
+            set = before.set;
+          });
       all = λ number before. (elim (cases_lt before.place n) [
         | inl earlier ↦ is.all number (record { place = before.place; before = earlier; within = before.within; is = before.is; set = before.set })
         | inr last ↦ (let lt = before.before in let same : before.place ≡ n = omega arith in let set = rw same at before.set in absurd (let no = unset in cc))

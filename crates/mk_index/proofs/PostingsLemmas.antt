@@ -40,7 +40,13 @@ module _ {T : Type 0} where
   pub found_at : (rows : List (Numbered T)) (n : ℕ) (item : T) → item_at n rows ≡ Some item → IsRowOf rows n item
   found_at [] n item at = absurd cc
   found_at (row ∷ rows) n item at = elim (cases_Bool (nat_eq row.number n)) [
-    | inl same ↦ (let here : Some row.item ≡ Some item = rw same at at in record { place = 0; within = omega arith; number = λ d. eqb-true row.number n same; item_is = λ d. (let e : row.item ≡ item = cc in e) })
+    | inl same ↦ (let here : Some row.item ≡ Some item = rw same at at
+        in record {
+          place = 0;
+          within = omega arith;
+          number = λ d. eqb-true row.number n same;
+          item_is = λ d. (let e : row.item ≡ item = cc in e);
+        })
     | inr differs ↦
         (let later : item_at n rows ≡ Some item = rw differs at at in
         let found = found_at rows n item later in
@@ -121,7 +127,9 @@ module _ (rows : List (Numbered Molecule)) (screens : List Screen) (need : Scree
         number = row.number;
         covers = λ e. (
             let d : Numbered Molecule = record { number = n; item = is.mol } in
-            let of_mol : IsScreenOf is.mol (get_or screens row.place e) = subst (λ (m : Molecule). IsScreenOf m (get_or screens row.place e)) (row.item_is d) (beside_at rows screens beside row.place d e row.within) in
+            let of_mol : IsScreenOf is.mol (get_or screens row.place e) =
+            subst (λ (m : Molecule). IsScreenOf m (get_or screens row.place e)) (row.item_is d)
+            (beside_at rows screens beside row.place d e row.within) in
             covers_other (shown_by_mol is.mol) is.screen (get_or screens row.place e) need is.is of_mol is.covers);
       }
 
@@ -188,7 +196,9 @@ module _ (rows : List (Numbered Molecule)) (screens : List Screen) (need : Scree
         posted = λ b below needed. ((get_or rows i d).item, item_there rows rising i d within, ((beside_at rows screens beside i d need within).bits b below).0 (posted.1 need b below needed));
       }
 
-  looks_at : (found old new : ℕ) (d : Numbered Molecule) → found < length rows → LooksTo screens need (place_of from rows) (found + 1) old new → old < new → LooksFor rows need from (Some (get_or rows found d).number) old new
+  looks_at : (found old new : ℕ) (d : Numbered Molecule) → found < length rows
+      → LooksTo screens need (place_of from rows) (found + 1) old new → old < new
+      → LooksFor rows need from (Some (get_or rows found d).number) old new
   looks_at found old new d within looks some = record {
     most = counts_mapped (λ i. (get_or rows i d).number) (IsLookedAt screens need (place_of from rows) (found + 1)) (λ n. IsEligible rows need from n × (n ≤ (get_or rows found d).number))
         (λ i is. (eligible_at i d is.0 is.2, up_to i is.1))
@@ -203,7 +213,9 @@ module _ (rows : List (Numbered Molecule)) (screens : List Screen) (need : Scree
         | inr at ↦ (let same : i ≡ found = omega arith in rw same (omega arith))
       ]
 
-  pub looks_found : (found old new : ℕ) → IsFirstFrom screens need (place_of from rows) found → LooksTo screens need (place_of from rows) (found + 1) old new → old < new → LooksFor rows need from (Some (number_of rows found)) old new
+  pub looks_found : (found old new : ℕ) → IsFirstFrom screens need (place_of from rows) found
+      → LooksTo screens need (place_of from rows) (found + 1) old new → old < new
+      → LooksFor rows need from (Some (number_of rows found)) old new
   looks_found found old new first looks some =
       let within : found < length rows = omega (arith, beside_size rows screens beside, first.within) in
       let d : Numbered Molecule = record { number = 0; item = record { written = 0; atoms = []; bonds = [] } } in

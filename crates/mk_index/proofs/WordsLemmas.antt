@@ -110,7 +110,9 @@ module _ (word next low : ℕ) (word_fits : word < 2 ^ 64) (within : low < 64) (
       ∙ elim (cases_lt k low) [
         | inl before ↦ rw (lt-ltb k low before) (omega (arith, below_before word low k within before, moved_before before, shl_below next 63 k below (omega arith)))
         | inr from ↦ rw (le-ltb k low from) (elim (cases_lt k 63) [
-          | inl inside ↦ (let same : 1 + k ≡ k + 1 = omega arith in rw (lt-ltb k 63 inside, ← same) (omega (arith, below_from word low k within from below, moved_from from, shl_below next 63 k below inside)))
+          | inl inside ↦ (let same : 1 + k ≡ k + 1 = omega arith
+              in rw (lt-ltb k 63 inside, ← same) (omega
+              (arith, below_from word low k within from below, moved_from from, shl_below next 63 k below inside)))
           | inr top ↦ (
               let last : k ≡ 63 = omega arith in
               let over : 64 ≤ 1 + k = omega arith in
@@ -129,7 +131,8 @@ module _ (word before low : ℕ) (before_fits : before < 2 ^ 64) (within : low <
   up_to : k ≤ low → bit_at (bit_and word (ones_from low) * 2 ^ 1 % 2 ^ 64) k ≡ 0
   up_to low' = elim (cases_lt k 1) [
     | inl first ↦ shl_below (bit_and word (ones_from low)) 1 k below first
-    | inr later ↦ (let before' : k - 1 < low = omega arith in shl_from (bit_and word (ones_from low)) 1 k below later ∙ omega (arith, bit_at_and word (ones_from low) (k - 1), ones_below low (k - 1) within before'))
+    | inr later ↦ (let before' : k - 1 < low = omega arith in shl_from (bit_and word (ones_from low)) 1 k below later
+        ∙ omega (arith, bit_at_and word (ones_from low) (k - 1), ones_below low (k - 1) within before'))
   ]
 
   up_above : low < k → bit_at (bit_and word (ones_from low) * 2 ^ 1 % 2 ^ 64) k ≡ bit_at word (k - 1)

@@ -19,7 +19,7 @@ use Rattle.mk_model.specs.declared.group.Interval.{Interval}
 use Rattle.mk_logic.specs.RangeTexts.{IsNumeral, IsSigned, IsRangeItem, AreRangeItems, IsRangeText, OneRange, from_to, above, below}
 use Rattle.mk_logic.specs.RangeTexts.IsRangeItem.{one_number, two_numbers, more_than, less_than}
 use Rattle.mk_logic.specs.RangeTexts.IsRangeText.{blank_text, item_text}
-use Rattle.mk_logic.specs.RangeReading.{digits_number, numeral, one_number_in, two_numbers_in, numbers_in, item_by, range_item, items_of, range_of}
+use Rattle.mk_logic.specs.RangeReading.{range_number, numeral, one_number_in, two_numbers_in, numbers_in, item_by, range_item, items_of, range_of}
 
 -- ---- texts without a byte
 
@@ -85,7 +85,7 @@ lacks_each c (b ∷ bs) lacks = (let each = both (not (eqb b c)) _ lacks in λ k
 -- ---- numbers
 
 numeral_found : (text : List ℕ) (n : ℕ) → numeral text ≡ Some n → IsNumeral text n
-unfolding digits_number
+unfolding range_number
 numeral_found text n found =
     let core = trimmed text in
     let between = trimmed_is_between text in
@@ -106,14 +106,14 @@ numeral_found text n found =
     }
 
 numeral_given : (text : List ℕ) (n : ℕ) → IsNumeral text n → numeral text ≡ Some n
-unfolding digits_number
+unfolding range_number
 numeral_given text n is =
     let digits = is.digits in
     let some : 0 < length digits = omega (arith, is.some_digits) in
     let first = digit_no_space (get_or digits 0 0) (list_all_at is_ascii_digit digits 0 is.are_digits some) in
     let last = digit_no_space (get_or digits (length digits - 1) 0) (list_all_at is_ascii_digit digits (length digits - 1) is.are_digits (omega arith)) in
     let core : trimmed text ≡ digits = ap trimmed is.whole ∙ trimmed_between is.before digits is.after is.blank_before is.blank_after some first last in
-    ap digits_number core ∙ rw (le-leb 1 (length digits) is.some_digits, le-leb (length digits) 3 is.few_digits, is.are_digits) (ap Some (sym is.value))
+    ap range_number core ∙ rw (le-leb 1 (length digits) is.some_digits, le-leb (length digits) 3 is.few_digits, is.are_digits) (ap Some (sym is.value))
 
 -- a number with further blanks behind it
 numeral_padded : (text after : List ℕ) (n : ℕ) → are_blank after ≡ true → IsNumeral text n → IsNumeral (text ++ after) n
@@ -177,7 +177,13 @@ numbers_found text interval found = by_dash (ltb (position_or_len (λ b. eqb b 4
         let is : get_or text (position_or_len dash text) 0 ≡ 45 = (let passes = passes_at_first dash text 0 within in grind (arith, nat_tests)) in
         let whole : text ≡ before_first dash text ++ 45 ∷ after_first dash text = split_at_first dash text 0 within ∙ ap (λ (b : ℕ). before_first dash text ++ b ∷ after_first dash text) is in
         let same : from_to n.0 m.0 ≡ interval = cc in
-        two_numbers n.0 m.0 (record { front = before_first dash text; rest = after_first dash text; whole = whole; first = numeral_found _ n.0 n.1; second = numeral_found _ m.0 m.1 }) (leb-true _ _ order.0) (sym same)
+        two_numbers n.0 m.0 (record {
+          front = before_first dash text;
+          rest = after_first dash text;
+          whole = whole;
+          first = numeral_found _ n.0 n.1;
+          second = numeral_found _ m.0 m.1;
+        }) (leb-true _ _ order.0) (sym same)
     by_dash false e one =
         let n = both_read (numeral text) _ interval one in
         let same : from_to n.0 n.0 ≡ interval = cc in
@@ -224,7 +230,15 @@ begins text n is = by_digits is.digits is.some_digits is.are_digits is.whole
 -- and so does what goes on behind it
 begins_longer : (text more : List ℕ) → BeginsWithDigit text → BeginsWithDigit (text ++ more)
 begins_longer text more is =
-    record { before = is.before; digit = is.digit; rest = is.rest ++ more; whole = ap (λ (t : List ℕ). t ++ more) is.whole ∙ append_assoc is.before (is.digit ∷ is.rest) more; blank = is.blank; is = is.is }
+    record {
+      before = is.before;
+      digit = is.digit;
+      rest = is.rest ++ more;
+      whole = ap (λ (t : List ℕ). t ++ more) is.whole ∙ append_assoc is.before (is.digit ∷ is.rest) more;
+      blank =
+          is.blank;
+      is = is.is;
+    }
 
 -- what begins with a digit has one number or two
 by_numbers : (text : List ℕ) → BeginsWithDigit text → range_item text ≡ numbers_in text
@@ -305,7 +319,9 @@ items_given : (text : List ℕ) (range : List Interval) → AreRangeItems text r
 items_given text [] are = absurd are
 items_given text (item ∷ []) are = rw (slice_split_none (λ b. eqb b 44) text (lacks_each 44 text (item_lacks text item are)), item_given text item are) refl
 items_given text (item ∷ next ∷ items) (front, rest, whole, is, are) =
-    let parts : slice_split (λ b. eqb b 44) text ≡ front ∷ slice_split (λ b. eqb b 44) rest = ap (slice_split (λ b. eqb b 44)) whole ∙ slice_split_at (λ b. eqb b 44) front 44 rest (lacks_each 44 front (item_lacks front item is)) refl in
+    let parts : slice_split (λ b. eqb b 44) text ≡ front ∷ slice_split (λ b. eqb b 44) rest =
+    ap (slice_split (λ b. eqb b 44)) whole ∙ slice_split_at (λ b. eqb b 44) front 44 rest
+    (lacks_each 44 front (item_lacks front item is)) refl in
     ap items_of parts ∙ rw (item_given front item is, items_given rest (next ∷ items) are) refl
 
 -- one item before others
@@ -373,7 +389,9 @@ one_range text one other is is' = (let given = range_given text one is in let gi
 -- ---- what the first bytes are
 
 -- the place before which no byte is this one
-pub place_found : (c : ℕ) (text : List ℕ) (i : ℕ) → i ≤ length text → ((k : ℕ) → k < i → eqb (get_or text k 0) c ≡ false) → (i < length text → eqb (get_or text i 0) c ≡ true) → i ≡ position_or_len (λ b. eqb b c) text
+pub place_found : (c : ℕ) (text : List ℕ) (i : ℕ) → i ≤ length text
+    → ((k : ℕ) → k < i → eqb (get_or text k 0) c ≡ false) → (i < length text → eqb (get_or text i 0) c ≡ true)
+    → i ≡ position_or_len (λ b. eqb b c) text
 place_found c text i within before here =
     sym (prefix_len_is (λ b. not (eqb b c)) text i 0 within (λ k below. ap not (before k below)) (λ below. ap not (here below)))
 
@@ -414,19 +432,25 @@ pub items_more : (front : List Interval) (item : Interval) (text : List ℕ) (al
     → read_behind (front ++ item ∷ []) (items_of (slice_split (λ b. eqb b 44) (after_first (λ b. eqb b 44) text))) ≡ all
 items_more front item text all within is so_far =
     let parts = slice_split_first (λ b. eqb b 44) text 0 within in
-    let here : items_of (slice_split (λ b. eqb b 44) text) ≡ (items_of (slice_split (λ b. eqb b 44) (after_first (λ b. eqb b 44) text)) >>= λ items. Some (item ∷ items)) = ap items_of parts ∙ rw is refl in
+    let here : items_of (slice_split (λ b. eqb b 44) text) ≡
+    (items_of (slice_split (λ b. eqb b 44) (after_first (λ b. eqb b 44) text)) >>= λ items. Some (item ∷ items)) =
+    ap items_of parts ∙ rw is refl in
     sym (behind_one front item (items_of (slice_split (λ b. eqb b 44) (after_first (λ b. eqb b 44) text)))) ∙ sym (ap (read_behind front) here) ∙ so_far
 
 -- the last item
 pub items_last : (front : List Interval) (item : Interval) (text : List ℕ) (all : Option (List Interval))
     → length text ≤ position_or_len (λ b. eqb b 44) text → range_item (before_first (λ b. eqb b 44) text) ≡ Some item
     → read_behind front (items_of (slice_split (λ b. eqb b 44) text)) ≡ all → all ≡ Some (front ++ item ∷ [])
-items_last front item text all past is so_far = sym so_far ∙ (let here : items_of (slice_split (λ b. eqb b 44) text) ≡ Some (item ∷ []) = ap items_of (last_part text past) ∙ rw is refl in ap (read_behind front) here)
+items_last front item text all past is so_far = sym so_far
+    ∙ (let here : items_of (slice_split (λ b. eqb b 44) text) ≡ Some (item ∷ []) = ap items_of (last_part text past)
+    ∙ rw is refl in ap (read_behind front) here)
 
 -- an item that is none
 pub items_fail : (front : List Interval) (text : List ℕ) (all : Option (List Interval))
     → range_item (before_first (λ b. eqb b 44) text) ≡ None → read_behind front (items_of (slice_split (λ b. eqb b 44) text)) ≡ all → all ≡ None
-items_fail front text all none so_far = (let parts = split_begins text in let here : items_of (slice_split (λ b. eqb b 44) text) ≡ None = ap items_of parts.1 ∙ rw none refl in sym so_far ∙ ap (read_behind front) here)
+items_fail front text all none so_far = (let parts = split_begins text
+    in let here : items_of (slice_split (λ b. eqb b 44) text) ≡ None = ap items_of parts.1 ∙ rw none refl in sym so_far
+    ∙ ap (read_behind front) here)
 
 -- none read so far
 pub items_none : (read : Option (List Interval)) → read_behind [] read ≡ read

@@ -12,12 +12,12 @@ use Rattle.mk_model.specs.declared.group.Interval.{Interval}
 use Rattle.mk_logic.specs.RangeTexts.{from_to, above, below}
 
 -- the number of one to three digits
-unfoldable pub digits_number : List ℕ → Option ℕ
-digits_number digits = when (nat_le 1 (length digits) && (nat_le (length digits) 3 && list_all is_ascii_digit digits)) (Some (digits_value 10 digits))
+unfoldable pub range_number : List ℕ → Option ℕ
+range_number digits = when (nat_le 1 (length digits) && (nat_le (length digits) 3 && list_all is_ascii_digit digits)) (Some (digits_value 10 digits))
 
 -- the number of one to three digits, with or without blanks around them
 abbrev pub numeral : List ℕ → Option ℕ
-numeral text = digits_number (trimmed text)
+numeral text = range_number (trimmed text)
 
 -- the interval of one number
 abbrev pub one_number_in : List ℕ → Option Interval

@@ -5,7 +5,7 @@ ghost use Rattle.std.specs.Char.{digit_value, is_ascii_digit};
 ghost use Rattle.mk_text.specs.Columns.{is_space, trimmed, without_first_blanks};
 ghost use Rattle.mk_text.specs.Options.{when};
 ghost use Rattle.mk_model.specs.declared.group.Interval.{Interval};
-ghost use Rattle.mk_logic.specs.RangeReading.{digits_number, numbers_in, numeral, one_number_in, range_item, range_of, two_numbers_in};
+ghost use Rattle.mk_logic.specs.RangeReading.{range_number, numbers_in, numeral, one_number_in, range_item, range_of, two_numbers_in};
 ghost use Rattle.mk_logic.specs.RangeTexts.{IsRangeText, above, below, from_to};
 
 use mk_model::{Interval, Range};
@@ -168,9 +168,9 @@ fn without_blanks(text: &[u8]) -> &[u8]
 }
 
 // The number of one to three digits.
-#[tactic(auto, unfolding(crate::specs::RangeReading::digits_number))]
+#[tactic(auto, unfolding(crate::specs::RangeReading::range_number))]
 fn number(digits: &[u8]) -> Option<u32>
-    ensures value { result ≡ digits_number digits.now }
+    ensures value { result ≡ range_number digits.now }
     ensures small { IfSome result (λ n. n ≤ 999) }
 {
     if !are_digits(digits) {

@@ -10,7 +10,7 @@ use Rattle.mk_text.proofs.ForCallers.{both, and_true, or_left, or_right}
 use Rattle.mk_model.specs.declared.template.QueryBond.{QueryBond}
 use Rattle.mk_model.specs.declared.template.Slot.TheVariants.{Link}
 use Rattle.mk_model.specs.Templates.{TemplateView, bonds_without, hang_together, is_in_block, joins}
-use Rattle.mk_model.specs.QueryFits.{HasClosedBlocks, IsClosed, IsMarked}
+use Rattle.mk_model.specs.QueryFits.{HasClosedBlocks, HoldsItsBlock, IsMarked}
 
 -- ---- in words
 
@@ -163,7 +163,7 @@ module _ (template : TemplateView) (blocks : HasClosedBlocks template) (a most f
   -- the block of the one doesn't hold the other
   apart : Hangs of_one a b → ⊥
   apart is =
-      let closed : IsClosed template (Link a most from to) = subst (IsClosed template) one.2 (blocks one.0 (Link a most from to) one.1) in
+      let closed : HoldsItsBlock template (Link a most from to) = subst (HoldsItsBlock template) one.2 (blocks one.0 (Link a most from to) one.1) in
       let marked : IsMarked template b = inr (Link b most' from' to', other, refl) in
       differ (sym ((closed b (hangs_tested of_one a b is)).2 marked))
 
@@ -189,7 +189,8 @@ module _ (template : TemplateView) (blocks : HasClosedBlocks template) (a most f
   without_other x is = (hangs_closed InBoth of_one a x along is (hangs_same of_one a, hangs_same of_other a)).1
 
 -- no atom is in the blocks of two links
-pub one_block : (template : TemplateView) → HasClosedBlocks template → (a most from to b most' from' to' x : ℕ) → Contains template.slots (Link a most from to) → Contains template.slots (Link b most' from' to')
+pub one_block : (template : TemplateView) → HasClosedBlocks template → (a most from to b most' from' to' x : ℕ)
+    → Contains template.slots (Link a most from to) → Contains template.slots (Link b most' from' to')
     → IsTrue (is_in_block template (Link a most from to) x) → IsTrue (is_in_block template (Link b most' from' to') x) → (a ≡ b → ⊥) → ⊥
 one_block template blocks a most from to b most' from' to' x one other in_one in_other differ =
     let first = bonds_without (Link a most from to) template.bonds in

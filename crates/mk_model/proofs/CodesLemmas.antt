@@ -59,7 +59,9 @@ one_choice query (Site atom group first second ∷ slots) (filled k inside more)
     absurd (omega (arith, heads k n' _ _ same, is.1, is'.0))
 one_choice query (Site atom group first second ∷ slots) (filled k inside more) (filled k' inside' more') rest others is is' same =
     let number = heads k k' _ _ same in
-    let made : IsChoice query (slots_of query (member query (Site atom group first second) k)) inside' = subst (λ (n : ℕ). IsChoice query (slots_of query (member query (Site atom group first second) n)) inside') (sym number) is'.2 in
+    let made : IsChoice query (slots_of query (member query (Site atom group first second) k)) inside' =
+    subst (λ (n : ℕ). IsChoice query (slots_of query (member query (Site atom group first second) n)) inside')
+    (sym number) is'.2 in
     let both : spelling inside ++ (spelling more ++ rest) ≡ spelling inside' ++ (spelling more' ++ others) =
     sym (append_assoc (spelling inside) (spelling more) rest) ∙ tails k k' _ _ same ∙ append_assoc (spelling inside') (spelling more') others in
     let first = one_choice query (slots_of query (member query (Site atom group first second) k)) inside inside' (spelling more ++ rest) (spelling more' ++ others) is.2 made both in

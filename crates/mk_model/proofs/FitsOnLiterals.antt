@@ -12,7 +12,7 @@ use Rattle.mk_model.specs.Tests.{IsBondInRange, IsTestInRange}
 use Rattle.mk_model.specs.Templates.{TemplateView, hang_together, joins, slot_atom}
 use Rattle.mk_model.specs.Queries.{QueryView, members_of}
 use Rattle.mk_model.specs.Sizes.{IsSizing, size_by}
-use Rattle.mk_model.specs.QueryFits.{AreApart, AreJoined, FitsPoints, HasClosedBlocks, HasFittingPoints, HasFreePoints, HasPairsOnce, HasRisingSlots, HasSitesApart, IsAtomOf, IsClosed, IsInRange, IsSlotOf, NamesItsNeighbours, NamesNeighbours, QueryFits}
+use Rattle.mk_model.specs.QueryFits.{AreApart, AreNeighbours, FitsPoints, HasClosedBlocks, HasFittingPoints, HasFreePoints, HasPairsOnce, HasRisingSlots, HasSitesApart, IsAtomOf, HoldsItsBlock, IsInRange, IsSlotOf, NamesItsNeighbours, NamesNeighbours, QueryFits}
 use Rattle.mk_model.proofs.FewLemmas.{NoPair, all_1, all_2, all_3, all_4, all_same, edge, once_by, pairs_none, pairs_one}
 use Rattle.mk_model.proofs.SizesLemmas.{none_in_itself, ranked_by_size}
 use Rattle.mk_model.proofs.OnLiterals.{atom, bond, group, plain_group, range, single, site_atom}
@@ -34,14 +34,17 @@ edges_apart : AllPairs NoPair (edge 1 2 ∷ edge 2 3 ∷ edge 3 4 ∷ [])
 unfolding edge
 edges_apart =
     AllPairs-cons NoPair (edge 1 2) (edge 2 3 ∷ edge 3 4 ∷ [])
-    (All-cons (NoPair (edge 1 2)) (edge 2 3) (edge 3 4 ∷ []) (λ x y p q. omega (arith, p, q)) (All-cons (NoPair (edge 1 2)) (edge 3 4) [] (λ x y p q. omega (arith, p, q)) (All-nil (NoPair (edge 1 2)))))
+    (All-cons (NoPair (edge 1 2)) (edge 2 3) (edge 3 4 ∷ []) (λ x y p q. omega (arith, p, q))
+    (All-cons (NoPair (edge 1 2)) (edge 3 4) [] (λ x y p q. omega (arith, p, q)) (All-nil (NoPair (edge 1 2)))))
     (AllPairs-cons NoPair (edge 2 3) (edge 3 4 ∷ []) (All-cons (NoPair (edge 2 3)) (edge 3 4) [] (λ x y p q. omega (arith, p, q)) (All-nil (NoPair (edge 2 3)))) (pairs_one NoPair (edge 3 4)))
 
 root_pairs : HasPairsOnce root
 unfolding root bond edge
 root_pairs = record {
   differ = All-cons (λ b. b.first ≢ b.second) (bond 1 2) (bond 2 3 ∷ bond 3 4 ∷ []) (λ e. omega (arith, e))
-      (All-cons (λ b. b.first ≢ b.second) (bond 2 3) (bond 3 4 ∷ []) (λ e. omega (arith, e)) (All-cons (λ b. b.first ≢ b.second) (bond 3 4) [] (λ e. omega (arith, e)) (All-nil (λ b. b.first ≢ b.second))));
+      (All-cons (λ b. b.first ≢ b.second) (bond 2 3) (bond 3 4 ∷ []) (λ e. omega (arith, e))
+      (All-cons (λ b. b.first ≢ b.second) (bond 3 4) [] (λ e. omega (arith, e))
+      (All-nil (λ b. b.first ≢ b.second))));
   once = once_by (edge 1 2 ∷ edge 2 3 ∷ edge 3 4 ∷ []) edges_apart;
 }
 
@@ -53,7 +56,15 @@ single_pairs = record { differ = All-nil (λ b. b.first ≢ b.second); once = on
 
 carbon : (z : ℕ) → 1 ≤ z → z ≤ 118 → IsTestInRange (atom z)
 unfolding atom
-carbon z least most = record { kind = (least, most); charge = search rules; radical = omega arith; hydrogens = omega arith; ring_bonds = search rules; no_single_ring_bond = λ e. (cc); substitution = search rules }
+carbon z least most = record {
+  kind = (least, most);
+  charge = search rules;
+  radical = omega arith;
+  hydrogens = omega arith;
+  ring_bonds = search rules;
+  no_single_ring_bond = λ e. (cc);
+  substitution = search rules;
+}
 
 any : IsTestInRange site_atom
 unfolding site_atom
@@ -92,7 +103,9 @@ root_range = record {
   tests = all_4 IsTestInRange (atom 6) (atom 6) (atom 6) site_atom (carbon 6 (omega arith) (omega arith)) (carbon 6 (omega arith) (omega arith)) (carbon 6 (omega arith) (omega arith)) any;
   bond_tests = all_3 (λ (b : QueryBond). IsBondInRange b.kind b.topology) (bond 1 2) (bond 2 3) (bond 3 4) (asked 1 2) (asked 2 3) (asked 3 4);
   ends = all_3 (λ (b : QueryBond). IsAtomOf root b.first × IsAtomOf root b.second) (bond 1 2) (bond 2 3) (bond 3 4)
-      (ends 1 2 (omega arith) (omega arith) (omega arith) (omega arith)) (ends 2 3 (omega arith) (omega arith) (omega arith) (omega arith)) (ends 3 4 (omega arith) (omega arith) (omega arith) (omega arith));
+      (ends 1 2 (omega arith) (omega arith) (omega arith) (omega arith))
+      (ends 2 3 (omega arith) (omega arith) (omega arith) (omega arith))
+      (ends 3 4 (omega arith) (omega arith) (omega arith) (omega arith));
   slots = all_2 (IsSlotOf root) (Link 2 3 1 3) (Site 4 1 3 0) link site;
   points = All-nil (IsAtomOf root);
   few_points = omega arith;
@@ -133,7 +146,7 @@ root_neighbours = all_2 (NamesItsNeighbours root) (Link 2 3 1 3) (Site 4 1 3 0) 
   neighbours = λ y. (λ found. inl (joined y found.0 found.1 found.2), λ named. from y 0 named refl);
 })
   where
-    from : (y second : ℕ) → (y ≡ 3) ⊎ ((y ≡ second) × (second ≢ 0)) → second ≡ 0 → AreJoined root 4 y
+    from : (y second : ℕ) → (y ≡ 3) ⊎ ((y ≡ second) × (second ≢ 0)) → second ≡ 0 → AreNeighbours root 4 y
     from y second (inl same) none = (bond 3 4, (2, omega arith, refl), rw same refl)
     from y second (inr other) none = absurd (other.1 none)
 
@@ -148,17 +161,19 @@ root_apart slot other at at' =
       | inl is ↦ subst (λ (s : Slot). AreApart root s other) is tt
       | inr is ↦ elim (which other at') [
         | inl is' ↦ subst (λ (s : Slot). AreApart root slot s) is' (subst (λ (s : Slot). AreApart root s (Link 2 3 1 3)) is tt)
-        | inr is' ↦ subst (λ (s : Slot). AreApart root slot s) is' (subst (λ (s : Slot). AreApart root s (Site 4 1 3 0)) is (λ found. (let same = joined 4 found.0 found.1 found.2 in omega (arith, same))))
+        | inr is' ↦ subst (λ (s : Slot). AreApart root slot s) is'
+            (subst (λ (s : Slot). AreApart root s (Site 4 1 3 0)) is
+            (λ found. (let same = joined 4 found.0 found.1 found.2 in omega (arith, same))))
       ]
     ]
 
-closed : IsClosed root (Link 2 3 1 3)
+closed : HoldsItsBlock root (Link 2 3 1 3)
 unfolding root hang_together bond
 closed x is = (let same : x ≡ 2 = grind (arith, nat_tests) in (λ e. omega (arith, e, same), λ e. omega (arith, e, same), λ _. same))
 
 root_blocks : HasClosedBlocks root
 unfolding root
-root_blocks = all_2 (IsClosed root) (Link 2 3 1 3) (Site 4 1 3 0) closed tt
+root_blocks = all_2 (HoldsItsBlock root) (Link 2 3 1 3) (Site 4 1 3 0) closed tt
 
 root_rises : HasRisingSlots root
 unfolding root
@@ -244,7 +259,7 @@ fits = record {
   neighbours = all_2 NamesNeighbours root (single 9) root_neighbours (All-nil (NamesItsNeighbours (single 9)));
   points_free = all_2 HasFreePoints root (single 9) root_points (λ slot at point. (let below = at.1 in omega arith));
   sites_apart = all_2 HasSitesApart root (single 9) root_apart (λ slot other at at'. absurd (let below = at.1 in omega arith));
-  blocks_closed = all_2 HasClosedBlocks root (single 9) root_blocks (All-nil (IsClosed (single 9)));
+  blocks_closed = all_2 HasClosedBlocks root (single 9) root_blocks (All-nil (HoldsItsBlock (single 9)));
   no_cycle = none_in_itself query sizes (ranked_by_size query sizes adds_up);
   points_fit = points_fit;
   small_root = record { root = root; at = refl; some = omega arith; size = sizes; adds_up = adds_up; small = small };

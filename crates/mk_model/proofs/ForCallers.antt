@@ -64,7 +64,12 @@ numbers_from-each j (edge ∷ bonds) n i below = by_test (touches n edge) refl b
     here : touches n edge ≡ true → IsNumberFrom j (edge ∷ bonds) n j
     here ends = record { least = omega arith; most = omega arith; ends = λ d. let place : j - j ≡ 0 = omega arith in rw place ends }
 
-    by_test : (b : Bool) → touches n edge ≡ b → i < length (cond b (j ∷ numbers_from (j + 1) bonds n) (numbers_from (j + 1) bonds n)) → ((k : ℕ) → k < length (numbers_from (j + 1) bonds n) → IsNumberFrom (j + 1) bonds n (get_or (numbers_from (j + 1) bonds n) k 0)) → IsNumberFrom j (edge ∷ bonds) n (get_or (cond b (j ∷ numbers_from (j + 1) bonds n) (numbers_from (j + 1) bonds n)) i 0)
+    by_test : (b : Bool) → touches n edge ≡ b → i < length
+        (cond b (j ∷ numbers_from (j + 1) bonds n) (numbers_from (j + 1) bonds n))
+        → ((k : ℕ) → k < length (numbers_from (j + 1) bonds n)
+        → IsNumberFrom (j + 1) bonds n (get_or (numbers_from (j + 1) bonds n) k 0))
+        → IsNumberFrom j (edge ∷ bonds) n (get_or (cond b (j ∷ numbers_from (j + 1) bonds n)
+        (numbers_from (j + 1) bonds n)) i 0)
     by_test true ends below each =
         by_place i below
       where
@@ -80,7 +85,8 @@ numbers_at-each bonds n i below =
     record { least = is.least; most = omega (arith, is.most); ends = is.ends }
 
 -- each bond of an atom has its number in the list
-pub numbers_at-all : (bonds : List Edge) (n b : ℕ) (d : Edge) → b < length bonds → touches n (get_or bonds b d) ≡ true → (i : ℕ) × (i < length (numbers_at bonds n)) × (get_or (numbers_at bonds n) i 0 ≡ b + 1)
+pub numbers_at-all : (bonds : List Edge) (n b : ℕ) (d : Edge) → b < length bonds → touches n (get_or bonds b d) ≡ true
+    → (i : ℕ) × (i < length (numbers_at bonds n)) × (get_or (numbers_at bonds n) i 0 ≡ b + 1)
 numbers_at-all bonds n b d below ends = (
   degree (take b bonds) n,
   omega (arith, length-numbers_from 1 bonds n, degree_within bonds b n d below ends),

@@ -31,7 +31,9 @@ joins mol a b bond is = record {
 }
 
 -- the bond that is found is the one between the atoms
-pub bond-exact : (mol : Molecule) (a b : ℕ) (r : Option MolBond) → IsMolecule mol → BondAmong mol.bonds (numbers_at (edges mol.bonds) a) a b r → (bond : MolBond) → (r ≡ Some bond) ↔ IsBondOf mol a b bond
+pub bond-exact : (mol : Molecule) (a b : ℕ) (r : Option MolBond) → IsMolecule mol
+    → BondAmong mol.bonds (numbers_at (edges mol.bonds) a) a b r → (bond : MolBond)
+    → (r ≡ Some bond) ↔ IsBondOf mol a b bond
 bond-exact mol a b None kept among bond = (
   λ e. cc,
   λ is.

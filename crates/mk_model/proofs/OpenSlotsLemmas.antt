@@ -56,7 +56,8 @@ pub record IsCut (query : QueryView) (slots others : List Slot) (code : List ℕ
   pub whole : spelling choice ++ rest ≡ code
 
 -- where a number fills a site
-by_member : (query : QueryView) (atom group first second k : ℕ) (slots others : List Slot) (code : List ℕ) (n : ℕ) → length code < n → 1 ≤ k → k ≤ length (members_at query (Site atom group first second)) + 1
+by_member : (query : QueryView) (atom group first second k : ℕ) (slots others : List Slot) (code : List ℕ) (n : ℕ)
+    → length code < n → 1 ≤ k → k ≤ length (members_at query (Site atom group first second)) + 1
     → ((slots others : List Slot) (code : List ℕ) → length code < n → Chooses query (slots ++ others) code → IsCut query slots others code)
     → (b : Bool) → is_filled_by query (Site atom group first second) k ≡ b → Chooses query (cond b (slots_of query (member query (Site atom group first second) k)) [] ++ (slots ++ others)) code
     → IsCut query (Site atom group first second ∷ slots) others (k ∷ code)
@@ -70,7 +71,8 @@ by_member query atom group first second k slots others code n short least most c
       made = (least, below, inside.made, behind.made);
       rest = behind.rest;
       rest_chooses = behind.rest_chooses;
-      whole = ap (λ (xs : List ℕ). k ∷ xs) (append_assoc (spelling inside.choice) (spelling behind.choice) behind.rest ∙ ap (λ (xs : List ℕ). spelling inside.choice ++ xs) behind.whole ∙ inside.whole);
+      whole = ap (λ (xs : List ℕ). k ∷ xs) (append_assoc (spelling inside.choice) (spelling behind.choice) behind.rest
+          ∙ ap (λ (xs : List ℕ). spelling inside.choice ++ xs) behind.whole ∙ inside.whole);
     }
 by_member query atom group first second k slots others code n short least most cut false fills chooses =
     let behind = cut slots others code short chooses in
@@ -154,7 +156,9 @@ standing_walks query (Link atom most from to ∷ slots) (filled k inside more) o
 standing_walks query (Site atom group first second ∷ slots) done others code is = absurd is
 standing_walks query (Site atom group first second ∷ slots) (repeated n more) others code is = absurd is
 standing_walks query (Site atom group first second ∷ slots) (unfilled n more) others code is =
-    rw (opens_none query (Site atom group first second) n is.0) (ap (λ (xs : List Standing). record { site = Site atom group first second; number = n } ∷ xs) (standing_walks query slots more others code is.1))
+    rw (opens_none query (Site atom group first second) n is.0)
+    (ap (λ (xs : List Standing). record { site = Site atom group first second; number = n } ∷ xs)
+    (standing_walks query slots more others code is.1))
 standing_walks query (Site atom group first second ∷ slots) (filled k inside more) others code is =
     rw (opens_member query (Site atom group first second) k is.1, append_assoc (spelling inside) (spelling more) code)
     (ap (λ (xs : List Standing). record { site = Site atom group first second; number = k } ∷ xs)

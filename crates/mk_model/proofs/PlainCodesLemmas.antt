@@ -78,7 +78,9 @@ none_open n query = record {
     all_one (k ∷ code) is = absurd is
 
 -- a number at the first slot, and behind it the codes at those that are open then
-one_more : (n : ℕ) (query : QueryView) (slot : Slot) (slots : List Slot) → ((k : ℕ) → IsRisingListOfAll (ChoosesWithin n query (opened query slot k ++ slots)) (codes_of n query (opened query slot k ++ slots)))
+one_more : (n : ℕ) (query : QueryView) (slot : Slot) (slots : List Slot)
+    → ((k : ℕ) → IsRisingListOfAll (ChoosesWithin n query (opened query slot k ++ slots))
+    (codes_of n query (opened query slot k ++ slots)))
     → IsRisingListOfAll (ChoosesWithin (suc n) query (slot ∷ slots)) (codes_of (suc n) query (slot ∷ slots))
 one_more n query slot slots listed = record {
   rises = joined.rises;

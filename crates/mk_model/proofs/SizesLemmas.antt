@@ -62,7 +62,8 @@ size_same query size other t template at same =
 -- ---- the sizing
 
 -- sizes that agree on what a template puts in, where there is one
-if_same : (query : QueryView) (size other : ℕ → ℕ) (t : ℕ) → ((u : ℕ) → PutsIn query t u → size u ≡ other u) → size_if query size (slice_get query.templates t) ≡ size_if query other (slice_get query.templates t)
+if_same : (query : QueryView) (size other : ℕ → ℕ) (t : ℕ) → ((u : ℕ) → PutsIn query t u → size u ≡ other u)
+    → size_if query size (slice_get query.templates t) ≡ size_if query other (slice_get query.templates t)
 if_same query size other t same = by_template (slice_get query.templates t) refl
   where
     by_template : (o : Option TemplateView) → slice_get query.templates t ≡ o → size_if query size (slice_get query.templates t) ≡ size_if query other (slice_get query.templates t)

@@ -59,7 +59,8 @@ module _ (P : List ℕ → Type 0) (s t : List ℕ) (same : SameFrom P s t) (q :
 
 -- ---- what is paid
 
-module _ (P : List ℕ → Type 0) (place from node to : List ℕ) (debt : ℕ) (has : P node) (up : IsBelow node from → ⊥) (on : IsBelow from place → ⊥) (owed : debt ≡ 0 → IsBelow place from) (behind : IsBelow to node → ⊥) where
+module _ (P : List ℕ → Type 0) (place from node to : List ℕ) (debt : ℕ) (has : P node) (up : IsBelow node from → ⊥)
+    (on : IsBelow from place → ⊥) (owed : debt ≡ 0 → IsBelow place from) (behind : IsBelow to node → ⊥) where
   not_back : IsBelow to place → ⊥
   not_back below = not_below_through to node place behind (not_below_through node from place up on) below
 

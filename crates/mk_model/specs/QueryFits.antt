@@ -31,8 +31,8 @@ abbrev pub IsAtomOf : TemplateView → ℕ → Type 0
 IsAtomOf template x = (1 ≤ x) × (x ≤ length template.atoms)
 
 -- some bond joins x and y
-abbrev pub AreJoined : TemplateView → ℕ → ℕ → Type 0
-AreJoined template x y = (bond : QueryBond) × Contains template.bonds bond × IsTrue (joins x y bond)
+abbrev pub AreNeighbours : TemplateView → ℕ → ℕ → Type 0
+AreNeighbours template x y = (bond : QueryBond) × Contains template.bonds bond × IsTrue (joins x y bond)
 
 -- two atoms are joined to a third by bonds alike in type and topology
 pub record AreAlike (template : TemplateView) (atom from to : ℕ) : Type 0 where
@@ -91,7 +91,7 @@ HasRisingSlots template = AllPairs (λ slot later. slot_atom slot < slot_atom la
 pub record IsBetweenNamed (template : TemplateView) (atom first second : ℕ) : Type 0 where
   pub some : first ≢ 0
   pub differ : first ≢ second
-  pub neighbours : (y : ℕ) → AreJoined template atom y ↔ ((y ≡ first) ⊎ ((y ≡ second) × (second ≢ 0)))
+  pub neighbours : (y : ℕ) → AreNeighbours template atom y ↔ ((y ≡ first) ⊎ ((y ≡ second) × (second ≢ 0)))
 
 -- a site names the atoms that it is bonded to; nothing is asked of a link here
 abbrev pub NamesItsNeighbours : TemplateView → Slot → Type 0
@@ -108,7 +108,7 @@ HasFreePoints template = (slot : Slot) → Contains template.slots slot → Cont
 
 -- where both slots are sites no bond joins them
 abbrev pub AreApart : TemplateView → Slot → Slot → Type 0
-AreApart template (Site atom group first second) (Site atom' group' first' second') = AreJoined template atom atom' → ⊥
+AreApart template (Site atom group first second) (Site atom' group' first' second') = AreNeighbours template atom atom' → ⊥
 AreApart template slot slot' = Unit {0}
 
 -- no site is bonded to a site
@@ -121,15 +121,15 @@ IsMarked template x = Contains template.points x ⊎ ((slot : Slot) × Contains 
 
 -- a link's block holds neither of the two neighbours that it names, no other slot, and no
 -- attachment point
-abbrev pub IsClosed : TemplateView → Slot → Type 0
-IsClosed template (Link atom most from to) =
+abbrev pub HoldsItsBlock : TemplateView → Slot → Type 0
+HoldsItsBlock template (Link atom most from to) =
     (x : ℕ) → IsTrue (is_in_block template (Link atom most from to) x)
     → (x ≢ from) × (x ≢ to) × (IsMarked template x → x ≡ atom)
-IsClosed template (Site atom group first second) = Unit {0}
+HoldsItsBlock template (Site atom group first second) = Unit {0}
 
 -- each block is joined on by its link alone
 abbrev pub HasClosedBlocks : TemplateView → Type 0
-HasClosedBlocks template = All (IsClosed template) template.slots
+HasClosedBlocks template = All (HoldsItsBlock template) template.slots
 
 -- ---- 8. to 12. of the whole query
 

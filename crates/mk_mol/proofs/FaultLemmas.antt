@@ -7,10 +7,10 @@ use Rattle.std.proofs.lemmas.List.{nil_from_length}
 use Rattle.mk_ctab.specs.declared.raw.RawTable.{RawTable}
 use Rattle.mk_text.specs.Items.{OfItem, IsLeastFailing}
 use Rattle.mk_mol.specs.Checks.{IsOfMolecules}
-use Rattle.mk_mol.specs.FirstFault.{Check, known_atoms, new_bonds, known_types, few_bonds, named_atoms, known_values, known_properties, number, Demands, Passes, PassesAll, PassesBelow, IsFirstFault}
+use Rattle.mk_mol.specs.FirstFault.{MoleculeCheck, known_atoms, new_bonds, known_types, few_bonds, named_atoms, known_values, known_properties, molecule_check_number, MoleculeDemands, MeetsCheck, MeetsAllChecks, MeetsChecksBelow, IsFirstMoleculeFault}
 
 -- the check of a number
-abbrev check_at : ℕ → Check
+abbrev check_at : ℕ → MoleculeCheck
 check_at n =
     if n == 1 then known_atoms else (
     if n == 2 then new_bonds else (
@@ -19,7 +19,7 @@ check_at n =
     if n == 5 then named_atoms else (
     if n == 6 then known_values else known_properties)))))
 
-check_at-number : (c : Check) → check_at (number c) ≡ c
+check_at-number : (c : MoleculeCheck) → check_at (molecule_check_number c) ≡ c
 check_at-number known_atoms = refl
 check_at-number new_bonds = refl
 check_at-number known_types = refl
@@ -29,11 +29,11 @@ check_at-number known_values = refl
 check_at-number known_properties = refl
 
 -- no two checks have one number
-pub number-once : (c d : Check) → number c ≡ number d → c ≡ d
+pub number-once : (c d : MoleculeCheck) → molecule_check_number c ≡ molecule_check_number d → c ≡ d
 number-once c d same = sym (check_at-number c) ∙ ap check_at same ∙ check_at-number d
 
 -- they count from 1
-pub number-least : (c : Check) → 1 ≤ number c
+pub number-least : (c : MoleculeCheck) → 1 ≤ molecule_check_number c
 number-least known_atoms = omega arith
 number-least new_bonds = omega arith
 number-least known_types = omega arith
@@ -43,7 +43,7 @@ number-least known_values = omega arith
 number-least known_properties = omega arith
 
 -- to 7
-pub number-most : (c : Check) → number c ≤ 7
+pub number-most : (c : MoleculeCheck) → molecule_check_number c ≤ 7
 number-most known_atoms = omega arith
 number-most new_bonds = omega arith
 number-most known_types = omega arith
@@ -53,22 +53,23 @@ number-most known_values = omega arith
 number-most known_properties = omega arith
 
 -- none stands before the first
-pub below_none : (table : RawTable) → PassesBelow table 1
+pub below_none : (table : RawTable) → MeetsChecksBelow table 1
 below_none table d below = absurd (omega (arith, number-least d))
 
 -- one check more
-pub below_more : (table : RawTable) (c : Check) → Passes table c → PassesBelow table (number c) → PassesBelow table (number c + 1)
+pub below_more : (table : RawTable) (c : MoleculeCheck) → MeetsCheck table c → MeetsChecksBelow table (molecule_check_number c) → MeetsChecksBelow table (molecule_check_number c + 1)
 below_more table c passes before d below =
     ⊎_elim (λ earlier. before d earlier)
-    (λ here. let same : c ≡ d = number-once c d (omega arith) in let P : Check → Type 0 = λ x. Passes table x in subst P same passes)
-    (cases_lt (number d) (number c))
+    (λ here. let same : c ≡ d = number-once c d (omega arith) in let P : MoleculeCheck → Type 0 = λ x. MeetsCheck table x in subst P same passes)
+    (cases_lt (molecule_check_number d) (molecule_check_number c))
 
 -- all seven
-pub below_all : (table : RawTable) → PassesBelow table 8 → PassesAll table
+pub below_all : (table : RawTable) → MeetsChecksBelow table 8 → MeetsAllChecks table
 below_all table before d = before d (omega (arith, number-most d))
 
 -- the first that fails
-pub fault : (table : RawTable) (c : Check) (item : ℕ) → PassesBelow table (number c) → IsLeastFailing (Demands table c) item → IsFirstFault table (number c) item
+pub fault : (table : RawTable) (c : MoleculeCheck) (item : ℕ) → MeetsChecksBelow table (molecule_check_number c)
+    → IsLeastFailing (MoleculeDemands table c) item → IsFirstMoleculeFault table (molecule_check_number c) item
 fault table c item before least = record { check = c; numbered = refl; before = before; least = least }
 
 -- ---- atom lists and properties that a molecule can't have
@@ -81,19 +82,19 @@ pub is_not_empty : {X : Type 0} (seen xs : List X) (b : Bool) → seen ≡ xs �
 is_not_empty seen xs b same is not_so empty = absurd (let P : List _ → Type 0 = λ l. b ≡ (length l == 0) in let e = subst P (same ∙ empty) is in cc)
 
 -- atom lists are item 0
-pub foreign_lists : (table : RawTable) → table.lists ≢ [] → IsLeastFailing (Demands table known_properties) 0
+pub foreign_lists : (table : RawTable) → table.lists ≢ [] → IsLeastFailing (MoleculeDemands table known_properties) 0
 foreign_lists table some = record {
   lower = λ j below. absurd (omega arith);
   fails = λ demands. some (demands.0 refl);
 }
 
 -- without atom lists it is a property
-pub foreign_property : (table : RawTable) (item : ℕ) → table.lists ≡ [] → IsLeastFailing (OfItem IsOfMolecules table.props) item → IsLeastFailing (Demands table known_properties) item
+pub foreign_property : (table : RawTable) (item : ℕ) → table.lists ≡ [] → IsLeastFailing (OfItem IsOfMolecules table.props) item → IsLeastFailing (MoleculeDemands table known_properties) item
 foreign_property table item none least = record {
   lower = λ j below. (λ _. none, least.lower j below);
   fails = λ demands. least.fails demands.1;
 }
 
 -- or none
-pub no_foreign : (table : RawTable) → table.lists ≡ [] → ((item : ℕ) → OfItem IsOfMolecules table.props item) → Passes table known_properties
+pub no_foreign : (table : RawTable) → table.lists ≡ [] → ((item : ℕ) → OfItem IsOfMolecules table.props item) → MeetsCheck table known_properties
 no_foreign table none all item = (λ _. none, all item)

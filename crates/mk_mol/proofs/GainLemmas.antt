@@ -14,9 +14,9 @@ use Rattle.mk_ctab.specs.declared.raw.RawAtom.{RawAtom}
 use Rattle.mk_ctab.specs.declared.raw.RawTable.{RawTable}
 use Rattle.mk_mol.specs.declared.bond_checks.Drawn.{Drawn}
 use Rattle.mk_ctab.specs.Numbers.{IsWithin, natural, byte}
-use Rattle.mk_ctab.specs.Bonds.{edge_of, edges_of}
+use Rattle.mk_ctab.specs.Bonds.{raw_edge, edges_of}
 use Rattle.mk_mol.specs.Checks.{HasKnownType}
-use Rattle.mk_mol.specs.FirstFault.{PassesAll, known_types, few_bonds}
+use Rattle.mk_mol.specs.FirstFault.{MeetsAllChecks, known_types, few_bonds}
 use Rattle.mk_mol.specs.Filled.{AreGains, gained_by, kinds_at}
 use Rattle.mk_mol.specs.Putting.{kinds_of}
 use Rattle.mk_mol.specs.Search.{IsDrawn}
@@ -34,7 +34,10 @@ pub gains-none : (table : RawTable) (atoms : List Atom) (gains : List ℕ) → g
 gains-none table atoms gains is = record { size = ap length is; each = λ i line atom below. absurd (omega arith) }
 
 -- one atom more
-pub gains-more : (table : RawTable) (atoms : List Atom) (k : ℕ) (d : Atom) (gains : List ℕ) (gained : ℕ) → k < length atoms → ((line : RawAtom) → slice_get table.atoms k ≡ Some line → gained ≡ gained_by table (k + 1) line (get_or atoms k d)) → AreGainsTo table atoms k gains → AreGainsTo table atoms (k + 1) (gains ++ gained ∷ [])
+pub gains-more : (table : RawTable) (atoms : List Atom) (k : ℕ) (d : Atom) (gains : List ℕ) (gained : ℕ)
+    → k < length atoms → ((line : RawAtom) → slice_get table.atoms k ≡ Some line
+    → gained ≡ gained_by table (k + 1) line (get_or atoms k d)) → AreGainsTo table atoms k gains
+    → AreGainsTo table atoms (k + 1) (gains ++ gained ∷ [])
 gains-more table atoms k d gains gained below is are = record {
   size = omega (arith, length_push gains gained, are.size);
   each = λ i line atom i_in line_at atom_at.
@@ -50,7 +53,8 @@ gains-more table atoms k d gains gained below is are = record {
 }
 
 -- all atoms
-pub gains-all : (table : RawTable) (atoms : List Atom) (k : ℕ) (gains : List ℕ) → length atoms ≡ length table.atoms → length atoms ≤ k → k ≤ length atoms → AreGainsTo table atoms k gains → AreGains table atoms gains
+pub gains-all : (table : RawTable) (atoms : List Atom) (k : ℕ) (gains : List ℕ) → length atoms ≡ length table.atoms
+    → length atoms ≤ k → k ≤ length atoms → AreGainsTo table atoms k gains → AreGains table atoms gains
 gains-all table atoms k gains size all few are = record {
   size = omega (arith, are.size, size);
   each = λ i line atom line_at atom_at.
@@ -69,14 +73,16 @@ known_kind (pos n) is =
     rw fits (least, most)
 known_kind (negsuc n) is = absurd (omega (arith, ints, is.least))
 
-pub known_kinds : (table : RawTable) (edges : List Edge) → edges ≡ edges_of table.bonds → PassesAll table → All (λ edge. (1 ≤ edge.kind) × (edge.kind ≤ 4)) edges
+pub known_kinds : (table : RawTable) (edges : List Edge) → edges ≡ edges_of table.bonds → MeetsAllChecks table → All (λ edge. (1 ≤ edge.kind) × (edge.kind ≤ 4)) edges
 known_kinds table edges are passes =
     rw are
-    (All-map (λ (edge : Edge). (1 ≤ edge.kind) × (edge.kind ≤ 4)) edge_of table.bonds
+    (All-map (λ (edge : Edge). (1 ≤ edge.kind) × (edge.kind ≤ 4)) raw_edge table.bonds
     (λ k d below. known_kind (get_or table.bonds k d).kind (all_of HasKnownType table.bonds (passes known_types) k d below)))
 
 -- the numbers of the bonds of an atom of the table
-pub numbers_of : (table : RawTable) (drawn : Drawn) (i : ℕ) (numbers : List ℕ) → IsDrawn table drawn → i < length table.atoms → slice_get drawn.near (i + 1 - 1) ≡ Some numbers → numbers ≡ numbers_at (edges_of table.bonds) (i + 1)
+pub numbers_of : (table : RawTable) (drawn : Drawn) (i : ℕ) (numbers : List ℕ) → IsDrawn table drawn
+    → i < length table.atoms → slice_get drawn.near (i + 1 - 1) ≡ Some numbers
+    → numbers ≡ numbers_at (edges_of table.bonds) (i + 1)
 numbers_of table drawn i numbers is below at =
     let size : length drawn.near ≡ length table.atoms = ap length is.near ∙ length-rows_of (length table.atoms) drawn.edges.items in
     let rows : drawn.near ≡ rows_of (length drawn.near) drawn.edges.items = rw size is.near in
@@ -87,13 +93,17 @@ pub near_size : (table : RawTable) (drawn : Drawn) → IsDrawn table drawn → l
 near_size table drawn is = ap length is.near ∙ length-rows_of (length table.atoms) drawn.edges.items
 
 -- it is short
-pub few_numbers : (table : RawTable) (i : ℕ) (numbers : List ℕ) → PassesAll table → i < length table.atoms → numbers ≡ numbers_at (edges_of table.bonds) (i + 1) → length numbers ≤ 20
+pub few_numbers : (table : RawTable) (i : ℕ) (numbers : List ℕ) → MeetsAllChecks table → i < length table.atoms → numbers ≡ numbers_at (edges_of table.bonds) (i + 1) → length numbers ≤ 20
 few_numbers table i numbers passes below are =
     let few = passes few_bonds (i + 1) (omega arith) (omega arith) in
     omega (arith, few, ap length are, length-numbers_from 1 (edges_of table.bonds) (i + 1))
 
 -- what an atom gains by the types of the numbered bonds
-pub gained_is : (table : RawTable) (i mark gained : ℕ) (seen line : RawAtom) (atom : Atom) (edges : List Edge) (numbers : List ℕ) → seen ≡ get_or table.atoms i seen → i < length table.atoms → mark ≡ natural seen.valence → edges ≡ edges_of table.bonds → numbers ≡ numbers_at (edges_of table.bonds) (i + 1) → gained ≡ added_hydrogens atom.element atom.charge atom.radical mark (kinds_of edges numbers) → slice_get table.atoms i ≡ Some line → gained ≡ gained_by table (i + 1) line atom
+pub gained_is : (table : RawTable) (i mark gained : ℕ) (seen line : RawAtom) (atom : Atom) (edges : List Edge)
+    (numbers : List ℕ) → seen ≡ get_or table.atoms i seen → i < length table.atoms → mark ≡ natural seen.valence
+    → edges ≡ edges_of table.bonds → numbers ≡ numbers_at (edges_of table.bonds) (i + 1)
+    → gained ≡ added_hydrogens atom.element atom.charge atom.radical mark (kinds_of edges numbers)
+    → slice_get table.atoms i ≡ Some line → gained ≡ gained_by table (i + 1) line atom
 gained_is table i mark gained seen line atom edges numbers is below marks are ns by at =
     let same : seen ≡ line = is ∙ get_or_from_slice_get table.atoms i line seen at in
     let kinds : kinds_of edges numbers ≡ kinds_at (edges_of table.bonds) (i + 1) = rw (are, ns) (kinds_are (edges_of table.bonds) (i + 1)) in

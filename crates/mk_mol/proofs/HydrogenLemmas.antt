@@ -7,7 +7,7 @@ use Rattle.std.proofs.lemmas.List.Elements.{All-map}
 use Rattle.mk_model.specs.declared.edge.Edge.{Edge}
 use Rattle.mk_model.specs.declared.molecule.Atom.{Atom}
 use Rattle.mk_model.specs.Edges.{numbers_at, numbers_from, touches}
-use Rattle.mk_mol.specs.Filled.{hydrogen, hydrogen_bonds, owners, kinds_at}
+use Rattle.mk_mol.specs.Filled.{hydrogen_atom, hydrogen_bonds, owners, kinds_at}
 use Rattle.mk_mol.specs.Putting.{kinds_of, no_edge}
 
 -- ---- lists of hydrogens
@@ -34,12 +34,14 @@ owners-push n (g ∷ gains) gained =
 -- ---- loops
 
 -- one hydrogen more
-pub hydrogens-more : (atoms now next : List Atom) (k : ℕ) → now ≡ atoms ++ replicate k hydrogen → next ≡ now ++ hydrogen ∷ [] → next ≡ atoms ++ replicate (k + 1) hydrogen
+pub hydrogens-more : (atoms now next : List Atom) (k : ℕ) → now ≡ atoms ++ replicate k hydrogen_atom → next ≡ now ++ hydrogen_atom ∷ [] → next ≡ atoms ++ replicate (k + 1) hydrogen_atom
 hydrogens-more atoms now next k are is =
-    is ∙ ap (λ (l : List Atom). l ++ hydrogen ∷ []) are ∙ append_assoc atoms (replicate k hydrogen) (hydrogen ∷ []) ∙ ap (λ (l : List Atom). atoms ++ l) (replicate_more k hydrogen)
+    is ∙ ap (λ (l : List Atom). l ++ hydrogen_atom ∷ []) are ∙ append_assoc atoms (replicate k hydrogen_atom) (hydrogen_atom ∷ []) ∙ ap (λ (l : List Atom). atoms ++ l) (replicate_more k hydrogen_atom)
 
 -- and its bond
-pub bonds-more : (edges now next : List Edge) (n k owner m : ℕ) → now ≡ edges ++ hydrogen_bonds n (replicate k owner) → m ≡ n + k → next ≡ now ++ record { first = owner; second = m; kind = 1 } ∷ [] → next ≡ edges ++ hydrogen_bonds n (replicate (k + 1) owner)
+pub bonds-more : (edges now next : List Edge) (n k owner m : ℕ) → now ≡ edges ++ hydrogen_bonds n (replicate k owner)
+    → m ≡ n + k → next ≡ now ++ record { first = owner; second = m; kind = 1 } ∷ []
+    → next ≡ edges ++ hydrogen_bonds n (replicate (k + 1) owner)
 bonds-more edges now next n k owner m are number is =
     let last : record { first = owner; second = m; kind = 1 } ∷ [] ≡ hydrogen_bonds (n + length (replicate k owner)) (owner ∷ []) =
     ap (λ (j : ℕ). hydrogen_bonds j (owner ∷ [])) (number ∙ ap (λ (j : ℕ). n + j) (sym (length-replicate k owner))) in
@@ -49,29 +51,39 @@ bonds-more edges now next n k owner m are number is =
     ∙ ap (λ (l : List Edge). edges ++ l) (sym (hydrogen_bonds-append n (replicate k owner) (owner ∷ [])) ∙ ap (hydrogen_bonds n) (replicate_more k owner))
 
 -- the last hydrogen's number
-pub next_number : (atoms next : List Atom) (k m : ℕ) → next ≡ atoms ++ replicate (k + 1) hydrogen → m ≡ length next → m ≡ length atoms + 1 + k
-next_number atoms next k m are is = omega (arith, is, ap length are, length-append atoms (replicate (k + 1) hydrogen), length-replicate (k + 1) hydrogen)
+pub next_number : (atoms next : List Atom) (k m : ℕ) → next ≡ atoms ++ replicate (k + 1) hydrogen_atom → m ≡ length next → m ≡ length atoms + 1 + k
+next_number atoms next k m are is = omega (arith, is, ap length are, length-append atoms (replicate (k + 1) hydrogen_atom), length-replicate (k + 1) hydrogen_atom)
 
 -- the number of the first hydrogen of the next atom
-pub first_number : (atoms now : List Atom) (os : List ℕ) → now ≡ atoms ++ replicate (length os) hydrogen → length now + 1 ≡ length atoms + 1 + length os
-first_number atoms now os are = omega (arith, ap length are, length-append atoms (replicate (length os) hydrogen), length-replicate (length os) hydrogen)
+pub first_number : (atoms now : List Atom) (os : List ℕ) → now ≡ atoms ++ replicate (length os) hydrogen_atom → length now + 1 ≡ length atoms + 1 + length os
+first_number atoms now os are = omega (arith, ap length are, length-append atoms (replicate (length os) hydrogen_atom), length-replicate (length os) hydrogen_atom)
 
 -- the atoms are still few
-pub still_few : (now next : List Atom) (first i gained : ℕ) → next ≡ now ++ replicate gained hydrogen → gained < 256 → length now ≤ first + 256 * i → length next ≤ first + 256 * (i + 1)
-still_few now next first i gained is small few = omega (arith, ap length is, length-append now (replicate gained hydrogen), length-replicate gained hydrogen, few, small)
+pub still_few : (now next : List Atom) (first i gained : ℕ) → next ≡ now ++ replicate gained hydrogen_atom → gained < 256 → length now ≤ first + 256 * i → length next ≤ first + 256 * (i + 1)
+still_few now next first i gained is small few = omega (arith, ap length is, length-append now (replicate gained hydrogen_atom), length-replicate gained hydrogen_atom, few, small)
 
 -- the hydrogens of one atom more
-pub atoms-more : (atoms now next : List Atom) (gains : List ℕ) (i : ℕ) → i < length gains → now ≡ atoms ++ replicate (length (owners 1 (take i gains))) hydrogen → next ≡ now ++ replicate (get_or gains i 0) hydrogen → next ≡ atoms ++ replicate (length (owners 1 (take (i + 1) gains))) hydrogen
+pub atoms-more : (atoms now next : List Atom) (gains : List ℕ) (i : ℕ) → i < length gains
+    → now ≡ atoms ++ replicate (length (owners 1 (take i gains))) hydrogen_atom
+    → next ≡ now ++ replicate (get_or gains i 0) hydrogen_atom
+    → next ≡ atoms ++ replicate (length (owners 1 (take (i + 1) gains))) hydrogen_atom
 atoms-more atoms now next gains i below are is =
     let os = owners 1 (take i gains) in
     let many : length (owners 1 (take (i + 1) gains)) ≡ length os + get_or gains i 0 =
-    ap (λ (l : List ℕ). length (owners 1 l)) (take_more gains i 0 below) ∙ ap length (owners-push 1 (take i gains) (get_or gains i 0)) ∙ length-append os (replicate (get_or gains i 0) (1 + length (take i gains))) ∙ ap (λ (j : ℕ). length os + j) (length-replicate (get_or gains i 0) (1 + length (take i gains))) in
+    ap (λ (l : List ℕ). length (owners 1 l)) (take_more gains i 0 below)
+    ∙ ap length (owners-push 1 (take i gains) (get_or gains i 0))
+    ∙ length-append os (replicate (get_or gains i 0) (1 + length (take i gains)))
+    ∙ ap (λ (j : ℕ). length os + j) (length-replicate (get_or gains i 0) (1 + length (take i gains))) in
     rw many
-    (is ∙ ap (λ (l : List Atom). l ++ replicate (get_or gains i 0) hydrogen) are ∙ append_assoc atoms (replicate (length os) hydrogen) (replicate (get_or gains i 0) hydrogen)
-    ∙ ap (λ (l : List Atom). atoms ++ l) (replicate-append-replicate (length os) (get_or gains i 0) hydrogen))
+    (is ∙ ap (λ (l : List Atom). l ++ replicate (get_or gains i 0) hydrogen_atom) are ∙ append_assoc atoms (replicate (length os) hydrogen_atom) (replicate (get_or gains i 0) hydrogen_atom)
+    ∙ ap (λ (l : List Atom). atoms ++ l) (replicate-append-replicate (length os) (get_or gains i 0) hydrogen_atom))
 
 -- and their bonds
-pub owned-more : (edges now next : List Edge) (n : ℕ) (gains : List ℕ) (i m : ℕ) → i < length gains → length (take i gains) ≡ i → m ≡ n + length (owners 1 (take i gains)) → now ≡ edges ++ hydrogen_bonds n (owners 1 (take i gains)) → next ≡ now ++ hydrogen_bonds m (replicate (get_or gains i 0) (i + 1)) → next ≡ edges ++ hydrogen_bonds n (owners 1 (take (i + 1) gains))
+pub owned-more : (edges now next : List Edge) (n : ℕ) (gains : List ℕ) (i m : ℕ) → i < length gains
+    → length (take i gains) ≡ i → m ≡ n + length (owners 1 (take i gains))
+    → now ≡ edges ++ hydrogen_bonds n (owners 1 (take i gains))
+    → next ≡ now ++ hydrogen_bonds m (replicate (get_or gains i 0) (i + 1))
+    → next ≡ edges ++ hydrogen_bonds n (owners 1 (take (i + 1) gains))
 owned-more edges now next n gains i m below size number are is =
     let os = owners 1 (take i gains) in
     let owner : 1 + length (take i gains) ≡ i + 1 = omega arith in
@@ -83,7 +95,8 @@ owned-more edges now next n gains i m below size number are is =
 -- ---- types of bonds
 
 -- the types of the bonds that are numbered for an atom, where the first of the bonds has the number j + 1 and j others stand before
-kinds_from : (front bonds : List Edge) (n : ℕ) → map (λ k. (get_or (front ++ bonds) (k - 1) no_edge).kind) (numbers_from (length front + 1) bonds n) ≡ map (λ edge. edge.kind) (filter (touches n) bonds)
+kinds_from : (front bonds : List Edge) (n : ℕ) → map (λ k. (get_or (front ++ bonds) (k - 1) no_edge).kind)
+    (numbers_from (length front + 1) bonds n) ≡ map (λ edge. edge.kind) (filter (touches n) bonds)
 kinds_from front [] n = refl
 kinds_from front (edge ∷ bonds) n =
     let f : ℕ → ℕ = λ k. (get_or (front ++ edge ∷ bonds) (k - 1) no_edge).kind in
@@ -93,7 +106,9 @@ kinds_from front (edge ∷ bonds) n =
     let rest : map f (numbers_from (length front + 1 + 1) bonds n) ≡ map (λ e. e.kind) (filter (touches n) bonds) = rw (many, joined) at more in
     let place : length front + 1 - 1 ≡ length front = omega arith in
     let here : f (length front + 1) ≡ edge.kind = rw place (ap (λ (e : Edge). e.kind) (get_or_at front edge bonds no_edge (length front) refl)) in
-    elim (touches n edge) as (λ b. map f (if b then (length front + 1) ∷ numbers_from (length front + 1 + 1) bonds n else numbers_from (length front + 1 + 1) bonds n) ≡ map (λ e. e.kind) (cond b (edge ∷ filter (touches n) bonds) (filter (touches n) bonds)))
+    elim (touches n edge) as (λ b. map f (if b then (length front + 1) ∷ numbers_from (length front + 1 + 1) bonds
+    n else numbers_from (length front + 1 + 1) bonds n) ≡ map (λ e. e.kind)
+    (cond b (edge ∷ filter (touches n) bonds) (filter (touches n) bonds)))
     [ true ↦ rw (here, rest) refl | false ↦ rest ]
 
 -- the types of the bonds that are numbered for an atom are those of its bonds
@@ -101,7 +116,8 @@ pub kinds_are : (bonds : List Edge) (n : ℕ) → kinds_of bonds (numbers_at bon
 kinds_are bonds n = kinds_from [] bonds n
 
 -- each of them is of a known type
-pub All-kinds_of : (edges : List Edge) (numbers : List ℕ) → All (λ edge. (1 ≤ edge.kind) × (edge.kind ≤ 4)) edges → All (λ k. (1 ≤ k) × (k ≤ length edges)) numbers → All (λ kind. (1 ≤ kind) × (kind ≤ 4)) (kinds_of edges numbers)
+pub All-kinds_of : (edges : List Edge) (numbers : List ℕ) → All (λ edge. (1 ≤ edge.kind) × (edge.kind ≤ 4)) edges
+    → All (λ k. (1 ≤ k) × (k ≤ length edges)) numbers → All (λ kind. (1 ≤ kind) × (kind ≤ 4)) (kinds_of edges numbers)
 All-kinds_of edges numbers known within =
     All-map (λ (kind : ℕ). (1 ≤ kind) × (kind ≤ 4)) (λ (k : ℕ). (get_or edges (k - 1) no_edge).kind) numbers
     (λ i d below. let here = within i d below in known (get_or numbers i d - 1) no_edge (omega (arith, here.0, here.1)))

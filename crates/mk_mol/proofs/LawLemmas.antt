@@ -4,7 +4,7 @@ use Rattle.std.specs.Prelude.{ℤ, pos, slice_get, ◌⊎◌, ◌↔◌}
 use Rattle.std.specs.List.{list_all}
 use Rattle.std.proofs.lemmas.Bool.{cases_order, true≢false}
 use Rattle.std.proofs.lemmas.List.{same_lists, length-map, get_or-map}
-use Rattle.mk_elements.specs.Symbols.{Names, symbols}
+use Rattle.mk_elements.specs.Symbols.{NamesElement, symbols}
 use Rattle.mk_elements.proofs.ForCallers.{one_element}
 use Rattle.mk_props.specs.declared.property.Property.{Property}
 use Rattle.mk_props.specs.declared.property.Property.TheVariants as kinds
@@ -17,9 +17,9 @@ use Rattle.mk_ctab.specs.declared.raw.RawTable.{RawTable}
 use Rattle.mk_ctab.specs.KeptTables.{EndsWithoutCr, HoldsNoText}
 use Rattle.mk_ctab.specs.Bonds.{edges_of}
 use Rattle.mk_mol.specs.Checks.{IsKnownAtom, IsOfMolecules}
-use Rattle.mk_mol.specs.Filled.{AreGains, AreWrittenAtoms, IsWrittenAtom, hydrogen, hydrogen_bonds, owners}
+use Rattle.mk_mol.specs.Filled.{AreGains, AreWrittenAtoms, IsWrittenAtom, hydrogen_atom, hydrogen_bonds, owners}
 use Rattle.mk_text.specs.Items.{IsLeastFailing}
-use Rattle.mk_mol.specs.FirstFault.{Check, Demands}
+use Rattle.mk_mol.specs.FirstFault.{MoleculeCheck, MoleculeDemands}
 use Rattle.mk_rings.specs.Laws.{OneListOfMolBonds}
 use Rattle.mk_mol.specs.Laws.{OneFirstFault, NoFaultWhereAllPass, OneFilledMolecule, PassingTablesKeepTheirText}
 use Rattle.mk_mol.proofs.FaultLemmas.{number-once}
@@ -34,8 +34,8 @@ one_fault table n item m other p q = by_order (cases_order n m)
     by_order : (n ≡ m) ⊎ ((n < m) ⊎ (m < n)) → (n ≡ m) × (item ≡ other)
     by_order (inl same) =
         let checks : q.check ≡ p.check = number-once q.check p.check (q.numbered ∙ sym same ∙ sym p.numbered) in
-        let P : Check → Type 0 = λ c. IsLeastFailing (Demands table c) other in
-        (same, one_item (Demands table p.check) item other p.least (subst P checks q.least))
+        let P : MoleculeCheck → Type 0 = λ c. IsLeastFailing (MoleculeDemands table c) other in
+        (same, one_item (MoleculeDemands table p.check) item other p.least (subst P checks q.least))
     by_order (inr (inl below)) = absurd (p.least.fails (q.before p.check (omega (arith, p.numbered, below)) item))
     by_order (inr (inr above)) = absurd (q.least.fails (p.before q.check (omega (arith, q.numbered, above)) other))
 
@@ -72,9 +72,9 @@ one_gains table atoms gs hs size p q =
     (λ k d below.
     let line : RawAtom = record { symbol = []; charge = pos 0; hydrogens = pos 0; valence = pos 0 } in
     let line_at = slice_get-get_or table.atoms k line (omega (arith, below, p.size)) in
-    let atom_at = slice_get-get_or atoms k hydrogen (omega (arith, below, p.size, size)) in
-    get_or_from_slice_get gs k _ d (p.each k (get_or table.atoms k line) (get_or atoms k hydrogen) line_at atom_at)
-    ∙ sym (get_or_from_slice_get hs k _ d (q.each k (get_or table.atoms k line) (get_or atoms k hydrogen) line_at atom_at)))
+    let atom_at = slice_get-get_or atoms k hydrogen_atom (omega (arith, below, p.size, size)) in
+    get_or_from_slice_get gs k _ d (p.each k (get_or table.atoms k line) (get_or atoms k hydrogen_atom) line_at atom_at)
+    ∙ sym (get_or_from_slice_get hs k _ d (q.each k (get_or table.atoms k line) (get_or atoms k hydrogen_atom) line_at atom_at)))
 
 same_molecule : (a b : Molecule) → a.written ≡ b.written → a.atoms ≡ b.atoms → a.bonds ≡ b.bonds → a ≡ b
 same_molecule a b p q r =
@@ -87,7 +87,9 @@ one_filled one_list table a b a_is b_is p q =
     let atoms : p.atoms ≡ q.atoms = one_atoms table p.atoms q.atoms p.are_written q.are_written in
     let P : List Atom → Type 0 = λ xs. AreGains table xs q.gains in
     let gains : p.gains ≡ q.gains = one_gains table p.atoms p.gains q.gains p.are_written.size p.are_gains (subst P (sym atoms) q.are_gains) in
-    let all : a.atoms ≡ b.atoms = p.filled ∙ ap (λ (xs : List Atom). xs ++ replicate (length (owners 1 p.gains)) hydrogen) atoms ∙ ap (λ (gs : List ℕ). q.atoms ++ replicate (length (owners 1 gs)) hydrogen) gains ∙ sym q.filled in
+    let all : a.atoms ≡ b.atoms = p.filled ∙ ap (λ (xs : List Atom). xs ++ replicate (length (owners 1 p.gains))
+    hydrogen_atom) atoms ∙ ap (λ (gs : List ℕ). q.atoms ++ replicate (length (owners 1 gs)) hydrogen_atom) gains
+    ∙ sym q.filled in
     let plain : edges a.bonds ≡ edges b.bonds = p.bonds ∙ ap (λ (gs : List ℕ). edges_of table.bonds ++ hydrogen_bonds (length table.atoms + 1) (owners 1 gs)) gains ∙ sym q.bonds in
     same_molecule a b (p.written ∙ sym q.written) all (one_list a.bonds b.bonds a_is.marks b_is.marks plain)
 
@@ -127,7 +129,7 @@ unfolding symbols
 symbols-no_cr = refl
 
 -- nor have bytes that name an element
-named-no_cr : (symbol : List ℕ) (z : ℕ) → Names symbol z → has_no_cr symbol ≡ true
+named-no_cr : (symbol : List ℕ) (z : ℕ) → NamesElement symbol z → has_no_cr symbol ≡ true
 named-no_cr symbol z (inl is) = all_at symbols _ symbol symbols-no_cr is.1
 named-no_cr symbol z (inr (one, inl d)) = rw d refl
 named-no_cr symbol z (inr (one, inr t)) = rw t refl

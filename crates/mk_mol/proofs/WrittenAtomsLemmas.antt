@@ -4,7 +4,7 @@ use Rattle.std.specs.Prelude.{slice_get, pos}
 use Rattle.std.proofs.lemmas.Bool.{cases_lt}
 use Rattle.std.proofs.lemmas.List.{length_push, get_or_append_left, get_or_push}
 use Rattle.std.proofs.lemmas.Option.{get_or_from_slice_get, slice_get-get_or, slice_get_within}
-use Rattle.mk_elements.specs.Symbols.{Names}
+use Rattle.mk_elements.specs.Symbols.{NamesElement}
 use Rattle.mk_model.specs.declared.molecule.Atom.{Atom}
 use Rattle.mk_ctab.specs.declared.charges.Electrons.{Electrons}
 use Rattle.mk_ctab.specs.declared.raw.RawAtom.{RawAtom}
@@ -21,14 +21,18 @@ pub written-none : (table : RawTable) (atoms : List Atom) → atoms ≡ [] → A
 written-none table atoms is = record { size = ap length is; each = λ i line d below. absurd (omega arith) }
 
 -- one atom with its charge and its radical
-pub written-one : (table : RawTable) (list : List Electrons) (k : ℕ) (line : RawAtom) (d electrons : Electrons) (atom : Atom) → AreElectrons table list → slice_get table.atoms k ≡ Some line → electrons ≡ get_or list k d → k < length list
-    → Names line.symbol atom.element → atom.charge ≡ electrons.charge → atom.radical ≡ electrons.radical → IsWrittenAtom table (k + 1) line atom
+pub written-one : (table : RawTable) (list : List Electrons) (k : ℕ) (line : RawAtom) (d electrons : Electrons)
+    (atom : Atom) → AreElectrons table list → slice_get table.atoms k ≡ Some line → electrons ≡ get_or list k d
+    → k < length list
+    → NamesElement line.symbol atom.element → atom.charge ≡ electrons.charge → atom.radical ≡ electrons.radical → IsWrittenAtom table (k + 1) line atom
 written-one table list k line d electrons atom are at is below element charge radical =
     let has = are.each k line electrons at (slice_get-get_or list k d below ∙ ap Some (sym is)) in
     record { element = element; charge = charge ∙ has.charge; radical = ap pos radical ∙ has.radical }
 
 -- one atom line more
-pub written-more : (table : RawTable) (k : ℕ) (seen : RawAtom) (atoms : List Atom) (atom : Atom) → seen ≡ get_or table.atoms k seen → IsWrittenAtom table (k + 1) seen atom → AreWrittenTo table k atoms → AreWrittenTo table (k + 1) (atoms ++ atom ∷ [])
+pub written-more : (table : RawTable) (k : ℕ) (seen : RawAtom) (atoms : List Atom) (atom : Atom)
+    → seen ≡ get_or table.atoms k seen → IsWrittenAtom table (k + 1) seen atom → AreWrittenTo table k atoms
+    → AreWrittenTo table (k + 1) (atoms ++ atom ∷ [])
 written-more table k seen atoms atom is made are = record {
   size = omega (arith, length_push atoms atom, are.size);
   each = λ i line d below at.

@@ -4,7 +4,7 @@
 --     HasKnownType bond                type 1 to 4
 --     IsOfMolecules property           a property that a molecule may have
 use Rattle.std.specs.Prelude.{ℕ, pos, List}
-use Rattle.mk_elements.specs.Symbols.{Names}
+use Rattle.mk_elements.specs.Symbols.{NamesElement}
 use Rattle.mk_props.specs.declared.property.Property.{Property}
 use Rattle.mk_props.specs.declared.property.Property.TheVariants as kinds
 use Rattle.mk_ctab.specs.declared.raw.RawAtom.{RawAtom}
@@ -12,14 +12,14 @@ use Rattle.mk_ctab.specs.declared.raw.RawBond.{RawBond}
 use Rattle.mk_ctab.specs.Numbers.{IsWithin}
 
 -- the bytes name an element
-pub record IsNamed (symbol : List ℕ) : Type 0 where
+pub record IsElementSymbol (symbol : List ℕ) : Type 0 where
   pub element : ℕ
-  pub names : Names symbol element
+  pub names : NamesElement symbol element
 
 -- the symbol is an element's, `D` or `T`, the charge column is 0 to 7, and the valence column 0 to
 -- 15
 pub record IsKnownAtom (atom : RawAtom) : Type 0 where
-  pub symbol : IsNamed atom.symbol
+  pub symbol : IsElementSymbol atom.symbol
   pub charge : IsWithin (pos 0) (pos 7) atom.charge
   pub valence : IsWithin (pos 0) (pos 15) atom.valence
 

@@ -6,7 +6,7 @@
 --     IsFilled table mol          the molecule is the table's, filled
 use Rattle.std.specs.Prelude.{◌≡◌, ◌+◌, ◌==◌, ℕ, ℤ, pos, negsuc, Bool, true, false, List, [], ◌∷◌, ◌++◌, Some, length, map, replicate, slice_get, if◌then◌else◌}
 use Rattle.std.specs.List.{filter, list_any}
-use Rattle.mk_elements.specs.Symbols.{Names}
+use Rattle.mk_elements.specs.Symbols.{NamesElement}
 use Rattle.mk_model.specs.declared.edge.Edge.{Edge}
 use Rattle.mk_model.specs.declared.molecule.Atom.{Atom}
 use Rattle.mk_model.specs.Edges.{touches}
@@ -24,7 +24,7 @@ kinds_at bonds n = map (λ edge. edge.kind) (filter (touches n) bonds)
 
 -- the atom that the n-th atom line stands for
 pub record IsWrittenAtom (table : RawTable) (n : ℕ) (line : RawAtom) (atom : Atom) : Type 0 where
-  pub element : Names line.symbol atom.element
+  pub element : NamesElement line.symbol atom.element
   pub charge : atom.charge ≡ charge_at table n line
   pub radical : pos atom.radical ≡ radical_at table n line
 
@@ -43,8 +43,8 @@ pub record AreGains (table : RawTable) (atoms : List Atom) (gains : List ℕ) : 
   pub each : (i : ℕ) (line : RawAtom) (atom : Atom) → slice_get table.atoms i ≡ Some line → slice_get atoms i ≡ Some atom → slice_get gains i ≡ Some (gained_by table (i + 1) line atom)
 
 -- an added hydrogen has neither charge nor radical
-abbrev pub hydrogen : Atom
-hydrogen = record { element = 1; charge = pos 0; radical = 0 }
+abbrev pub hydrogen_atom : Atom
+hydrogen_atom = record { element = 1; charge = pos 0; radical = 0 }
 
 -- for each hydrogen that is added, in order, the atom that gains it, where the atoms from n on gain
 -- these numbers
@@ -67,5 +67,5 @@ pub record IsFilled (table : RawTable) (mol : Molecule) : Type 0 where
   pub written : mol.written ≡ length table.atoms
   pub are_written : AreWrittenAtoms table atoms
   pub are_gains : AreGains table atoms gains
-  pub filled : mol.atoms ≡ atoms ++ replicate (length (owners 1 gains)) hydrogen
+  pub filled : mol.atoms ≡ atoms ++ replicate (length (owners 1 gains)) hydrogen_atom
   pub bonds : edges mol.bonds ≡ edges_of table.bonds ++ hydrogen_bonds (length table.atoms + 1) (owners 1 gains)

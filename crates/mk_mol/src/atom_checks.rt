@@ -1,7 +1,7 @@
 // What is demanded of atoms.
 ghost use Rattle.std.specs.Prelude.{◌≤◌, ◌↔◌, IsTrue, length};
 ghost use Rattle.mk_text.specs.Items.{FindsLeast, OfItem};
-ghost use Rattle.mk_mol.specs.Checks.{IsKnownAtom, IsNamed};
+ghost use Rattle.mk_mol.specs.Checks.{IsKnownAtom, IsElementSymbol};
 
 use mk_ctab::{RawAtom, is_within};
 use mk_elements::number_of;
@@ -28,7 +28,7 @@ fn is_known(atom: &RawAtom) -> bool
 }
 
 fn is_named(symbol: &[u8]) -> bool
-    ensures { IsTrue result ↔ IsNamed symbol.now }
+    ensures { IsTrue result ↔ IsElementSymbol symbol.now }
 {
     number_of(symbol).is_some()
 }

@@ -5,7 +5,7 @@ ghost use Rattle.mk_model.specs.Edges.{IsSimple, rows_of};
 ghost use Rattle.mk_ctab.specs.Bonds.{edges_of, IsEdgeFront};
 ghost use Rattle.mk_mol.specs.Answers.{IfCheck};
 ghost use Rattle.mk_mol.specs.Checks.{HasKnownType};
-ghost use Rattle.mk_mol.specs.FirstFault.{IsFirstFault, PassesBelow};
+ghost use Rattle.mk_mol.specs.FirstFault.{IsFirstMoleculeFault, MeetsChecksBelow};
 ghost use Rattle.mk_mol.specs.Search.{IsDrawn};
 
 use crate::PrepareFault;
@@ -24,10 +24,10 @@ pub struct Drawn {
 pub fn check_bonds(alloc: Global, table: &RawTable) -> Result<Drawn, PrepareFault>
     requires few_atoms { length table.now.atoms ≤ 999 }
     requires few_bonds { length table.now.bonds ≤ 999 }
-    requires earlier { PassesBelow table.now 2 }
+    requires earlier { MeetsChecksBelow table.now 2 }
     ensures drawn { IfOk result (IsDrawn table.now) }
-    ensures passes { OnOk result (PassesBelow table.now 5) }
-    ensures fault { IfCheck result (IsFirstFault table.now) }
+    ensures passes { OnOk result (MeetsChecksBelow table.now 5) }
+    ensures fault { IfCheck result (IsFirstMoleculeFault table.now) }
 {
     let atoms = table.atoms.as_slice().len() as u32;
     let edges = edges_between(alloc, atoms, table.bonds.as_slice())?;
@@ -40,14 +40,14 @@ pub fn check_bonds(alloc: Global, table: &RawTable) -> Result<Drawn, PrepareFaul
 fn check_drawn(table: &RawTable, edges: &[Edge], near: &Neighbours) -> Result<(), PrepareFault>
     requires few_atoms { length table.now.atoms ≤ 999 }
     requires few_bonds { length table.now.bonds ≤ 999 }
-    requires earlier { PassesBelow table.now 2 }
+    requires earlier { MeetsChecksBelow table.now 2 }
     requires front { IsEdgeFront (length table.now.atoms) table.now.bonds edges.now }
     requires rows { near.now ≡ rows_of (length near.now) edges.now }
     requires size { length near.now ≡ length table.now.atoms }
     ensures whole { OnOk result (edges.now ≡ edges_of table.now.bonds) }
     ensures graph { OnOk result (IsSimple (length table.now.atoms) edges.now) }
-    ensures passes { OnOk result (PassesBelow table.now 5) }
-    ensures fault { IfCheck result (IsFirstFault table.now) }
+    ensures passes { OnOk result (MeetsChecksBelow table.now 5) }
+    ensures fault { IfCheck result (IsFirstMoleculeFault table.now) }
 {
     let bonds = table.bonds.as_slice();
     let atoms = table.atoms.as_slice().len() as u32;

@@ -1,7 +1,7 @@
 // The checks in their order.
 ghost use Rattle.std.specs.Prelude.{◌≤◌, ◌<◌, ◌^◌, IfOk, OnOk, length};
 ghost use Rattle.mk_mol.specs.Answers.{IfCheck};
-ghost use Rattle.mk_mol.specs.FirstFault.{IsFirstFault, PassesAll, PassesBelow};
+ghost use Rattle.mk_mol.specs.FirstFault.{IsFirstMoleculeFault, MeetsAllChecks, MeetsChecksBelow};
 ghost use Rattle.mk_mol.specs.Search.{IsDrawn};
 
 use crate::PrepareFault;
@@ -17,8 +17,8 @@ pub fn check_all(alloc: Global, table: &RawTable) -> Result<Drawn, PrepareFault>
     requires few_bonds { length table.now.bonds ≤ 999 }
     requires few_properties { length table.now.props < 2 ^ 32 }
     ensures drawn { IfOk result (IsDrawn table.now) }
-    ensures passes { OnOk result (PassesAll table.now) }
-    ensures fault { IfCheck result (IsFirstFault table.now) }
+    ensures passes { OnOk result (MeetsAllChecks table.now) }
+    ensures fault { IfCheck result (IsFirstMoleculeFault table.now) }
 {
     check_atoms(table)?;
     let drawn = check_bonds(alloc, table)?;
@@ -30,8 +30,8 @@ pub fn check_all(alloc: Global, table: &RawTable) -> Result<Drawn, PrepareFault>
 
 fn check_atoms(table: &RawTable) -> Result<(), PrepareFault>
     requires { length table.now.atoms ≤ 999 }
-    ensures passes { OnOk result (PassesBelow table.now 2) }
-    ensures fault { IfCheck result (IsFirstFault table.now) }
+    ensures passes { OnOk result (MeetsChecksBelow table.now 2) }
+    ensures fault { IfCheck result (IsFirstMoleculeFault table.now) }
 {
     match first_unknown_atom(table.atoms.as_slice()) {
         Some(item) => Err(PrepareFault::Check { check: 1, item }),
@@ -42,9 +42,9 @@ fn check_atoms(table: &RawTable) -> Result<(), PrepareFault>
 fn check_named_atoms(table: &RawTable) -> Result<(), PrepareFault>
     requires few_atoms { length table.now.atoms ≤ 999 }
     requires few_properties { length table.now.props < 2 ^ 32 }
-    requires earlier { PassesBelow table.now 5 }
-    ensures passes { OnOk result (PassesBelow table.now 6) }
-    ensures fault { IfCheck result (IsFirstFault table.now) }
+    requires earlier { MeetsChecksBelow table.now 5 }
+    ensures passes { OnOk result (MeetsChecksBelow table.now 6) }
+    ensures fault { IfCheck result (IsFirstMoleculeFault table.now) }
 {
     let atoms = table.atoms.as_slice().len() as u32;
     match first_misnamed(atoms, table.props.as_slice()) {
@@ -55,9 +55,9 @@ fn check_named_atoms(table: &RawTable) -> Result<(), PrepareFault>
 
 fn check_values(table: &RawTable) -> Result<(), PrepareFault>
     requires few_properties { length table.now.props < 2 ^ 32 }
-    requires earlier { PassesBelow table.now 6 }
-    ensures passes { OnOk result (PassesBelow table.now 7) }
-    ensures fault { IfCheck result (IsFirstFault table.now) }
+    requires earlier { MeetsChecksBelow table.now 6 }
+    ensures passes { OnOk result (MeetsChecksBelow table.now 7) }
+    ensures fault { IfCheck result (IsFirstMoleculeFault table.now) }
 {
     match first_unknown_value(table.props.as_slice()) {
         Some(item) => Err(PrepareFault::Check { check: 6, item }),
@@ -67,9 +67,9 @@ fn check_values(table: &RawTable) -> Result<(), PrepareFault>
 
 fn check_kinds(table: &RawTable) -> Result<(), PrepareFault>
     requires few_properties { length table.now.props < 2 ^ 32 }
-    requires earlier { PassesBelow table.now 7 }
-    ensures passes { OnOk result (PassesAll table.now) }
-    ensures fault { IfCheck result (IsFirstFault table.now) }
+    requires earlier { MeetsChecksBelow table.now 7 }
+    ensures passes { OnOk result (MeetsAllChecks table.now) }
+    ensures fault { IfCheck result (IsFirstMoleculeFault table.now) }
 {
     if !table.lists.as_slice().is_empty() {
         return Err(PrepareFault::Check { check: 7, item: 0 });

@@ -1,7 +1,7 @@
 // The filled molecule of a table that passes its checks.
 ghost use Rattle.std.specs.Prelude.{◌≤◌, IfOk, length};
 ghost use Rattle.mk_mol.specs.Filled.{IsFilled};
-ghost use Rattle.mk_mol.specs.FirstFault.{PassesAll};
+ghost use Rattle.mk_mol.specs.FirstFault.{MeetsAllChecks};
 ghost use Rattle.mk_mol.specs.Search.{IsDrawn};
 
 use crate::bond_checks::Drawn;
@@ -16,7 +16,7 @@ use std::alloc::Global;
 pub fn fill(alloc: Global, table: &RawTable, drawn: Drawn) -> Result<Mol, Memory>
     requires few_atoms { length table.now.atoms ≤ 999 }
     requires few_bonds { length table.now.bonds ≤ 999 }
-    requires passes { PassesAll table.now }
+    requires passes { MeetsAllChecks table.now }
     requires drawn { IsDrawn table.now drawn }
     ensures { IfOk result (IsFilled table.now) }
 {

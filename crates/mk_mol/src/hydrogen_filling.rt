@@ -3,9 +3,9 @@ ghost use Rattle.std.specs.Prelude.{◌≡◌, ◌≤◌, ◌<◌, ◌+◌, ◌+
 ghost use Rattle.mk_ctab.specs.declared.raw.RawAtom.{RawAtom as Line};
 ghost use Rattle.mk_ctab.specs.Numbers.{natural};
 ghost use Rattle.mk_valence.specs.Hydrogens.{added_hydrogens};
-ghost use Rattle.mk_mol.specs.Filled.{AreGains, gained_by, hydrogen, hydrogen_bonds, owners};
+ghost use Rattle.mk_mol.specs.Filled.{AreGains, gained_by, hydrogen_atom, hydrogen_bonds, owners};
 ghost use Rattle.mk_mol.specs.Checks.{IsKnownAtom};
-ghost use Rattle.mk_mol.specs.FirstFault.{PassesAll};
+ghost use Rattle.mk_mol.specs.FirstFault.{MeetsAllChecks};
 ghost use Rattle.mk_mol.specs.Putting.{IsSound, kinds_of};
 ghost use Rattle.mk_mol.specs.Search.{IsDrawn};
 
@@ -30,7 +30,7 @@ pub fn gains_of(
     drawn: &Drawn,
 ) -> Result<Vec<u8>, Memory>
     requires few { length table.now.atoms ≤ 999 }
-    requires passes { PassesAll table.now }
+    requires passes { MeetsAllChecks table.now }
     requires size { length atoms.now ≡ length table.now.atoms }
     requires sound { All IsSound atoms.now }
     requires drawn { IsDrawn table.now drawn.now }
@@ -47,7 +47,7 @@ pub fn gains_of(
 fn gained_at(table: &RawTable, atom: Atom, drawn: &Drawn, i: usize) -> u8
     requires few { length table.now.atoms ≤ 999 }
     requires within { i < length table.now.atoms }
-    requires passes { PassesAll table.now }
+    requires passes { MeetsAllChecks table.now }
     requires sound { IsSound atom }
     requires drawn { IsDrawn table.now drawn.now }
     ensures { (line : Line) → slice_get table.now.atoms i ≡ Some line → result ≡ gained_by table.now (i + 1) line atom }
@@ -106,7 +106,7 @@ pub fn add_hydrogens(
 ) -> Result<(), Memory>
     requires few { length gains.now ≤ 999 }
     requires few_atoms { length atoms.old.items ≤ 999 }
-    ensures atoms { OnOk result (atoms.new.items ≡ atoms.old.items ++ replicate (length (owners 1 gains.now)) hydrogen) }
+    ensures atoms { OnOk result (atoms.new.items ≡ atoms.old.items ++ replicate (length (owners 1 gains.now)) hydrogen_atom) }
     ensures edges { OnOk result (edges.new.items ≡ edges.old.items ++ hydrogen_bonds (length atoms.old.items + 1) (owners 1 gains.now)) }
     ensures few { OnOk result (length atoms.new.items < 2 ^ 20) }
 {
@@ -132,7 +132,7 @@ fn sum_of(gains: &[u8]) -> usize
 fn add_each(atoms: &mut Vec<Atom>, edges: &mut Vec<Edge>, gains: &[u8]) -> Result<(), Memory>
     requires few { length gains.now ≤ 999 }
     requires few_atoms { length atoms.old.items ≤ 999 }
-    ensures atoms { OnOk result (atoms.new.items ≡ atoms.old.items ++ replicate (length (owners 1 gains.now)) hydrogen) }
+    ensures atoms { OnOk result (atoms.new.items ≡ atoms.old.items ++ replicate (length (owners 1 gains.now)) hydrogen_atom) }
     ensures edges { OnOk result (edges.new.items ≡ edges.old.items ++ hydrogen_bonds (length atoms.old.items + 1) (owners 1 gains.now)) }
     ensures few { OnOk result (length atoms.new.items < 2 ^ 20) }
 {
@@ -150,7 +150,7 @@ fn add_to(
     gained: u8,
 ) -> Result<(), Memory>
     requires { length atoms.old.items + 256 < 2 ^ 32 }
-    ensures atoms { OnOk result (atoms.new.items ≡ atoms.old.items ++ replicate gained hydrogen) }
+    ensures atoms { OnOk result (atoms.new.items ≡ atoms.old.items ++ replicate gained hydrogen_atom) }
     ensures edges { OnOk result (edges.new.items ≡ edges.old.items ++ hydrogen_bonds (length atoms.old.items + 1) (replicate gained owner)) }
 {
     for _ in 0..gained {

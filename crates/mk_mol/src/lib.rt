@@ -2,7 +2,8 @@
 //!
 //! Callers use one promise. `prepare` gives the filled molecule of a table that passes the seven
 //! checks (`IsFilled` in `specs/Filled.antt`), and else exactly the first check that fails with its
-//! least item (`IsFirstFault` in `specs/FirstFault.antt`, over the demands of `specs/Checks.antt`).
+//! least item (`IsFirstMoleculeFault` in `specs/FirstFault.antt`, over the demands of
+//! `specs/Checks.antt`).
 //! A table that passes keeps its text (`passing_table_keeps_its_text`), and no table has two first
 //! faults or two filled molecules (`specs/Laws.antt`).
 //!

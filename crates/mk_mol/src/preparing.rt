@@ -3,7 +3,7 @@ ghost use Rattle.std.specs.Prelude.{◌≤◌, ◌<◌, ◌^◌, ℕ, IfOk, OnOk
 ghost use Rattle.mk_model.specs.Molecules.{IsMolecule};
 ghost use Rattle.mk_mol.specs.Answers.{IfCheck, IsAccepted, IsCheck};
 ghost use Rattle.mk_mol.specs.Filled.{IsFilled};
-ghost use Rattle.mk_mol.specs.FirstFault.{IsFirstFault, PassesAll};
+ghost use Rattle.mk_mol.specs.FirstFault.{IsFirstMoleculeFault, MeetsAllChecks};
 
 use crate::PrepareFault;
 use crate::checking::check_all;
@@ -20,11 +20,11 @@ pub fn prepare(alloc: Global, table: &RawTable) -> Result<Mol, PrepareFault>
 
     ensures filled { IfOk result (IsFilled table.now) }
     ensures kept { IfOk result IsMolecule }
-    ensures passes { OnOk result (PassesAll table.now) }
-    ensures accepted { PassesAll table.now → IsAccepted result }
+    ensures passes { OnOk result (MeetsAllChecks table.now) }
+    ensures accepted { MeetsAllChecks table.now → IsAccepted result }
 
-    ensures fault { IfCheck result (IsFirstFault table.now) }
-    ensures named { (n item : ℕ) → IsFirstFault table.now n item → IsCheck result n item }
+    ensures fault { IfCheck result (IsFirstMoleculeFault table.now) }
+    ensures named { (n item : ℕ) → IsFirstMoleculeFault table.now n item → IsCheck result n item }
 {
     let drawn = check_all(alloc, table)?;
     Ok(fill(alloc, table, drawn)?)

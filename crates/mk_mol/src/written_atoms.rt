@@ -1,11 +1,11 @@
 // The written atoms, with their charges and radicals.
 ghost use Rattle.std.specs.Prelude.{◌≡◌, ◌≤◌, All, IfOk};
-ghost use Rattle.mk_elements.specs.Symbols.{Names};
+ghost use Rattle.mk_elements.specs.Symbols.{NamesElement};
 ghost use Rattle.mk_model.specs.Molecules.{IsElement};
 ghost use Rattle.mk_ctab.specs.Charges.{HasRadical};
-ghost use Rattle.mk_mol.specs.Checks.{IsNamed};
+ghost use Rattle.mk_mol.specs.Checks.{IsElementSymbol};
 ghost use Rattle.mk_mol.specs.Filled.{AreWrittenAtoms};
-ghost use Rattle.mk_mol.specs.FirstFault.{PassesAll};
+ghost use Rattle.mk_mol.specs.FirstFault.{MeetsAllChecks};
 ghost use Rattle.mk_mol.specs.Putting.{IsSound};
 
 use mk_ctab::{Electrons, RawTable, charges_and_radicals};
@@ -15,7 +15,7 @@ use std::alloc::Global;
 
 /// The atoms of the atom lines, with the charges and radicals that hold.
 pub fn written_atoms(alloc: Global, table: &RawTable) -> Result<Vec<Atom>, Memory>
-    requires { PassesAll table.now }
+    requires { MeetsAllChecks table.now }
     ensures written { IfOk result (λ atoms. AreWrittenAtoms table.now atoms.items) }
     ensures sound { IfOk result (λ atoms. All IsSound atoms.items) }
 {
@@ -29,9 +29,9 @@ pub fn written_atoms(alloc: Global, table: &RawTable) -> Result<Vec<Atom>, Memor
 }
 
 fn atom_of(symbol: &[u8], electrons: Electrons) -> Atom
-    requires named { IsNamed symbol.now }
+    requires named { IsElementSymbol symbol.now }
     requires small { HasRadical electrons }
-    ensures element { Names symbol.now result.element }
+    ensures element { NamesElement symbol.now result.element }
     ensures charge { result.charge ≡ electrons.charge }
     ensures radical { result.radical ≡ electrons.radical }
     ensures sound { IsSound result }
@@ -45,8 +45,8 @@ fn atom_of(symbol: &[u8], electrons: Electrons) -> Atom
 
 // The element that the bytes name.
 fn element_of(symbol: &[u8]) -> u8
-    requires { IsNamed symbol.now }
-    ensures names { Names symbol.now result }
+    requires { IsElementSymbol symbol.now }
+    ensures names { NamesElement symbol.now result }
     ensures element { IsElement result }
 {
     number_of(symbol).unwrap()

@@ -30,7 +30,9 @@ module _ {R : Type 0} (number : R → ℕ) where
   in_place_rising row (x ∷ rows) h =
       cond_both (nat_eq (number x) (number row)) (row ∷ rows) (x ∷ in_place number row rows) (AllPairs (λ a b. number a < number b))
       (λ e. AllPairs-cons (λ a b. number a < number b) row rows (subst (λ n. All (λ b. n < number b) rows) (eqb-true _ _ e) (first_below x rows h)) (others_rise x rows h))
-      (λ e. AllPairs-cons (λ a b. number a < number b) x (in_place number row rows) (in_place_all (λ n. number x < n) row rows (first_below x rows h)) (in_place_rising row rows (others_rise x rows h)))
+      (λ e. AllPairs-cons (λ a b. number a < number b) x (in_place number row rows)
+      (in_place_all (λ n. number x < n) row rows (first_below x rows h))
+      (in_place_rising row rows (others_rise x rows h)))
 
   -- ---- a row of a number of its own
 

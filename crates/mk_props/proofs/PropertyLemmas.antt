@@ -78,8 +78,34 @@ module _ (line : List ℕ) (begins : columns line 1 3 ≡ codes "M  ") where
       by_test _ _ _ p read (λ is this.
       one_kind line kinds.Logic (logic_of line) p (λ logic found. logic_found line logic (m_word (codes "LOG") refl is) found) this) (λ no_logic read.
       let same : kinds.Passed 0 ≡ p = cc in
-      let none : AllByRecursion (λ (word : List ℕ). columns line 1 6 ≡ word → ⊥) known_words =
-      (absent no_end, (absent no_charge, (absent no_radical, (absent no_isotope, (absent no_ring_bonds, (absent no_substitution, (absent no_unsaturation, (absent no_label, (absent no_points, (absent no_link, (absent no_list, (absent no_order, (absent no_logic, tt))))))))))))) in
+      let none : AllByRecursion (λ (word : List ℕ). columns line 1 6 ≡ word → ⊥) known_words = (
+        absent no_end,
+        (
+          absent no_charge,
+          (
+            absent no_radical,
+            (
+              absent no_isotope,
+              (
+                absent no_ring_bonds,
+                (
+                  absent no_substitution,
+                  (
+                    absent no_unsaturation,
+                    (
+                      absent no_label,
+                      (
+                        absent no_points,
+                        (absent no_link, (absent no_list, (absent no_order, (absent no_logic, tt)))),
+                      ),
+                    ),
+                  ),
+                ),
+              ),
+            ),
+          ),
+        ),
+      ) in
       let other : IsOtherLine line 0 = record { begins = begins; other = λ is. not_among (columns line 1 6) known_words none is.0 is.1 is.2; alone = refl } in
       subst (IsProperty line) same (inl other))))))))))))))
 
@@ -141,7 +167,9 @@ fails_by line word k false is three within at spelled = spelled
 m_other : (line : List ℕ) → IsOtherLine line 0 → m_line_of line ≡ Some (kinds.Passed 0)
 unfolding m_line_of
 m_other line is =
-    let fails : (word : List ℕ) (k : ℕ) → length word ≡ 3 → k < 13 → get_or known_words k (columns line 1 6) ≡ codes "M  " ++ word → spells line 4 word ≡ false = λ word k three within at. fails_by line word k (spells line 4 word) is three within at refl in
+    let fails : (word : List ℕ) (k : ℕ) → length word ≡ 3 → k < 13
+    → get_or known_words k (columns line 1 6) ≡ codes "M  " ++ word → spells line 4 word ≡ false =
+    λ word k three within at. fails_by line word k (spells line 4 word) is three within at refl in
     rw (
       fails (codes "END") 0 refl (lit< tt) refl,
       fails (codes "CHG") 1 refl (lit< tt) refl,
@@ -181,11 +209,16 @@ passed_given line n (inr (inr (inr skip))) =
 given : (line : List ℕ) (property : Property) → IsProperty line property → property_of line ≡ Some property
 unfolding m_line_of
 given line (kinds.Charge pairs) is = let word = with_word is.begins in word.is_read ∙ rw (word.goes_on.at_4, word.goes_on.at_5, word.goes_on.at_6, pairs_given 8 line 7 pairs (lit≤ tt) is.entries) refl
-given line (kinds.Radical pairs) is = let word = with_word is.begins in word.is_read ∙ rw (word.goes_on.at_4, word.goes_on.at_5, word.goes_on.at_6, pairs_given 8 line 7 pairs (lit≤ tt) is.entries) refl
-given line (kinds.Isotope pairs) is = let word = with_word is.begins in word.is_read ∙ rw (word.goes_on.at_4, word.goes_on.at_5, word.goes_on.at_6, pairs_given 8 line 7 pairs (lit≤ tt) is.entries) refl
-given line (kinds.RingBonds pairs) is = let word = with_word is.begins in word.is_read ∙ rw (word.goes_on.at_4, word.goes_on.at_5, word.goes_on.at_6, pairs_given 8 line 7 pairs (lit≤ tt) is.entries) refl
-given line (kinds.Substitution pairs) is = let word = with_word is.begins in word.is_read ∙ rw (word.goes_on.at_4, word.goes_on.at_5, word.goes_on.at_6, pairs_given 8 line 7 pairs (lit≤ tt) is.entries) refl
-given line (kinds.Unsaturation pairs) is = let word = with_word is.begins in word.is_read ∙ rw (word.goes_on.at_4, word.goes_on.at_5, word.goes_on.at_6, pairs_given 8 line 7 pairs (lit≤ tt) is.entries) refl
+given line (kinds.Radical pairs) is = let word = with_word is.begins in word.is_read
+    ∙ rw (word.goes_on.at_4, word.goes_on.at_5, word.goes_on.at_6, pairs_given 8 line 7 pairs (lit≤ tt) is.entries) refl
+given line (kinds.Isotope pairs) is = let word = with_word is.begins in word.is_read
+    ∙ rw (word.goes_on.at_4, word.goes_on.at_5, word.goes_on.at_6, pairs_given 8 line 7 pairs (lit≤ tt) is.entries) refl
+given line (kinds.RingBonds pairs) is = let word = with_word is.begins in word.is_read
+    ∙ rw (word.goes_on.at_4, word.goes_on.at_5, word.goes_on.at_6, pairs_given 8 line 7 pairs (lit≤ tt) is.entries) refl
+given line (kinds.Substitution pairs) is = let word = with_word is.begins in word.is_read
+    ∙ rw (word.goes_on.at_4, word.goes_on.at_5, word.goes_on.at_6, pairs_given 8 line 7 pairs (lit≤ tt) is.entries) refl
+given line (kinds.Unsaturation pairs) is = let word = with_word is.begins in word.is_read
+    ∙ rw (word.goes_on.at_4, word.goes_on.at_5, word.goes_on.at_6, pairs_given 8 line 7 pairs (lit≤ tt) is.entries) refl
 given line (kinds.Label pairs) is = let word = with_word is.begins in word.is_read ∙ rw (word.goes_on.at_4, word.goes_on.at_5, word.goes_on.at_6, pairs_given 8 line 7 pairs (lit≤ tt) is.entries) refl
 given line (kinds.Points pairs) is = let word = with_word is.begins in word.is_read ∙ rw (word.goes_on.at_4, word.goes_on.at_5, word.goes_on.at_6, pairs_given 2 line 7 pairs (lit≤ tt) is.entries) refl
 given line (kinds.Link links) is = let word = with_word is.begins in word.is_read ∙ rw (word.goes_on.at_4, word.goes_on.at_5, word.goes_on.at_6, links_given line links is.entries) refl

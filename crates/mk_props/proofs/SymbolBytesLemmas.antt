@@ -140,7 +140,9 @@ passed_all bytes at passed so_far end = by_rest (drop at bytes) so_far.count (om
     by_rest (byte ∷ rest) count none = absurd (omega (arith, none))
 
 -- the symbol behind so many
-pub symbol_found : (bytes : List ℕ) (at index next : ℕ) → symbols_behind 0 (drop at bytes) ≡ drop index (symbols_behind 0 bytes) → IsSymbolAt bytes at next → slice_range bytes (at + 1) next ≡ slice_index_or (symbols_behind 0 bytes) index []
+pub symbol_found : (bytes : List ℕ) (at index next : ℕ)
+    → symbols_behind 0 (drop at bytes) ≡ drop index (symbols_behind 0 bytes) → IsSymbolAt bytes at next
+    → slice_range bytes (at + 1) next ≡ slice_index_or (symbols_behind 0 bytes) index []
 symbol_found bytes at index next passed one =
     let all = symbols_behind 0 bytes in
     let here : index + 0 ≡ index = omega arith in
@@ -154,4 +156,12 @@ symbol_short line i =
     let on = standing line (17 + 4 * i) (20 + 4 * i) in
     let same : symbol_of line i ≡ trimmed on = trimmed-columns line (17 + 4 * i) (20 + 4 * i) (omega arith) (omega arith) in
     let parts : AreBetween on (trimmed on) = trimmed_is_between on in
-    omega (arith, ap length same, ap length parts.whole, length-append parts.before (trimmed on ++ parts.after), length-append (trimmed on) parts.after, length-take (20 + 4 * i - (17 + 4 * i - 1)) (drop (17 + 4 * i - 1) line))
+    omega (
+      arith,
+      ap length same,
+      ap length parts.whole,
+      length-append parts.before (trimmed on ++ parts.after),
+      length-append (trimmed on) parts.after,
+      length-take (20 + 4 * i - (17 + 4 * i - 1))
+          (drop (17 + 4 * i - 1) line),
+    )

@@ -9,7 +9,7 @@ use Rattle.mk_ctab.specs.Charges.{last_or, values_for}
 use Rattle.mk_query.specs.declared.atom_marks.Standing.{Standing}
 use Rattle.mk_query.specs.declared.linked_atoms.Linked.{Linked}
 use Rattle.mk_query.specs.declared.linked_atoms.Linked.TheVariants as linked
-use Rattle.mk_query.specs.AtomMarks.{AreStanding, HasPlace, bears, is_link, is_site}
+use Rattle.mk_query.specs.AtomMarks.{AreStanding, HasPlace, bears, is_link, is_marked_site}
 use Rattle.mk_query.specs.Drawn.{bears_point, gives_point, is_site_at, links_at, links_for, pairs_by, point_pairs}
 use Rattle.mk_query.specs.LinkMarks.{IsLinked, is_named}
 use Rattle.mk_query.proofs.MarkLemmas.{marks-at}
@@ -23,7 +23,7 @@ place_of table standing x are least most = record {
   of_links = omega (arith, are.links_size);
 }
 
-pub site_is : (table : RawTable) (standing : Standing) (x : ℕ) → AreStanding table standing → is_site standing x ≡ is_site_at table x
+pub site_is : (table : RawTable) (standing : Standing) (x : ℕ) → AreStanding table standing → is_marked_site standing x ≡ is_site_at table x
 site_is table standing x are = site_noted table standing.sites.items x are.sites_are
 
 pub bears_is : (table : RawTable) (standing : Standing) (p x : ℕ) → AreStanding table standing → 1 ≤ x → x ≤ length table.atoms → bears standing p x ≡ bears_point table p x
@@ -32,7 +32,8 @@ bears_is table standing p x are least most =
     ap (gives_point p) (are.points_are (x - 1) (omega (arith, are.points_size)) ∙ ap (λ (y : ℕ). last_or (pos 0) (values_for y (pairs_by point_pairs table.props))) place)
 
 -- what is noted of the links of atom x
-pub links_are : (table : RawTable) (standing : Standing) (x : ℕ) → AreStanding table standing → 1 ≤ x → x ≤ length table.atoms → IsLinked (links_at table x) (get_or standing.links.items (x - 1) linked.Nothing)
+pub links_are : (table : RawTable) (standing : Standing) (x : ℕ) → AreStanding table standing → 1 ≤ x
+    → x ≤ length table.atoms → IsLinked (links_at table x) (get_or standing.links.items (x - 1) linked.Nothing)
 links_are table standing x are least most = marks-at (λ (y : ℕ). IsLinked (links_for y table.props)) standing.links.items x linked.Nothing least (omega (arith, are.links_size)) are.links_are
 
 named_not : (links : List LinkEntry) (linked : Linked) → IsLinked links linked → is_named linked ≡ false → links ≡ []

@@ -28,7 +28,8 @@ reached-first bonds link n none nothing least most =
       start = here;
       least = λ k below. at_first k below (λ (y : ℕ). 1 ≤ y) least;
       most = λ k below. at_first k below (λ (y : ℕ). y < length (set none link.atom true)) (omega (arith, size, length-set none link.atom true));
-      hang = λ k below. at_first k below (λ (y : ℕ). IsTrue (hang_together (others link bonds) link.atom y)) (hangs_tested (others link bonds) link.atom link.atom (hangs_same (others link bonds) link.atom));
+      hang = λ k below. at_first k below (λ (y : ℕ). IsTrue (hang_together (others link bonds) link.atom y))
+          (hangs_tested (others link bonds) link.atom link.atom (hangs_same (others link bonds) link.atom));
       listed = λ y is.
           ⊎_elim
           (λ same. (0, omega arith, sym same))
@@ -139,7 +140,8 @@ whole_block bonds link reached queue i all are followed y = by_tests (get_or rea
 
 -- ---- numbers
 
-pub numbers_of : (bonds : List QueryBond) (near : List (List ℕ)) (y : ℕ) (numbers : List ℕ) → near ≡ rows_of (length near) (query_edges bonds) → 1 ≤ y → y ≤ length near → slice_get near (y - 1) ≡ Some numbers
+pub numbers_of : (bonds : List QueryBond) (near : List (List ℕ)) (y : ℕ) (numbers : List ℕ)
+    → near ≡ rows_of (length near) (query_edges bonds) → 1 ≤ y → y ≤ length near → slice_get near (y - 1) ≡ Some numbers
     → AreNumbersOf bonds y numbers
 numbers_of bonds near y numbers rows least most got =
     let are = numbers_are near (query_edges bonds) y numbers rows least most got in

@@ -11,7 +11,7 @@ use Rattle.mk_text.specs.Items.{FindsLeast, OfItem}
 use Rattle.mk_model.specs.declared.edge.Edge.{Edge}
 use Rattle.mk_model.specs.Edges.{degree, touches}
 use Rattle.mk_ctab.specs.declared.raw.RawBond.{RawBond}
-use Rattle.mk_ctab.specs.Bonds.{IsNewBondAt, edge_of, edges_of}
+use Rattle.mk_ctab.specs.Bonds.{IsNewBondAt, raw_edge, edges_of}
 use Rattle.mk_ctab.specs.Numbers.{natural}
 use Rattle.mk_query.specs.Checks.{HasQueryType, IsQueryBond, LeavesFewBonds}
 use Rattle.mk_query.specs.Searches.{AreCounts, AreCounted, HasRoom, least_of}
@@ -20,17 +20,17 @@ use Rattle.mk_query.specs.Searches.{AreCounts, AreCounted, HasRoom, least_of}
 
 -- one bond more
 degree_more : (bonds : List RawBond) (i : ℕ) (d : RawBond) (n : ℕ) → i < length bonds
-    → degree (edges_of (take (i + 1) bonds)) n ≡ degree (edges_of (take i bonds)) n + cond (touches n (edge_of (get_or bonds i d))) 1 0
+    → degree (edges_of (take (i + 1) bonds)) n ≡ degree (edges_of (take i bonds)) n + cond (touches n (raw_edge (get_or bonds i d))) 1 0
 degree_more bonds i d n within =
     ap (λ (l : List RawBond). degree (edges_of l) n) (take_more bonds i d within)
-    ∙ ap (λ (l : List Edge). degree l n) (map_push edge_of (take i bonds) (get_or bonds i d))
-    ∙ sum_by_push (λ edge. cond (touches n edge) 1 0) (edges_of (take i bonds)) (edge_of (get_or bonds i d))
+    ∙ ap (λ (l : List Edge). degree l n) (map_push raw_edge (take i bonds) (get_or bonds i d))
+    ∙ sum_by_push (λ edge. cond (touches n edge) 1 0) (edges_of (take i bonds)) (raw_edge (get_or bonds i d))
 
 pub counts_more : (bonds : List RawBond) (i : ℕ) (d : RawBond) (old new : List ℕ) → i < length bonds → length new ≡ length old → AreCounts (take i bonds) old
-    → AreCounted (λ k. touches (k + 1) (edge_of (get_or bonds i d))) old new → AreCounts (take (i + 1) bonds) new
+    → AreCounted (λ k. touches (k + 1) (raw_edge (get_or bonds i d))) old new → AreCounts (take (i + 1) bonds) new
 counts_more bonds i d old new within size counts counted k below =
     let inside : k < length old = omega arith in
-    counted k inside ∙ ap (λ c. c + cond (touches (k + 1) (edge_of (get_or bonds i d))) 1 0) (counts k inside) ∙ sym (degree_more bonds i d (k + 1) within)
+    counted k inside ∙ ap (λ c. c + cond (touches (k + 1) (raw_edge (get_or bonds i d))) 1 0) (counts k inside) ∙ sym (degree_more bonds i d (k + 1) within)
 
 -- an end of a bond
 end_is : (k : ℕ) (edge : Edge) → touches (k + 1) edge ≡ true → (n : ℕ) × ((n ≡ edge.first) ⊎ (n ≡ edge.second)) × (n ≡ k + 1)
@@ -45,27 +45,29 @@ room_at new n k below room is = (let place : n - 1 ≡ k = omega arith in rw pla
 
 -- with room at both ends no atom has more than 20
 pub few_more : (bond : RawBond) (old new : List ℕ) → length new ≡ length old → All (λ (count : ℕ). count ≤ 20) old
-    → AreCounted (λ k. touches (k + 1) (edge_of bond)) old new → HasRoom new (natural bond.first) → HasRoom new (natural bond.second) → All (λ (count : ℕ). count ≤ 20) new
-few_more bond old new size few counted first second k d below = subst (λ (c : ℕ). c ≤ 20) (get_or_default new k 0 d below) (by_touch (touches (k + 1) (edge_of bond)) refl)
+    → AreCounted (λ k. touches (k + 1) (raw_edge bond)) old new → HasRoom new (natural bond.first) → HasRoom new (natural bond.second) → All (λ (count : ℕ). count ≤ 20) new
+few_more bond old new size few counted first second k d below = subst (λ (c : ℕ). c ≤ 20) (get_or_default new k 0 d below) (by_touch (touches (k + 1) (raw_edge bond)) refl)
   where
-    by_touch : (b : Bool) → touches (k + 1) (edge_of bond) ≡ b → get_or new k 0 ≤ 20
+    by_touch : (b : Bool) → touches (k + 1) (raw_edge bond) ≡ b → get_or new k 0 ≤ 20
     by_touch true e =
-        let end = end_is k (edge_of bond) e in
+        let end = end_is k (raw_edge bond) e in
         ⊎_elim (λ one. room_at new (natural bond.first) k below first (sym one ∙ end.2)) (λ other. room_at new (natural bond.second) k below second (sym other ∙ end.2)) end.1
     by_touch false e =
         let inside : k < length old = omega arith in
-        let more : get_or new k 0 ≡ get_or old k 0 + cond (touches (k + 1) (edge_of bond)) 1 0 = counted k inside in
+        let more : get_or new k 0 ≡ get_or old k 0 + cond (touches (k + 1) (raw_edge bond)) 1 0 = counted k inside in
         let none : get_or new k 0 ≡ get_or old k 0 + 0 = more ∙ ap (λ (b : Bool). get_or old k 0 + cond b 1 0) e in
         omega (arith, few k 0 inside)
 
-pub leaves : (atoms : ℕ) (bonds : List RawBond) (item : ℕ) (counts : List ℕ) → length counts ≡ atoms → AreCounts (take item bonds) counts → All (λ (count : ℕ). count ≤ 20) counts → LeavesFewBonds atoms bonds item
+pub leaves : (atoms : ℕ) (bonds : List RawBond) (item : ℕ) (counts : List ℕ) → length counts ≡ atoms
+    → AreCounts (take item bonds) counts → All (λ (count : ℕ). count ≤ 20) counts → LeavesFewBonds atoms bonds item
 leaves atoms bonds item counts size are few n least most =
     let below : n - 1 < length counts = omega arith in
     let place : n - 1 + 1 ≡ n = omega arith in
     let is : get_or counts (n - 1) 0 ≡ degree (edges_of (take item bonds)) n = are (n - 1) below ∙ ap (λ m. degree (edges_of (take item bonds)) m) place in
     omega (arith, few (n - 1) 0 below, is)
 
-pub crowds : (atoms : ℕ) (bonds : List RawBond) (item : ℕ) (counts : List ℕ) (n : ℕ) → length counts ≡ atoms → AreCounts (take item bonds) counts → (HasRoom counts n → ⊥) → LeavesFewBonds atoms bonds item → ⊥
+pub crowds : (atoms : ℕ) (bonds : List RawBond) (item : ℕ) (counts : List ℕ) (n : ℕ) → length counts ≡ atoms
+    → AreCounts (take item bonds) counts → (HasRoom counts n → ⊥) → LeavesFewBonds atoms bonds item → ⊥
 crowds atoms bonds item counts n size are full leaves = full (λ least most.
     let below : n - 1 < length counts = omega arith in
     let place : n - 1 + 1 ≡ n = omega arith in
@@ -112,9 +114,12 @@ pub query_bonds : (atoms : ℕ) (bonds : List RawBond) (a b c : Option ℕ) → 
     → FindsLeast (IsQueryBond atoms bonds) (least_of a (least_of b c))
 query_bonds atoms bonds a b c new columns few =
     least_same _ (IsQueryBond atoms bonds) _ (λ item. (λ all. record { new = all.0; columns = all.1.0; few = all.1.1 }, λ is. (is.new, (is.columns, is.few))))
-    (least_both (IsNewBondAt atoms bonds) (Both (OfItem HasQueryType bonds) (LeavesFewBonds atoms bonds)) a (least_of b c) new (least_both (OfItem HasQueryType bonds) (LeavesFewBonds atoms bonds) b c columns few))
+    (least_both (IsNewBondAt atoms bonds) (Both (OfItem HasQueryType bonds) (LeavesFewBonds atoms bonds)) a
+    (least_of b c) new (least_both (OfItem HasQueryType bonds) (LeavesFewBonds atoms bonds) b c columns few))
 
 -- the same of the bond at a place
 pub few_more_at : (bonds : List RawBond) (i : ℕ) (d : RawBond) (old new : List ℕ) → length new ≡ length old → All (λ (count : ℕ). count ≤ 20) old
-    → AreCounted (λ k. touches (k + 1) (edge_of (get_or bonds i d))) old new → HasRoom new (natural (get_or bonds i d).first) → HasRoom new (natural (get_or bonds i d).second) → All (λ (count : ℕ). count ≤ 20) new
+    → AreCounted (λ k. touches (k + 1) (raw_edge (get_or bonds i d))) old new
+    → HasRoom new (natural (get_or bonds i d).first) → HasRoom new (natural (get_or bonds i d).second)
+    → All (λ (count : ℕ). count ≤ 20) new
 few_more_at bonds i d old new size few counted first second = few_more (get_or bonds i d) old new size few counted first second

@@ -21,7 +21,7 @@ use Rattle.mk_rgfile.specs.declared.raw_query.RawQuery.{RawQuery}
 use Rattle.mk_rgfile.specs.QueryFacts.{member_count}
 use Rattle.mk_query.specs.declared.checking.Fault.{Fault}
 use Rattle.mk_query.specs.declared.compile_fault.FaultAt.{FaultAt}
-use Rattle.mk_query.specs.Compiled.{IsQueryOf, tables_of}
+use Rattle.mk_query.specs.Compiled.{IsQueryOf, query_tables}
 use Rattle.mk_query.specs.CompileFaults.{FitsAt, FitsTable, IsAcross, IsFirstCompileFault, IsFirstInTables, IsNoCycle, IsSmall, IsWhole, PassAcross, PassChecks, PassEach, across_tables, groups_of_number, in_a_table, points, recursion, size, whole}
 use Rattle.mk_query.specs.FirstFault.{IsFirstFault, PassesAll}
 use Rattle.mk_query.specs.InRange.{IsGroupInRange, IsQueryInRange}
@@ -40,20 +40,22 @@ use Rattle.mk_query.proofs.TableWalkLemmas.{pass_nested}
 module _ (raw : RawQuery) where
   -- the first so many tables pass, or a fault was found
   SoFar : ℕ → Type 0
-  SoFar n = ((t : ℕ) (table : RawTable) → t < n → slice_get (tables_of raw) t ≡ Some table → PassesAll raw.groups (t == 0) table) ⊎ ((fault : FaultAt) × IsFirstInTables raw fault)
+  SoFar n = ((t : ℕ) (table : RawTable) → t < n → slice_get (query_tables raw) t ≡ Some table → PassesAll raw.groups (t == 0) table) ⊎ ((fault : FaultAt) × IsFirstInTables raw fault)
 
   one_more : (n : ℕ) → SoFar n → SoFar (suc n)
   unfolding SoFar
   one_more n (inr found) = inr found
-  one_more n (inl before) = by_table (slice_get (tables_of raw) n) refl
+  one_more n (inl before) = by_table (slice_get (query_tables raw) n) refl
     where
-      last_one : (o : Option RawTable) → slice_get (tables_of raw) n ≡ o → ((table : RawTable) → o ≡ Some table → PassesAll raw.groups (n == 0) table)
-          → (t : ℕ) (table : RawTable) → t < suc n → slice_get (tables_of raw) t ≡ Some table → PassesAll raw.groups (t == 0) table
+      last_one : (o : Option RawTable) → slice_get (query_tables raw) n ≡ o → ((table : RawTable) → o ≡ Some table → PassesAll raw.groups (n == 0) table)
+          → (t : ℕ) (table : RawTable) → t < suc n → slice_get (query_tables raw) t ≡ Some table → PassesAll raw.groups (t == 0) table
       last_one o is here t table below at =
           ⊎_elim (λ earlier. before t table earlier at)
-          (λ last. let same : n ≡ t = omega (arith, last, below) in subst (λ (k : ℕ). PassesAll raw.groups (k == 0) table) same (here table (sym is ∙ ap (slice_get (tables_of raw)) same ∙ at))) (cases_lt t n)
+          (λ last. let same : n ≡ t = omega (arith, last, below)
+          in subst (λ (k : ℕ). PassesAll raw.groups (k == 0) table) same
+          (here table (sym is ∙ ap (slice_get (query_tables raw)) same ∙ at))) (cases_lt t n)
 
-      by_table : (o : Option RawTable) → slice_get (tables_of raw) n ≡ o → SoFar (suc n)
+      by_table : (o : Option RawTable) → slice_get (query_tables raw) n ≡ o → SoFar (suc n)
       by_table None is = inl (last_one None is (λ table e. absurd cc))
       by_table (Some table) is =
           ⊎_elim (λ passes. inl (last_one (Some table) is (λ other e. let same : table ≡ other = cc in subst (PassesAll raw.groups (n == 0)) same passes)))
@@ -67,7 +69,7 @@ module _ (raw : RawQuery) where
 
   in_tables : PassEach raw ⊎ ((fault : FaultAt) × IsFirstInTables raw fault)
   unfolding SoFar
-  in_tables = ⊎_elim (λ before. inl (λ t table at. before t table (slice_get_within (tables_of raw) t table at) at)) (λ found. inr found) (so_far (length (tables_of raw)))
+  in_tables = ⊎_elim (λ before. inl (λ t table at. before t table (slice_get_within (query_tables raw) t table at) at)) (λ found. inr found) (so_far (length (query_tables raw)))
 
 -- ---- across them
 
@@ -98,7 +100,9 @@ module _ (query : QueryView) where
   known_cycle : HasGroups query → (t : ℕ) → Known (IsNoCycle query t)
   unfolding Back
   known_cycle has t =
-      known_as (known_not (known_some_below (Back t) (λ g. known_both (known_most 1 g) (known_both (known_held (members_of query g) t) (known_true (comes_back (leads query 32) g (slots_of query t))))) 33))
+      known_as (known_not (known_some_below (Back t) (λ g. known_both (known_most 1 g)
+      (known_both (known_held (members_of query g) t)
+      (known_true (comes_back (leads query 32) g (slots_of query t))))) 33))
       (λ none via chain. let back = chain_leads query 32 (omega arith) has t via t chain in none (back.0, omega (arith, back.2), (back.1, (back.3, back.4))))
       (λ none some. let chain = leads_chain query 32 t some.0 t some.2.1.0 some.2.1.1 in none chain.0 chain.1)
 
@@ -106,17 +110,22 @@ module _ (query : QueryView) where
   known_member : (slot : Slot) (u : ℕ) → Known ((template : TemplateView) → slice_get query.templates u ≡ Some template → length template.points ≡ neighbour_count slot)
   known_member slot u = by_template (slice_get query.templates u) refl
     where
-      by_template : (o : Option TemplateView) → slice_get query.templates u ≡ o → Known ((template : TemplateView) → slice_get query.templates u ≡ Some template → length template.points ≡ neighbour_count slot)
+      by_template : (o : Option TemplateView) → slice_get query.templates u ≡ o
+          → Known ((template : TemplateView) → slice_get query.templates u ≡ Some template
+          → length template.points ≡ neighbour_count slot)
       by_template None is = inl (λ template at. absurd (let same : None ≡ Some template = sym is ∙ at in cc))
       by_template (Some found) is =
           known_as (known_equal (length found.points) (neighbour_count slot))
-          (λ fits template at. let same : Some found ≡ Some template = sym is ∙ at in let one : found ≡ template = cc in subst (λ (x : TemplateView). length x.points ≡ neighbour_count slot) one fits) (λ fits. fits found is)
+          (λ fits template at. let same : Some found ≡ Some template = sym is ∙ at in let one : found ≡ template = cc
+          in subst (λ (x : TemplateView). length x.points ≡ neighbour_count slot) one fits) (λ fits. fits found is)
 
   known_points : (slot : Slot) → Known (FitsPoints query slot)
   known_points slot =
       known_as
       (known_all (λ u. (template : TemplateView) → slice_get query.templates u ≡ Some template → length template.points ≡ neighbour_count slot) (known_member slot) (members_at query slot))
-      (λ all u template held at. All-contains (λ u. (template : TemplateView) → slice_get query.templates u ≡ Some template → length template.points ≡ neighbour_count slot) (members_at query slot) u all held template at)
+      (λ all u template held at. All-contains (λ u. (template : TemplateView)
+      → slice_get query.templates u ≡ Some template → length template.points ≡ neighbour_count slot)
+      (members_at query slot) u all held template at)
       (λ fits k d below template at. fits (get_or (members_at query slot) k d) template (Contains-get_or (members_at query slot) k d below) at)
 
   -- of the slots at an atom
@@ -214,7 +223,9 @@ module _ (raw : RawQuery) (is : IsQueryInRange raw) (passed : PassEach raw) (que
       by_small none fits (inl small) = by_whole none fits small (least_failing (IsWhole raw) known_whole 4098 (λ before k past. past_whole k past))
       by_small none fits (inr large) = inr (record { check = 13; table = 0; item = 0 }, size refl refl refl none fits large)
 
-      by_least : ((t : ℕ) → IsNoCycle query t) → (t : ℕ) → IsLeastFailing (FitsTable query) t → FitsTable query t ⊎ ((x : ℕ) × IsLeastFailing (FitsAt query t) x) → PassAcross raw query ⊎ ((fault : FaultAt) × IsAcross raw query fault)
+      by_least : ((t : ℕ) → IsNoCycle query t) → (t : ℕ) → IsLeastFailing (FitsTable query) t → FitsTable query t
+          ⊎ ((x : ℕ) × IsLeastFailing (FitsAt query t) x) → PassAcross raw query
+          ⊎ ((fault : FaultAt) × IsAcross raw query fault)
       by_least none t least (inl fits) = absurd (least.fails fits)
       by_least none t least (inr (x, here)) = inr (record { check = 12; table = t; item = x }, points refl none least here)
 
@@ -236,6 +247,8 @@ fault_or_query raw is = by_tables (in_tables raw)
     by_across passed query of (inl across) = inr (query, of, record { in_tables = passed; across = across })
     by_across passed query of (inr (fault, found)) = inl (fault, across_tables passed query of found)
 
-    by_tables : PassEach raw ⊎ ((fault : FaultAt) × IsFirstInTables raw fault) → ((fault : FaultAt) × IsFirstCompileFault raw fault) ⊎ ((query : QueryView) × IsQueryOf raw query × PassChecks raw query)
+    by_tables : PassEach raw ⊎ ((fault : FaultAt) × IsFirstInTables raw fault)
+        → ((fault : FaultAt) × IsFirstCompileFault raw fault)
+        ⊎ ((query : QueryView) × IsQueryOf raw query × PassChecks raw query)
     by_tables (inl passed) = (let found = query_there raw passed in by_across passed found.0 found.1 (across raw is passed found.0 found.1))
     by_tables (inr (fault, found)) = inl (fault, in_a_table found)

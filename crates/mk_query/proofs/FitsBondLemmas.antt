@@ -15,7 +15,7 @@ use Rattle.mk_model.specs.Templates.{query_edge, query_edges}
 use Rattle.mk_model.specs.Tests.{IsBondInRange}
 use Rattle.mk_ctab.specs.declared.raw.RawBond.{RawBond}
 use Rattle.mk_ctab.specs.declared.raw.RawTable.{RawTable}
-use Rattle.mk_ctab.specs.Bonds.{HasTwoEnds, IsEdgeFront, edge_of, edges_of}
+use Rattle.mk_ctab.specs.Bonds.{HasTwoEnds, IsEdgeFront, raw_edge, edges_of}
 use Rattle.mk_ctab.specs.Numbers.{IsWithin, byte}
 use Rattle.mk_ctab.proofs.ForCallers.{atom_within, atoms_differ, is_graph}
 use Rattle.mk_query.specs.Checks.{HasQueryType}
@@ -42,7 +42,7 @@ all_query_bonds P bonds each k d below =
 
 -- ---- ends
 
-ends_between : (atoms : ℕ) (bond : RawBond) → HasTwoEnds atoms bond → IsBetween atoms (edge_of bond)
+ends_between : (atoms : ℕ) (bond : RawBond) → HasTwoEnds atoms bond → IsBetween atoms (raw_edge bond)
 ends_between atoms bond ends = record {
   first = atom_within atoms bond.first ends.first;
   second = atom_within atoms bond.second ends.second;
@@ -54,12 +54,13 @@ all_ends table passed k d below = right_ends table k (get_or table.bonds k d) pa
 
 edges_between : (table : RawTable) → HasPassed table → AreBetween (length table.atoms) (edges_of table.bonds)
 edges_between table passed k d below =
-    let inside : k < length table.bonds = omega (arith, below, length-map table.bonds edge_of) in
-    subst (IsBetween (length table.atoms)) (sym (get_or-map edge_of table.bonds k no_bond d inside)) (ends_between (length table.atoms) (get_or table.bonds k no_bond) (all_ends table passed k no_bond inside))
+    let inside : k < length table.bonds = omega (arith, below, length-map table.bonds raw_edge) in
+    subst (IsBetween (length table.atoms)) (sym (get_or-map raw_edge table.bonds k no_bond d inside))
+    (ends_between (length table.atoms) (get_or table.bonds k no_bond) (all_ends table passed k no_bond inside))
 
 edge_front : (table : RawTable) → HasPassed table → IsEdgeFront (length table.atoms) table.bonds (edges_of table.bonds)
 edge_front table passed =
-    let size : length (edges_of table.bonds) ≡ length table.bonds = length-map table.bonds edge_of in
+    let size : length (edges_of table.bonds) ≡ length table.bonds = length-map table.bonds raw_edge in
     let whole : take (length (edges_of table.bonds)) table.bonds ≡ table.bonds = take_all (length (edges_of table.bonds)) table.bonds (omega (arith, size)) in
     record {
       few = omega (arith, size);
@@ -72,11 +73,13 @@ edge_front table passed =
 -- the bonds without their topologies are those of the table
 same_edges : (bonds : List RawBond) → query_edges (query_bonds bonds) ≡ edges_of bonds
 same_edges [] = refl
-same_edges (bond ∷ bonds) = ap (λ (l : List Edge). edge_of bond ∷ l) (same_edges bonds)
+same_edges (bond ∷ bonds) = ap (λ (l : List Edge). raw_edge bond ∷ l) (same_edges bonds)
 
 -- they are between two atoms, and no two join one pair
 pub simple : (table : RawTable) → HasPassed table → IsSimple (length table.atoms) (query_edges (query_bonds table.bonds))
-simple table passed = subst (IsSimple (length table.atoms)) (sym (same_edges table.bonds)) (is_graph (length table.atoms) table.bonds (edges_of table.bonds) (edge_front table passed) (λ item. (passed.passes bond_check item).new))
+simple table passed = subst (IsSimple (length table.atoms)) (sym (same_edges table.bonds))
+    (is_graph (length table.atoms) table.bonds (edges_of table.bonds) (edge_front table passed)
+    (λ item. (passed.passes bond_check item).new))
 
 -- the ends of each, as the template has it
 pub each_between : (table : RawTable) → HasPassed table → All (λ bond. IsBetween (length table.atoms) (query_edge bond)) (query_bonds table.bonds)

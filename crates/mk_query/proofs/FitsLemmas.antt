@@ -12,13 +12,13 @@ use Rattle.mk_model.specs.declared.atom_test.AtomTest.{AtomTest}
 use Rattle.mk_model.specs.declared.template.QueryBond.{QueryBond}
 use Rattle.mk_model.specs.declared.template.Slot.{Slot}
 use Rattle.mk_model.specs.declared.template.Slot.TheVariants.{Link, Site}
-use Rattle.mk_model.specs.QueryFits.{AreApart, HasClosedBlocks, HasFreePoints, HasPairsOnce, HasRisingSlots, HasSitesApart, IsAtomOf, IsClosed, IsInRange, IsMarked, IsSlotOf, NamesItsNeighbours, NamesNeighbours}
+use Rattle.mk_model.specs.QueryFits.{AreApart, HasClosedBlocks, HasFreePoints, HasPairsOnce, HasRisingSlots, HasSitesApart, IsAtomOf, HoldsItsBlock, IsInRange, IsMarked, IsSlotOf, NamesItsNeighbours, NamesNeighbours}
 use Rattle.mk_model.specs.Tests.{IsBondInRange}
 use Rattle.mk_model.specs.Templates.{TemplateView, is_in_block, slot_atom}
 use Rattle.mk_ctab.specs.declared.raw.RawTable.{RawTable}
 use Rattle.mk_ctab.specs.Numbers.{byte, natural}
 use Rattle.mk_ctab.proofs.ForCallers.{atoms_differ}
-use Rattle.mk_query.specs.Compiled.{IsTemplateOf, ordered_neighbours, points_of, slot_at, slot_with, slots_of}
+use Rattle.mk_query.specs.Compiled.{IsTemplateOf, ordered_neighbours, points_of, slot_at, slot_with, table_slots}
 use Rattle.mk_query.specs.Drawn.{labels_at, links_at, query_bond, query_bonds}
 use Rattle.mk_query.specs.InRange.{IsTableInRange}
 use Rattle.mk_query.specs.OwnSizes.{IsSized}
@@ -37,13 +37,13 @@ all_contained P xs x all (k, below, is) = subst P is (all k x below)
 
 -- the template of a table with these tests
 abbrev view : RawTable → List AtomTest → TemplateView
-view table tests = record { atoms = tests; bonds = query_bonds table.bonds; slots = slots_of table; points = points_of table }
+view table tests = record { atoms = tests; bonds = query_bonds table.bonds; slots = table_slots table; points = points_of table }
 
 template_is : (table : RawTable) (template : TemplateView) → IsTemplateOf table template → template ≡ view table template.atoms
 template_is table template is =
     ap (λ (bonds : List QueryBond). record { atoms = template.atoms; bonds = bonds; slots = template.slots; points = template.points }) is.bonds
     ∙ ap (λ (slots : List Slot). record { atoms = template.atoms; bonds = query_bonds table.bonds; slots = slots; points = template.points }) is.slots
-    ∙ ap (λ (points : List ℕ). record { atoms = template.atoms; bonds = query_bonds table.bonds; slots = slots_of table; points = points }) is.points
+    ∙ ap (λ (points : List ℕ). record { atoms = template.atoms; bonds = query_bonds table.bonds; slots = table_slots table; points = points }) is.points
 
 -- what holds of the template of a table with its tests holds of the template
 by_view : (P : TemplateView → Type 0) (table : RawTable) (template : TemplateView) → IsTemplateOf table template → P (view table template.atoms) → P template
@@ -63,7 +63,7 @@ slots_rising table template is = by_view HasRisingSlots table template is (slots
 abbrev IsOwn : RawTable → Slot → Type 0
 IsOwn table slot = (slot_at table (slot_atom slot) ≡ Some slot) × (1 ≤ slot_atom slot) × (slot_atom slot ≤ length table.atoms)
 
-own_slots : (table : RawTable) → All (IsOwn table) (slots_of table)
+own_slots : (table : RawTable) → All (IsOwn table) (table_slots table)
 own_slots table =
     each_slot (IsOwn table) table
     (λ x slot least most is. (let at = atom_of_slot table x slot is in subst (λ (y : ℕ). (slot_at table y ≡ Some slot) × (1 ≤ y) × (y ≤ length table.atoms)) (sym at) (is, least, most)))
@@ -72,7 +72,7 @@ pub points_free : (table : RawTable) (template : TemplateView) → HasPassed tab
 points_free table template passed is =
     by_view HasFreePoints table template is
     (λ slot at point.
-    let own = all_contained (IsOwn table) (slots_of table) slot (own_slots table) at in
+    let own = all_contained (IsOwn table) (table_slots table) slot (own_slots table) at in
     let bearer = all_contained (IsBearer table) (points_of table) (slot_atom slot) (points_in_range table) point in
     free_at table (slot_atom slot) slot passed own.1 own.2 own.0 bearer.1)
 
@@ -85,15 +85,19 @@ pub sites_apart : (table : RawTable) (template : TemplateView) → HasPassed tab
 sites_apart table template passed is =
     by_view HasSitesApart table template is
     (λ slot other at there.
-    apart table template.atoms slot other passed (all_contained (StandsAtSite table) (slots_of table) slot (sites_stand table passed) at)
-    (all_contained (StandsAtSite table) (slots_of table) other (sites_stand table passed) there))
+    apart table template.atoms slot other passed (all_contained (StandsAtSite table) (table_slots table) slot (sites_stand table passed) at)
+    (all_contained (StandsAtSite table) (table_slots table) other (sites_stand table passed) there))
 
 -- ---- blocks
 
-closed_link : (table : RawTable) (tests : List AtomTest) (atom most from to : ℕ) → HasPassed table → StandsAsLink table (Link atom most from to) → (y : ℕ) → IsTrue (is_in_block (view table tests) (Link atom most from to) y)
+closed_link : (table : RawTable) (tests : List AtomTest) (atom most from to : ℕ) → HasPassed table
+    → StandsAsLink table (Link atom most from to) → (y : ℕ)
+    → IsTrue (is_in_block (view table tests) (Link atom most from to) y)
     → (y ≢ from) × (y ≢ to) × (IsMarked (view table tests) y → y ≡ atom)
 closed_link table tests atom most from to passed (link, most_is, from_is, to_is, right, least, few) y inside =
-    let within = subst (λ (slot : Slot). IsTrue (is_in_block (view table tests) slot y)) (ap (λ (m : ℕ). Link atom m from to) most_is ∙ ap (λ (f : ℕ). Link atom (natural link.most) f to) from_is ∙ ap (λ (t : ℕ). Link atom (natural link.most) (natural link.from) t) to_is) inside in
+    let within = subst (λ (slot : Slot). IsTrue (is_in_block (view table tests) slot y))
+    (ap (λ (m : ℕ). Link atom m from to) most_is ∙ ap (λ (f : ℕ). Link atom (natural link.most) f to) from_is
+    ∙ ap (λ (t : ℕ). Link atom (natural link.most) (natural link.from) t) to_is) inside in
     let P : ℕ → Type 0 = λ z. IsTrue (is_in_block (view table tests) (Link atom (natural link.most) (natural link.from) (natural link.to)) z) in (
       λ e. right.not_from (subst P (e ∙ from_is) within),
       λ e. right.not_to (subst P (e ∙ to_is) within),
@@ -103,7 +107,7 @@ closed_link table tests atom most from to passed (link, most_is, from_is, to_is,
           let bearer = all_contained (IsBearer table) (points_of table) y (points_in_range table) point in
           absurd ((right.plain y bearer.0.0 bearer.0.1 within).no_point bearer.1))
           (λ slot.
-          let own = all_contained (IsOwn table) (slots_of table) slot.0 (own_slots table) slot.1 in
+          let own = all_contained (IsOwn table) (table_slots table) slot.0 (own_slots table) slot.1 in
           let here : IsOwn table slot.0 = own in
           let at : slot_at table y ≡ Some slot.0 = subst (λ (z : ℕ). slot_at table z ≡ Some slot.0) slot.2 own.0 in
           let from_one : 1 ≤ y = omega (arith, slot.2, own.1) in
@@ -113,13 +117,13 @@ closed_link table tests atom most from to passed (link, most_is, from_is, to_is,
           marked,
     )
 
-closed : (table : RawTable) (tests : List AtomTest) (slot : Slot) → HasPassed table → StandsAsLink table slot → IsClosed (view table tests) slot
+closed : (table : RawTable) (tests : List AtomTest) (slot : Slot) → HasPassed table → StandsAsLink table slot → HoldsItsBlock (view table tests) slot
 closed table tests (Site atom group first second) passed stands = tt
 closed table tests (Link atom most from to) passed stands = λ y inside. closed_link table tests atom most from to passed stands y inside
 
 pub blocks_closed : (table : RawTable) (template : TemplateView) → HasPassed table → IsTemplateOf table template → HasClosedBlocks template
 blocks_closed table template passed is =
-    by_view HasClosedBlocks table template is (λ k d below. closed table template.atoms (get_or (slots_of table) k d) passed (links_stand table passed k d below))
+    by_view HasClosedBlocks table template is (λ k d below. closed table template.atoms (get_or (table_slots table) k d) passed (links_stand table passed k d below))
 
 -- ---- in range
 
@@ -127,7 +131,9 @@ twice : (z : ℤ) → pos 2 ≤ℤ z → 2 ≤ natural z
 twice (pos n) is = omega (arith, ints, is)
 twice (negsuc n) is = absurd (omega (arith, ints, is))
 
-slot_of : (table : RawTable) (tests : List AtomTest) (slot : Slot) → length tests ≡ length table.atoms → StandsAsLink table slot → HasGroup slot → (1 ≤ slot_atom slot) × (slot_atom slot ≤ length table.atoms) → IsSlotOf (view table tests) slot
+slot_of : (table : RawTable) (tests : List AtomTest) (slot : Slot) → length tests ≡ length table.atoms
+    → StandsAsLink table slot → HasGroup slot → (1 ≤ slot_atom slot) × (slot_atom slot ≤ length table.atoms)
+    → IsSlotOf (view table tests) slot
 slot_of table tests (Site atom group first second) size stands group_is at = (
   (at.0, omega (arith, at.1, size)),
   λ g bears. (let same = same_number group g bears in (omega (arith, same, group_is.0), omega (arith, same, group_is.1))),
@@ -154,7 +160,8 @@ slot_of table tests (Link atom most from to) size (link, most_is, from_is, to_is
 pub links_and_labels : (table : RawTable) (template : TemplateView) → HasPassed table → IsTemplateOf table template → All (IsSlotOf template) template.slots
 links_and_labels table template passed is =
     by_view (λ (t : TemplateView). All (IsSlotOf t) t.slots) table template is
-    (λ k d below. slot_of table template.atoms (get_or (slots_of table) k d) is.atoms.size (links_stand table passed k d below) (slots_have_groups table passed k d below) (slots_stand table k d below))
+    (λ k d below. slot_of table template.atoms (get_or (table_slots table) k d) is.atoms.size
+    (links_stand table passed k d below) (slots_have_groups table passed k d below) (slots_stand table k d below))
 
 -- the points are, and there are two at most
 pub points_within : (table : RawTable) (template : TemplateView) → HasPassed table → IsTemplateOf table template → All (IsAtomOf template) template.points × (length template.points ≤ 2)
@@ -201,7 +208,7 @@ order_with table x (link ∷ links) labels slot is = subst (NamesOrder table) (s
 order_with table x [] (label ∷ labels) slot is = subst (NamesOrder table) (same_slot (Site x (byte label) (ordered_neighbours table x).0 (ordered_neighbours table x).1) slot is) (refl, refl)
 order_with table x [] [] slot is = absurd cc
 
-orders_named : (table : RawTable) → All (NamesOrder table) (slots_of table)
+orders_named : (table : RawTable) → All (NamesOrder table) (table_slots table)
 orders_named table = each_slot (NamesOrder table) table (λ x slot least most is. order_with table x (links_at table x) (labels_at table x) slot is)
 
 named : (table : RawTable) (tests : List AtomTest) (slot : Slot) → HasPassed table → StandsAtSite table slot → NamesOrder table slot → NamesItsNeighbours (view table tests) slot
@@ -215,4 +222,4 @@ named table tests (Site atom group first second) passed stands order =
 pub names_neighbours : (table : RawTable) (template : TemplateView) → HasPassed table → IsTemplateOf table template → NamesNeighbours template
 names_neighbours table template passed is =
     by_view NamesNeighbours table template is
-    (λ k d below. named table template.atoms (get_or (slots_of table) k d) passed (sites_stand table passed k d below) (orders_named table k d below))
+    (λ k d below. named table template.atoms (get_or (table_slots table) k d) passed (sites_stand table passed k d below) (orders_named table k d below))

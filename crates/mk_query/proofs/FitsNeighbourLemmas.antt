@@ -14,10 +14,10 @@ use Rattle.mk_model.specs.declared.template.Slot.TheVariants.{Link, Site}
 use Rattle.mk_model.specs.Templates.{joins}
 use Rattle.mk_ctab.specs.declared.raw.RawTable.{RawTable}
 use Rattle.mk_ctab.specs.Numbers.{byte, natural}
-use Rattle.mk_query.specs.Compiled.{ordered_neighbours, slot_with, slots_of}
+use Rattle.mk_query.specs.Compiled.{ordered_neighbours, slot_with, table_slots}
 use Rattle.mk_query.specs.Drawn.{drawn_neighbours, is_site_at, labels_at, links_at, neighbours_at, query_bonds}
 use Rattle.mk_query.specs.FirstFault.{link_atoms, site_places}
-use Rattle.mk_query.specs.LinkChecks.{AreRightLinks, IsLinkAt}
+use Rattle.mk_query.specs.LinkChecks.{AreRightLinks, CanBeLink}
 use Rattle.mk_query.specs.Passed.{HasPassed}
 use Rattle.mk_query.specs.SiteChecks.{ArePlaced}
 use Rattle.mk_query.proofs.FitsPointLemmas.{atom_line}
@@ -76,13 +76,14 @@ abbrev pub StandsAtSite : RawTable → Slot → Type 0
 StandsAtSite table (Link atom most from to) = Unit {0}
 StandsAtSite table (Site atom group first second) = IsTrue (is_site_at table atom) × (1 ≤ atom) × (atom ≤ length table.atoms)
 
-site_with : (table : RawTable) (x : ℕ) (links : List LinkEntry) (labels : List ℤ) (both : ℕ × ℕ) (slot : Slot) → 1 ≤ x → x ≤ length table.atoms → (labels ≢ [] → IsTrue (is_site_at table x)) → slot_with x links labels both ≡ Some slot
+site_with : (table : RawTable) (x : ℕ) (links : List LinkEntry) (labels : List ℤ) (both : ℕ × ℕ) (slot : Slot) → 1 ≤ x
+    → x ≤ length table.atoms → (labels ≢ [] → IsTrue (is_site_at table x)) → slot_with x links labels both ≡ Some slot
     → StandsAtSite table slot
 site_with table x (link ∷ links) labels both slot least most site is = subst (StandsAtSite table) (same_slot (Link x (natural link.most) (natural link.from) (natural link.to)) slot is) tt
 site_with table x [] (label ∷ labels) both slot least most site is = subst (StandsAtSite table) (same_slot (Site x (byte label) both.0 both.1) slot is) (site (λ e. absurd cc), least, most)
 site_with table x [] [] both slot least most site is = absurd cc
 
-pub sites_stand : (table : RawTable) → HasPassed table → All (StandsAtSite table) (slots_of table)
+pub sites_stand : (table : RawTable) → HasPassed table → All (StandsAtSite table) (table_slots table)
 sites_stand table passed =
     each_slot (StandsAtSite table) table
     (λ x slot least most is. site_with table x (links_at table x) (labels_at table x) (ordered_neighbours table x) slot least most (labelled_is_site table x passed least most) is)
@@ -93,7 +94,8 @@ placed_at table x passed least most site =
     passed.passes site_places x there.0 least there.1 (rw there.1 at site)
 
 -- no bond joins two sites
-pub sites_apart_at : (table : RawTable) (x y : ℕ) (bond : QueryBond) → HasPassed table → 1 ≤ x → x ≤ length table.atoms → IsTrue (is_site_at table x) → IsTrue (is_site_at table y) → Contains (query_bonds table.bonds) bond
+pub sites_apart_at : (table : RawTable) (x y : ℕ) (bond : QueryBond) → HasPassed table → 1 ≤ x → x ≤ length table.atoms
+    → IsTrue (is_site_at table x) → IsTrue (is_site_at table y) → Contains (query_bonds table.bonds) bond
     → IsTrue (joins x y bond) → ⊥
 sites_apart_at table x y bond passed least most site other at joined =
     let (k, below, is) = neighbour_of (query_bonds table.bonds) x y bond at joined in
@@ -104,10 +106,11 @@ sites_apart_at table x y bond passed least most site other at joined =
 -- a link that is right and stands at its atom
 abbrev pub StandsAsLink : RawTable → Slot → Type 0
 StandsAsLink table (Link atom most from to) =
-    (link : LinkEntry) × (most ≡ natural link.most) × (from ≡ natural link.from) × (to ≡ natural link.to) × IsLinkAt table atom link × (1 ≤ atom) × (atom ≤ length table.atoms)
+    (link : LinkEntry) × (most ≡ natural link.most) × (from ≡ natural link.from) × (to ≡ natural link.to) × CanBeLink table atom link × (1 ≤ atom) × (atom ≤ length table.atoms)
 StandsAsLink table (Site atom group first second) = Unit {0}
 
-link_with : (table : RawTable) (x : ℕ) (links : List LinkEntry) (labels : List ℤ) (both : ℕ × ℕ) (slot : Slot) → 1 ≤ x → x ≤ length table.atoms → AreRightLinks table x links → slot_with x links labels both ≡ Some slot
+link_with : (table : RawTable) (x : ℕ) (links : List LinkEntry) (labels : List ℤ) (both : ℕ × ℕ) (slot : Slot) → 1 ≤ x
+    → x ≤ length table.atoms → AreRightLinks table x links → slot_with x links labels both ≡ Some slot
     → StandsAsLink table slot
 link_with table x (link ∷ []) labels both slot least most right is =
     subst (StandsAsLink table) (same_slot (Link x (natural link.most) (natural link.from) (natural link.to)) slot is) (link, refl, refl, refl, right, least, most)
@@ -116,7 +119,7 @@ link_with table x [] (label ∷ labels) both slot least most right is = subst (S
 link_with table x [] [] both slot least most right is = absurd cc
 
 -- each link is such as a query may have
-pub links_stand : (table : RawTable) → HasPassed table → All (StandsAsLink table) (slots_of table)
+pub links_stand : (table : RawTable) → HasPassed table → All (StandsAsLink table) (table_slots table)
 links_stand table passed =
     each_slot (StandsAsLink table) table
     (λ x slot least most is.

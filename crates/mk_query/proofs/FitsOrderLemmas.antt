@@ -152,7 +152,8 @@ told_apart f p q a b differ one one_at one_is other other_at other_is = by_place
 pos_differ : (y z : ℕ) → y ≢ z → pos y ≢ pos z
 pos_differ y z differ e = differ (ap natural e)
 
-placed_order : (entries : List Pair) (ns : List ℕ) → OrdersNeighbours entries ns → 1 ≤ length ns → length ns ≤ 2 → ((y z : ℕ) → ns ≡ y ∷ z ∷ [] → y ≢ z) → AreOrderOf ns (atom_placed 1 entries, atom_placed 2 entries)
+placed_order : (entries : List Pair) (ns : List ℕ) → OrdersNeighbours entries ns → 1 ≤ length ns → length ns ≤ 2
+    → ((y z : ℕ) → ns ≡ y ∷ z ∷ [] → y ≢ z) → AreOrderOf ns (atom_placed 1 entries, atom_placed 2 entries)
 placed_order entries [] orders some two differ = absurd (omega (arith, some))
 placed_order [] (y ∷ []) orders some two differ = absurd (omega (arith, orders.as_many))
 placed_order (p ∷ []) (y ∷ []) orders some two differ =
@@ -183,7 +184,9 @@ found_later x p props entries (k, order, at, atom, is) = (suc k, order, at, atom
 same_entries : (a b : List Pair) → Some a ≡ Some b → a ≡ b
 same_entries a b e = cc
 
-found_by : (x : ℕ) (p : Property) (props : List Property) (entries : List Pair) → order_of x p (order_for x props) ≡ Some entries → (order_for x props ≡ Some entries → IsFoundIn x props entries) → IsFoundIn x (p ∷ props) entries
+found_by : (x : ℕ) (p : Property) (props : List Property) (entries : List Pair)
+    → order_of x p (order_for x props) ≡ Some entries → (order_for x props ≡ Some entries → IsFoundIn x props entries)
+    → IsFoundIn x (p ∷ props) entries
 found_by x (kinds.Order order) props entries is later = by_test (eqb (natural order.atom) x) refl is
   where
     by_test : (b : Bool) → eqb (natural order.atom) x ≡ b → cond b (Some order.entries) (order_for x props) ≡ Some entries → IsFoundIn x (kinds.Order order ∷ props) entries
@@ -271,7 +274,9 @@ site_names table x passed placed =
 
 -- the same of the bonds themselves
 pub joined_names : (table : RawTable) (x : ℕ) → HasPassed table → ArePlaced table (drawn_neighbours table x)
-    → (y : ℕ) → ((bond : QueryBond) × Contains (query_bonds table.bonds) bond × IsTrue (joins x y bond)) ↔ ((y ≡ (ordered_neighbours table x).0) ⊎ ((y ≡ (ordered_neighbours table x).1) × ((ordered_neighbours table x).1 ≢ 0)))
+    → (y : ℕ) → ((bond : QueryBond) × Contains (query_bonds table.bonds) bond × IsTrue (joins x y bond)) ↔
+    ((y ≡ (ordered_neighbours table x).0) ⊎ ((y ≡ (ordered_neighbours table x).1)
+    × ((ordered_neighbours table x).1 ≢ 0)))
 joined_names table x passed placed y =
     let named = (site_names table x passed placed).2 y in (
       λ joined. named.0 (neighbour_of (query_bonds table.bonds) x y joined.0 joined.1 joined.2),

@@ -44,10 +44,13 @@ none_pass p (suc n) none =
     let others : filter p (range_with_len 1 n) ≡ [] = none_pass p n (λ y least most. none y least (omega (arith, most))) in
     ap (λ (m : ℕ). filter p (range_with_len 1 m)) on ∙ filter_more p n ∙ ap (λ (l : List ℕ). l ++ cond (p (n + 1)) ((n + 1) ∷ []) []) others ∙ ap (λ (b : Bool). cond b ((n + 1) ∷ []) []) last
 
-one_more : (p : ℕ → Bool) (n : ℕ) (b : Bool) → p (n + 1) ≡ b → ((y : ℕ) → 1 ≤ y → y ≤ n → b ≡ true → p y ≡ false) → length (filter p (range_with_len 1 n)) ≤ 1 → length (filter p (range_with_len 1 (n + 1))) ≤ 1
+one_more : (p : ℕ → Bool) (n : ℕ) (b : Bool) → p (n + 1) ≡ b → ((y : ℕ) → 1 ≤ y → y ≤ n → b ≡ true → p y ≡ false)
+    → length (filter p (range_with_len 1 n)) ≤ 1 → length (filter p (range_with_len 1 (n + 1))) ≤ 1
 one_more p n true is alone few =
     let others : filter p (range_with_len 1 n) ≡ [] = none_pass p n (λ y least most. alone y least most refl) in
-    let next : filter p (range_with_len 1 (n + 1)) ≡ (n + 1) ∷ [] = filter_more p n ∙ ap (λ (l : List ℕ). l ++ cond (p (n + 1)) ((n + 1) ∷ []) []) others ∙ ap (λ (b : Bool). cond b ((n + 1) ∷ []) []) is in
+    let next : filter p (range_with_len 1 (n + 1)) ≡ (n + 1) ∷ [] = filter_more p n
+    ∙ ap (λ (l : List ℕ). l ++ cond (p (n + 1)) ((n + 1) ∷ []) []) others
+    ∙ ap (λ (b : Bool). cond b ((n + 1) ∷ []) []) is in
     omega (arith, ap (λ (l : List ℕ). length l) next)
 one_more p n false is alone few =
     let next : filter p (range_with_len 1 (n + 1)) ≡ filter p (range_with_len 1 n) ++ [] = filter_more p n ∙ ap (λ (b : Bool). filter p (range_with_len 1 n) ++ cond b ((n + 1) ∷ []) []) is in

@@ -21,7 +21,7 @@ use Rattle.mk_ctab.specs.declared.raw.RawTable.{RawTable}
 use Rattle.mk_ctab.specs.Charges.{values_for}
 use Rattle.mk_ctab.specs.Numbers.{IsWithin, byte, natural}
 use Rattle.mk_query.specs.Checks.{HasQueryValues, IsQueryProperty}
-use Rattle.mk_query.specs.Compiled.{ordered_neighbours, slot_at, slot_with, slots_at, slots_in, slots_of}
+use Rattle.mk_query.specs.Compiled.{ordered_neighbours, slot_at, slot_with, slots_at, slots_in, table_slots}
 use Rattle.mk_query.specs.Drawn.{is_site_at, labels_at, labels_of, links_at, pairs_by}
 use Rattle.mk_query.specs.FirstFault.{query_properties, site_labels}
 use Rattle.mk_query.specs.LinkChecks.{BearsSome}
@@ -56,7 +56,7 @@ each_to P table (suc n) each =
     (in_slots P (slot_at table (n + 1)) (λ slot is. each (n + 1) slot (omega arith) (omega arith) is)))
 
 -- what holds of the slot of each atom holds of all
-pub each_slot : (P : Slot → Type 0) (table : RawTable) → ((x : ℕ) (slot : Slot) → 1 ≤ x → x ≤ length table.atoms → slot_at table x ≡ Some slot → P slot) → All P (slots_of table)
+pub each_slot : (P : Slot → Type 0) (table : RawTable) → ((x : ℕ) (slot : Slot) → 1 ≤ x → x ≤ length table.atoms → slot_at table x ≡ Some slot → P slot) → All P (table_slots table)
 each_slot P table each = each_to P table (length table.atoms) each
 
 -- ---- atoms of slots
@@ -72,7 +72,9 @@ atom_of_slot table x slot is = atom_with x (links_at table x) (labels_at table x
 abbrev Rises : Slot → Slot → Type 0
 Rises slot later = slot_atom slot < slot_atom later
 
-rise_push : (slots : List Slot) (n : ℕ) (found : Option Slot) → ((slot : Slot) → found ≡ Some slot → slot_atom slot ≡ n + 1) → All (λ slot. slot_atom slot ≤ n) slots → AllPairs Rises slots → AllPairs Rises (slots ++ slots_in found)
+rise_push : (slots : List Slot) (n : ℕ) (found : Option Slot)
+    → ((slot : Slot) → found ≡ Some slot → slot_atom slot ≡ n + 1) → All (λ slot. slot_atom slot ≤ n) slots
+    → AllPairs Rises slots → AllPairs Rises (slots ++ slots_in found)
 rise_push slots n None at few rise = rw (append-nil slots) rise
 rise_push slots n (Some slot) at few rise = all_pairs_push Rises slots slot rise (λ k d below. omega (arith, few k d below, at slot refl))
 
@@ -84,11 +86,11 @@ rise_to table (suc n) =
     (each_to (λ (slot : Slot). slot_atom slot ≤ n) table n (λ x slot least most is. omega (arith, most, atom_of_slot table x slot is))) (rise_to table n))
 
 -- they stand by rising atom
-pub slots_rise : (table : RawTable) → AllPairs (λ slot later. slot_atom slot < slot_atom later) (slots_of table)
+pub slots_rise : (table : RawTable) → AllPairs (λ slot later. slot_atom slot < slot_atom later) (table_slots table)
 slots_rise table = rise_to table (length table.atoms)
 
 -- each stands at an atom
-pub slots_stand : (table : RawTable) → All (λ slot. (1 ≤ slot_atom slot) × (slot_atom slot ≤ length table.atoms)) (slots_of table)
+pub slots_stand : (table : RawTable) → All (λ slot. (1 ≤ slot_atom slot) × (slot_atom slot ≤ length table.atoms)) (table_slots table)
 slots_stand table =
     each_slot (λ (slot : Slot). (1 ≤ slot_atom slot) × (slot_atom slot ≤ length table.atoms)) table
     (λ x slot least most is. (let at = atom_of_slot table x slot is in (omega (arith, at, least), omega (arith, at, most))))
@@ -125,7 +127,7 @@ group_with x [] (label ∷ labels) both slot right is = subst HasGroup (same_slo
 group_with x [] [] both slot right is = absurd cc
 
 -- the label of a site is a group's number
-pub slots_have_groups : (table : RawTable) → HasPassed table → All HasGroup (slots_of table)
+pub slots_have_groups : (table : RawTable) → HasPassed table → All HasGroup (table_slots table)
 slots_have_groups table passed =
     each_slot HasGroup table (λ x slot least most is. group_with x (links_at table x) (labels_at table x) (ordered_neighbours table x) slot (labels_right table x passed) is)
 
@@ -146,7 +148,9 @@ labelled_is_site table x passed least most some =
 -- no slot is where neither a link nor a site stands
 pub no_slot_at : (table : RawTable) (x : ℕ) (slot : Slot) → HasPassed table → 1 ≤ x → x ≤ length table.atoms → slot_at table x ≡ Some slot → links_at table x ≡ [] → ¬ (IsTrue (is_site_at table x)) → ⊥
 no_slot_at table x slot passed least most is none no_site =
-    let site : slot_with x [] (labels_at table x) (ordered_neighbours table x) ≡ Some slot = subst (λ (links : List LinkEntry). slot_with x links (labels_at table x) (ordered_neighbours table x) ≡ Some slot) none is in
+    let site : slot_with x [] (labels_at table x) (ordered_neighbours table x) ≡ Some slot =
+    subst (λ (links : List LinkEntry). slot_with x links (labels_at table x) (ordered_neighbours table x) ≡ Some
+    slot) none is in
     no_site (labelled_is_site table x passed least most (no_link_with x (labels_at table x) (ordered_neighbours table x) slot site))
 
 -- no attachment point stands at a slot

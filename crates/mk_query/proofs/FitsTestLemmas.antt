@@ -6,7 +6,7 @@ use Rattle.std.proofs.lemmas.Int.{ints}
 use Rattle.std.proofs.lemmas.List.{length-map}
 use Rattle.std.proofs.lemmas.List.Elements.{All-append, All-cons, All-filter, All-map, All-nil}
 use Rattle.std.proofs.lemmas.Option.{slice_get_within, slice_get-get_or}
-use Rattle.mk_elements.specs.Symbols.{Names, symbols}
+use Rattle.mk_elements.specs.Symbols.{NamesElement, symbols}
 use Rattle.mk_text.proofs.ForCallers.{all_of}
 use Rattle.mk_props.specs.declared.property.Pair.{Pair}
 use Rattle.mk_props.specs.declared.property.Property.{Property}
@@ -40,7 +40,7 @@ many : length symbols ≡ 118
 unfolding symbols
 many = refl
 
-element_of : (symbol : List ℕ) (z : ℕ) → Names symbol z → IsElement z
+element_of : (symbol : List ℕ) (z : ℕ) → NamesElement symbol z → IsElement z
 element_of symbol z (inl is) = (is.0, omega (arith, many, slice_get_within symbols (z - 1) symbol is.1))
 element_of symbol z (inr hydrogen) = (omega (arith, hydrogen.0), omega (arith, hydrogen.0))
 
@@ -96,7 +96,8 @@ by_list list elements right = by_not (is_not_list list) elements right
 short_at : (table : RawTable) (x : ℕ) → IsTableInRange table → All IsShort (lists_at table x)
 short_at table x raw = All-filter (λ (list : ElementList). eqb (listed_atom list) x) IsShort (all_lists table) (all_short table raw)
 
-kind_right : (table : RawTable) (i : ℕ) (line : RawAtom) (kind : Kind) → IsTableInRange table → HasPassed table → slice_get table.atoms i ≡ Some line → IsKindOf (list_in_force table (i + 1)) line.symbol kind → IsKindInRange kind
+kind_right : (table : RawTable) (i : ℕ) (line : RawAtom) (kind : Kind) → IsTableInRange table → HasPassed table
+    → slice_get table.atoms i ≡ Some line → IsKindOf (list_in_force table (i + 1)) line.symbol kind → IsKindInRange kind
 kind_right table i line kind raw passed at (of_element z names is) = rw is (element_of line.symbol z names)
 kind_right table i line kind raw passed at (of_list word list force elements has is) =
     let short : IsShort list = last_all IsShort None (lists_at table (i + 1)) list (λ l e. absurd cc) (short_at table (i + 1) raw) force in
@@ -117,7 +118,9 @@ last_pair P x (pair ∷ pairs) d is all =
     elim (eqb (natural pair.atom) x) as (λ t. P (last_or d (cond t (pair.value ∷ values_for x pairs) (values_for x pairs))))
     [ true ↦ last_pair P x pairs pair.value here later | false ↦ last_pair P x pairs d is later ]
 
-last_value : (P : ℤ → Type 0) (x : ℕ) (select : Property → List Pair) (props : List Property) (d : ℤ) → P d → All (λ p. All (λ (pair : Pair). P pair.value) (select p)) props → P (last_or d (values_for x (pairs_by select props)))
+last_value : (P : ℤ → Type 0) (x : ℕ) (select : Property → List Pair) (props : List Property) (d : ℤ) → P d
+    → All (λ p. All (λ (pair : Pair). P pair.value) (select p)) props
+    → P (last_or d (values_for x (pairs_by select props)))
 last_value P x select [] d is all = is
 last_value P x select (p ∷ props) d is all =
     let here : All (λ (pair : Pair). P pair.value) (select p) = all 0 p (omega arith) in
@@ -125,7 +128,8 @@ last_value P x select (p ∷ props) d is all =
     subst P (sym (last-append x d (select p) (pairs_by select props)))
     (last_value P x select props (last_or d (values_for x (select p))) (last_pair P x (select p) d is here) later)
 
-value_right : (table : RawTable) (P : ℤ → Type 0) (select : Property → List Pair) (x : ℕ) → HasPassed table → P (pos 0) → ((p : Property) → HasQueryValues p → All (λ (pair : Pair). P pair.value) (select p)) → P (value_at select table x)
+value_right : (table : RawTable) (P : ℤ → Type 0) (select : Property → List Pair) (x : ℕ) → HasPassed table → P (pos 0)
+    → ((p : Property) → HasQueryValues p → All (λ (pair : Pair). P pair.value) (select p)) → P (value_at select table x)
 value_right table P select x passed zero_is right =
     last_value P x select table.props (pos 0) zero_is
     (λ k d below. right (get_or table.props k d) (all_of (IsQueryProperty (length table.atoms)) table.props (passed.passes query_properties) k d below).values)
@@ -207,7 +211,8 @@ radical_right table x line passed =
 
 -- ---- tests
 
-drawn_right : (table : RawTable) (i : ℕ) (line : RawAtom) (test : AtomTest) → IsTableInRange table → HasPassed table → slice_get table.atoms i ≡ Some line → IsTestDrawn table (i + 1) line test → IsTestInRange test
+drawn_right : (table : RawTable) (i : ℕ) (line : RawAtom) (test : AtomTest) → IsTableInRange table → HasPassed table
+    → slice_get table.atoms i ≡ Some line → IsTestDrawn table (i + 1) line test → IsTestInRange test
 drawn_right table i line test raw passed at drawn =
     let charge : IsCharge test.charge = rw drawn.charge (charge_right table (i + 1) line passed) in
     let radical : IsRadical (pos test.radical) = rw drawn.radical (radical_right table (i + 1) line passed) in
@@ -235,7 +240,8 @@ none_right = record {
   substitution = (omega (arith, ints), omega (arith, ints));
 }
 
-test_right : (table : RawTable) (i : ℕ) (line : RawAtom) (test : AtomTest) (site : Bool) → IsTableInRange table → HasPassed table → slice_get table.atoms i ≡ Some line → IsTestBy site table (i + 1) line test → IsTestInRange test
+test_right : (table : RawTable) (i : ℕ) (line : RawAtom) (test : AtomTest) (site : Bool) → IsTableInRange table
+    → HasPassed table → slice_get table.atoms i ≡ Some line → IsTestBy site table (i + 1) line test → IsTestInRange test
 test_right table i line test true raw passed at is = rw is none_right
 test_right table i line test false raw passed at is = drawn_right table i line test raw passed at is
 

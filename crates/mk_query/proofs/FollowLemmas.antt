@@ -136,7 +136,9 @@ pub record IsFollowed (bonds : List QueryBond) (link : LinkEnds) (y : ℕ) (numb
   pub fewer : unreached reached + length queue ≡ unreached was + length before
   pub dealt : (k : ℕ) (d : QueryBond) → k < i → IsDealt link reached y (get_or bonds (get_or numbers k 0 - 1) d)
 
-pub followed-none : (bonds : List QueryBond) (link : LinkEnds) (y : ℕ) (numbers : List ℕ) (reached : List Bool) (queue : List ℕ) → IsReached bonds link reached queue → IsFollowed bonds link y numbers reached queue 0 reached queue
+pub followed-none : (bonds : List QueryBond) (link : LinkEnds) (y : ℕ) (numbers : List ℕ) (reached : List Bool)
+    (queue : List ℕ) → IsReached bonds link reached queue
+    → IsFollowed bonds link y numbers reached queue 0 reached queue
 followed-none bonds link y numbers reached queue are = record {
   size = refl;
   are = are;
@@ -248,7 +250,9 @@ module _ (bonds : List QueryBond) (link : LinkEnds) (n y z : ℕ) (bond : QueryB
       subst (Hangs (others link bonds) link.atom) (sym (first f)) (hangs_on (others link bonds) link.atom bond.first bond.second here' by_bond))
       (λ s.
       let here' = subst (Hangs (others link bonds) link.atom) (sym s) here in
-      subst (Hangs (others link bonds) link.atom) (sym (second_is s)) (hangs_on (others link bonds) link.atom bond.second bond.first here' (hangs_back (others link bonds) bond.first bond.second by_bond)))
+      subst (Hangs (others link bonds) link.atom) (sym (second_is s))
+      (hangs_on (others link bonds) link.atom bond.second bond.first here'
+      (hangs_back (others link bonds) bond.first bond.second by_bond)))
       ends)
 
 -- ---- over the bond of a number
@@ -271,7 +275,9 @@ module _ (bonds : List QueryBond) (link : LinkEnds) (n y : ℕ) (numbers : List 
   step_within = end_within bonds link n y z over over_between (number_bond bonds y numbers i d numbers_are below).1 first second
 
   -- it leads to an atom that was reached
-  pub followed-seen : (reached : List Bool) (queue : List ℕ) → is_reached reached z ≡ true → IsFollowed bonds link y numbers was before i reached queue → IsFollowed bonds link y numbers was before (i + 1) reached queue
+  pub followed-seen : (reached : List Bool) (queue : List ℕ) → is_reached reached z ≡ true
+      → IsFollowed bonds link y numbers was before i reached queue
+      → IsFollowed bonds link y numbers was before (i + 1) reached queue
   followed-seen reached queue seen followed =
       followed-dealt bonds link y numbers was before i reached queue d numbers_are below
       (inr (led_by bonds link n y z over over_between (number_bond bonds y numbers i d numbers_are below).1 first second reached seen)) followed

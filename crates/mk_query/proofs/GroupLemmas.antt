@@ -52,11 +52,14 @@ logic_at : (g i : ℕ) (props : List Property) (p : Property) → i < length pro
 logic_at g i props p below is = ap (logic_for g) (drop_more props i p below) ∙ ap (λ (q : Property). logic_of g q (logic_for g (drop (i + 1) props))) (sym is)
 
 -- the property at hand is the first `M  LOG` of the group
-pub logic_here : (g i : ℕ) (props : List Property) (p : Property) → i < length props → p ≡ get_or props i p → names_group g p ≡ true → logic_for g (drop i props) ≡ logic_for g props → logic_by p ≡ logic_for g props
+pub logic_here : (g i : ℕ) (props : List Property) (p : Property) → i < length props → p ≡ get_or props i p
+    → names_group g p ≡ true → logic_for g (drop i props) ≡ logic_for g props → logic_by p ≡ logic_for g props
 logic_here g i props p below is names before = sym (of_here g p (logic_for g (drop (i + 1) props)) names) ∙ sym (logic_at g i props p below is) ∙ before
 
 -- it isn't
-pub logic_on : (g i : ℕ) (props : List Property) (p : Property) → i < length props → p ≡ get_or props i p → names_group g p ≡ false → logic_for g (drop i props) ≡ logic_for g props → logic_for g (drop (i + 1) props) ≡ logic_for g props
+pub logic_on : (g i : ℕ) (props : List Property) (p : Property) → i < length props → p ≡ get_or props i p
+    → names_group g p ≡ false → logic_for g (drop i props) ≡ logic_for g props
+    → logic_for g (drop (i + 1) props) ≡ logic_for g props
 logic_on g i props p below is names before = sym (of_later g p (logic_for g (drop (i + 1) props)) names) ∙ sym (logic_at g i props p below is) ∙ before
 
 -- there is none
@@ -66,7 +69,8 @@ logic_none g i props all before = sym (ap (logic_for g) (drop_all i props all)) 
 -- ---- ranges
 
 -- a range was found, since there is one
-pub some_range : (text : List ℕ) (found : Option (List Interval)) → ((range : List Interval) × IsRangeText text range) → IfNone found ((range : List Interval) → IsRangeText text range → ⊥) → IsSome found
+pub some_range : (text : List ℕ) (found : Option (List Interval)) → ((range : List Interval) × IsRangeText text range)
+    → IfNone found ((range : List Interval) → IsRangeText text range → ⊥) → IsSome found
 some_range text None is none = absurd (none is.0 is.1)
 some_range text (Some range) is none = refl
 
@@ -83,8 +87,11 @@ part_more parts g i before part old new below is put are =
     let sum : before + 1 + length part.members ≡ before + length part.members + 1 = omega arith in
     let rest = members_from (before + 1 + length part.members) g (drop (i + 1) parts) in
     let next : members_from (before + 1) g (drop i parts) ≡ part_members (before + 1) g part ++ rest =
-    ap (members_from (before + 1) g) (drop_more parts i part below ∙ ap (λ (p : RawGroup). p ∷ drop (i + 1) parts) (sym is)) ∙ by_test (eqb part.number g) (range_with_len (before + 1) (length part.members)) rest in
-    ap (λ (n : ℕ). new ++ members_from n g (drop (i + 1) parts)) (sym sum) ∙ ap (λ (l : List ℕ). l ++ rest) put ∙ append_assoc old (part_members (before + 1) g part) rest ∙ ap (λ (l : List ℕ). old ++ l) (sym next) ∙ are
+    ap (members_from (before + 1) g) (drop_more parts i part below
+    ∙ ap (λ (p : RawGroup). p ∷ drop (i + 1) parts) (sym is))
+    ∙ by_test (eqb part.number g) (range_with_len (before + 1) (length part.members)) rest in
+    ap (λ (n : ℕ). new ++ members_from n g (drop (i + 1) parts)) (sym sum) ∙ ap (λ (l : List ℕ). l ++ rest) put
+    ∙ append_assoc old (part_members (before + 1) g part) rest ∙ ap (λ (l : List ℕ). old ++ l) (sym next) ∙ are
   where
     by_test : (b : Bool) (here later : List ℕ) → cond b (here ++ later) later ≡ cond b here [] ++ later
     by_test true here later = refl
@@ -94,24 +101,30 @@ part_more parts g i before part old new below is put are =
 pub count_more : (parts : List RawGroup) (i before : ℕ) (part : RawGroup) → i < length parts → part ≡ get_or parts i part → before + members_in (drop i parts) ≡ members_in parts
     → before + length part.members + members_in (drop (i + 1) parts) ≡ members_in parts
 count_more parts i before part below is sum =
-    let next : members_in (drop i parts) ≡ length part.members + members_in (drop (i + 1) parts) = ap members_in (drop_more parts i part below ∙ ap (λ (p : RawGroup). p ∷ drop (i + 1) parts) (sym is)) in
+    let next : members_in (drop i parts) ≡ length part.members + members_in (drop (i + 1) parts) =
+    ap members_in (drop_more parts i part below ∙ ap (λ (p : RawGroup). p ∷ drop (i + 1) parts) (sym is)) in
     omega (arith, next, sum)
 
-pub part_few : (parts : List RawGroup) (i before : ℕ) (part : RawGroup) → i < length parts → part ≡ get_or parts i part → before + members_in (drop i parts) ≡ members_in parts → before + length part.members ≤ members_in parts
+pub part_few : (parts : List RawGroup) (i before : ℕ) (part : RawGroup) → i < length parts → part ≡ get_or parts i part
+    → before + members_in (drop i parts) ≡ members_in parts → before + length part.members ≤ members_in parts
 part_few parts i before part below is sum = omega (arith, count_more parts i before part below is sum)
 
 -- behind the last part
-pub parts_all : (parts : List RawGroup) (g i before : ℕ) (members : List ℕ) → length parts ≤ i → members ++ members_from (before + 1) g (drop i parts) ≡ members_from 1 g parts → members ≡ members_from 1 g parts
+pub parts_all : (parts : List RawGroup) (g i before : ℕ) (members : List ℕ) → length parts ≤ i
+    → members ++ members_from (before + 1) g (drop i parts) ≡ members_from 1 g parts → members ≡ members_from 1 g parts
 parts_all parts g i before members all are = sym (append-nil members) ∙ ap (λ (l : List RawGroup). members ++ members_from (before + 1) g l) (sym (drop_all i parts all)) ∙ are
 
 -- one member more
 pub member_more : (start old : List ℕ) (from k n : ℕ) → n ≡ from + k → old ≡ start ++ range_with_len from k → old ++ n ∷ [] ≡ start ++ range_with_len from (k + 1)
 member_more start old from k n is are =
-    ap (λ (m : ℕ). old ++ m ∷ []) is ∙ ap (λ (l : List ℕ). l ++ (from + k) ∷ []) are ∙ append_assoc start (range_with_len from k) ((from + k) ∷ []) ∙ ap (λ (l : List ℕ). start ++ l) (sym (range_from_more from k))
+    ap (λ (m : ℕ). old ++ m ∷ []) is ∙ ap (λ (l : List ℕ). l ++ (from + k) ∷ []) are
+    ∙ append_assoc start (range_with_len from k) ((from + k) ∷ [])
+    ∙ ap (λ (l : List ℕ). start ++ l) (sym (range_from_more from k))
 
 -- all members of a part of the group
 pub part_all : (start old : List ℕ) (next g k : ℕ) (part : RawGroup) → part.number ≡ g → k ≡ length part.members → old ≡ start ++ range_with_len next k → old ≡ start ++ part_members next g part
-part_all start old next g k part is all are = are ∙ ap (λ (n : ℕ). start ++ range_with_len next n) all ∙ ap (λ (b : Bool). start ++ cond b (range_with_len next (length part.members)) []) (sym (eq-eqb part.number g is))
+part_all start old next g k part is all are = are ∙ ap (λ (n : ℕ). start ++ range_with_len next n) all
+    ∙ ap (λ (b : Bool). start ++ cond b (range_with_len next (length part.members)) []) (sym (eq-eqb part.number g is))
 
 -- ---- all groups
 

@@ -9,7 +9,7 @@ use Rattle.std.specs.Char.{is_ascii_digit}
 use Rattle.std.proofs.lemmas.Bool.{eq-eqb}
 use Rattle.std.proofs.lemmas.List.Elements.{All-contains, Contains-append_right}
 use Rattle.std.proofs.lemmas.Option.{slice_get-get_or, slice_get_within}
-use Rattle.mk_elements.specs.Symbols.{Names, symbols}
+use Rattle.mk_elements.specs.Symbols.{NamesElement, symbols}
 use Rattle.mk_text.specs.Columns.{are_blank}
 use Rattle.mk_text.specs.KeptLines.{kept_lines, without_crs}
 use Rattle.mk_text.specs.Lines.{EndsWith, lines_of}
@@ -35,7 +35,7 @@ use Rattle.mk_rgfile.specs.KeptQueries.{KeepsItsTexts, KeptLinesAreTheQuery}
 use Rattle.mk_rgfile.specs.QueryFile.{IsQueryFile}
 use Rattle.mk_rgfile.proofs.ForCallers.{all_no_cr, blank_no_cr, both_no_cr, has_no_cr, no_end}
 use Rattle.mk_query.specs.Checks.{IsElementName, IsQueryAtom, IsQueryProperty, IsQueryWord}
-use Rattle.mk_query.specs.Compiled.{tables_of}
+use Rattle.mk_query.specs.Compiled.{query_tables}
 use Rattle.mk_query.specs.CompileFaults.{PassEach}
 use Rattle.mk_query.specs.Drawn.{ElementList, all_lists, by_numbers, by_symbols, listed_atom, lists_at, symbol_lists}
 use Rattle.mk_query.specs.FirstFault.{query_properties, group_logic, query_atoms}
@@ -61,7 +61,7 @@ symbols-no_cr : list_all has_no_cr symbols ≡ true
 unfolding symbols
 symbols-no_cr = refl
 
-named-no_cr : (symbol : List ℕ) (z : ℕ) → Names symbol z → has_no_cr symbol ≡ true
+named-no_cr : (symbol : List ℕ) (z : ℕ) → NamesElement symbol z → has_no_cr symbol ≡ true
 named-no_cr symbol z (inl is) = all_at symbols (z - 1) symbol symbols-no_cr is.1
 named-no_cr symbol z (inr (one, inl d)) = rw d refl
 named-no_cr symbol z (inr (one, inr t)) = rw t refl
@@ -142,7 +142,9 @@ module _ (table : RawTable) (passed : HasPassed table) where
       let listed = (listed_at table (x - 1) (get_or table.atoms (x - 1) no_line) passed line_at).members in
       let here : All HasKnownMembers (lists_at table x) = rw place at listed in
       let one = Contains-append_right (map by_numbers table.lists) (symbol_lists table.props) (by_symbols list) (listed_in table.props k list at) in
-      let named = All-contains HasKnownMembers (lists_at table x) (by_symbols list) here (kept_all (λ (l : ElementList). listed_atom l == x) (all_lists table) (by_symbols list) one (eq-eqb x x refl)) in
+      let named = All-contains HasKnownMembers (lists_at table x) (by_symbols list) here
+      (kept_all (λ (l : ElementList). listed_atom l == x) (all_lists table) (by_symbols list) one (eq-eqb x x refl))
+      in
       λ j d below. (let name = named j d below in no_end (get_or list.symbols j d) (named-no_cr (get_or list.symbols j d) name.element name.names))
   ends k (kinds.Logic logic) at = (let right = logic_at k (kinds.Logic logic) at in no_end logic.range (range-no_cr logic.range right.range.0 right.range.1))
   ends k other at = tt

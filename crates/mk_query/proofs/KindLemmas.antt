@@ -4,7 +4,7 @@
 use Rattle.std.proofs.Common.{◌≡◌, ◌≤◌, ◌<◌, ◌+◌, ◌-◌, ℕ, suc, List, [], ◌∷◌, ◌++◌, Option, Some, None, refl, ap, sym, subst, ◌∙◌, length, get_or, take, arith, inl, inr}
 use Rattle.std.specs.Prelude.{◌≢◌, ◌⊎◌, All, IsSome, codes, slice_get}
 use Rattle.std.proofs.lemmas.List.{take_all, take_more}
-use Rattle.mk_elements.specs.Symbols.{Names}
+use Rattle.mk_elements.specs.Symbols.{NamesElement}
 use Rattle.mk_props.specs.declared.property.Property.{Property}
 use Rattle.mk_props.specs.declared.property.Property.TheVariants as kinds
 use Rattle.mk_model.specs.declared.atom_test.Kind.{Kind}
@@ -24,14 +24,16 @@ use Rattle.mk_query.specs.SiteChecks.{HasKnownMembers, IsListed}
 
 -- ---- names
 
-names_push : (symbols : List (List ℕ)) (elements : List ℕ) (symbol : List ℕ) (z : ℕ) → NameElements symbols elements → Names symbol z → NameElements (symbols ++ symbol ∷ []) (elements ++ z ∷ [])
+names_push : (symbols : List (List ℕ)) (elements : List ℕ) (symbol : List ℕ) (z : ℕ) → NameElements symbols elements
+    → NamesElement symbol z → NameElements (symbols ++ symbol ∷ []) (elements ++ z ∷ [])
 names_push [] [] symbol z are is = (is, tt)
 names_push [] (y ∷ elements) symbol z are is = absurd are
 names_push (s ∷ symbols) [] symbol z are is = absurd are
 names_push (s ∷ symbols) (y ∷ elements) symbol z are is = (are.0, names_push symbols elements symbol z are.1 is)
 
 -- one name more
-pub names_seen : (symbols : List (List ℕ)) (i : ℕ) (symbol : List ℕ) (elements : List ℕ) (z : ℕ) → i < length symbols → symbol ≡ get_or symbols i symbol → NameElements (take i symbols) elements → Names symbol z
+pub names_seen : (symbols : List (List ℕ)) (i : ℕ) (symbol : List ℕ) (elements : List ℕ) (z : ℕ) → i < length symbols
+    → symbol ≡ get_or symbols i symbol → NameElements (take i symbols) elements → NamesElement symbol z
     → NameElements (take (i + 1) symbols) (elements ++ z ∷ [])
 names_seen symbols i symbol elements z below at are is =
     let next : take (i + 1) symbols ≡ take i symbols ++ symbol ∷ [] = take_more symbols i symbol below ∙ ap (λ (s : List ℕ). take i symbols ++ s ∷ []) (sym at) in
@@ -45,7 +47,8 @@ names_all symbols i elements all are = subst (λ (l : List (List ℕ)). NameElem
 some_same : (a b : ElementList) → Some a ≡ Some b → a ≡ b
 some_same a b e = cc
 
-pub last_all : (P : ElementList → Type 0) (earlier : Option ElementList) (lists : List ElementList) (list : ElementList) → ((l : ElementList) → earlier ≡ Some l → P l) → All P lists → last_list earlier lists ≡ Some list → P list
+pub last_all : (P : ElementList → Type 0) (earlier : Option ElementList) (lists : List ElementList) (list : ElementList)
+    → ((l : ElementList) → earlier ≡ Some l → P l) → All P lists → last_list earlier lists ≡ Some list → P list
 last_all P earlier [] list was all is = was list is
 last_all P earlier (l ∷ lists) list was all is =
     last_all P (Some l) lists list (λ m e. subst P (some_same l m e) (all 0 l (omega arith))) (λ k d below. all (suc k) d (omega (arith, below))) is
@@ -63,7 +66,8 @@ pub listed_at : (table : RawTable) (i : ℕ) (line : RawAtom) → HasPassed tabl
 listed_at table i line passed at = (let place : i + 1 - 1 ≡ i = omega arith in (passed.passes element_lists (i + 1)).1 line (omega arith) (rw place at))
 
 -- the members of the list that is in force for an atom are elements
-pub known_at : (table : RawTable) (i : ℕ) (line : RawAtom) (found : ListPlace) → HasPassed table → slice_get table.atoms i ≡ Some line → IsPlaceOf table.lists table.props found (list_in_force table (i + 1))
+pub known_at : (table : RawTable) (i : ℕ) (line : RawAtom) (found : ListPlace) → HasPassed table
+    → slice_get table.atoms i ≡ Some line → IsPlaceOf table.lists table.props found (list_in_force table (i + 1))
     → AreKnownAt table.lists table.props found
 known_at table i line place.Nothing passed at is = tt
 known_at table i line (place.Line j) passed at is =
@@ -79,7 +83,9 @@ one_line lists j a b is_a is_b = cc
 one_property : (props : List Property) (j : ℕ) (a b : Property) → slice_get props j ≡ Some a → slice_get props j ≡ Some b → a ≡ b
 one_property props j a b is_a is_b = cc
 
-by_place : (table : RawTable) (found : Option ElementList) (symbol : List ℕ) (put : ListPlace) (kind : Kind) → symbol ≡ codes "L" → found ≢ None → IsPlaceOf table.lists table.props put found → IsKindAt table.lists table.props put kind
+by_place : (table : RawTable) (found : Option ElementList) (symbol : List ℕ) (put : ListPlace) (kind : Kind)
+    → symbol ≡ codes "L" → found ≢ None → IsPlaceOf table.lists table.props put found
+    → IsKindAt table.lists table.props put kind
     → IsKindOf found symbol kind
 by_place table found symbol place.Nothing kind word some is told = absurd (some is)
 by_place table found symbol (place.Line j) kind word some is told =
@@ -92,7 +98,8 @@ by_place table found symbol (place.Property j) kind word some is told =
     of_list word (by_symbols is.0) is.2 here.elements here.has here.is
 
 -- the kind of an atom by what is noted
-pub kind_is : (table : RawTable) (i : ℕ) (line : RawAtom) (put : ListPlace) (kind : Kind) → HasPassed table → slice_get table.atoms i ≡ Some line → IsPlaceOf table.lists table.props put (list_in_force table (i + 1))
+pub kind_is : (table : RawTable) (i : ℕ) (line : RawAtom) (put : ListPlace) (kind : Kind) → HasPassed table
+    → slice_get table.atoms i ≡ Some line → IsPlaceOf table.lists table.props put (list_in_force table (i + 1))
     → IsKindFor line.symbol table.lists table.props put kind → IsKindOf (list_in_force table (i + 1)) line.symbol kind
 kind_is table i line put kind passed at is (listed word told) =
     by_place table (list_in_force table (i + 1)) line.symbol put kind word (λ none. (listed_at table i line passed at).word.0 word (some_last (lists_at table (i + 1)) none)) is told
@@ -106,7 +113,7 @@ some_is None z e = absurd cc
 some_is (Some y) z e = refl
 
 -- the word that is left
-pub word_left : (symbol : List ℕ) → IsPlainSymbol symbol → ¬ (symbol ≡ codes "L") → ((z : ℕ) → ¬ (Names symbol z)) → ¬ (symbol ≡ codes "A") → ¬ (symbol ≡ codes "Q") → symbol ≡ codes "*"
+pub word_left : (symbol : List ℕ) → IsPlainSymbol symbol → ¬ (symbol ≡ codes "L") → ((z : ℕ) → ¬ (NamesElement symbol z)) → ¬ (symbol ≡ codes "A") → ¬ (symbol ≡ codes "Q") → symbol ≡ codes "*"
 word_left symbol known no_list no_name no_a no_q = by_case known.known
   where
     by_case : IsElementName symbol ⊎ IsQueryWord symbol → symbol ≡ codes "*"

@@ -7,7 +7,7 @@ use Rattle.std.specs.Prelude.{ℤ, pos, negsuc, ◌⊎◌, ◌↔◌, ◌≢◌,
 use Rattle.std.proofs.lemmas.Bool.{cases_eq, cases_lt}
 use Rattle.std.proofs.lemmas.List.{take_all}
 use Rattle.std.proofs.lemmas.Option.{slice_get_within}
-use Rattle.mk_elements.specs.Symbols.{Names, symbols}
+use Rattle.mk_elements.specs.Symbols.{NamesElement, symbols}
 use Rattle.mk_text.specs.Items.{IsLeastFailing, OfItem}
 use Rattle.mk_text.proofs.ForCallers.{of_item-past}
 use Rattle.mk_props.specs.declared.property.LinkEntry.{LinkEntry}
@@ -34,8 +34,8 @@ use Rattle.mk_rgfile.specs.declared.raw_query.RawGroup.{RawGroup}
 use Rattle.mk_query.specs.declared.checking.Fault.{Fault}
 use Rattle.mk_query.specs.Checks.{HasQueryType, HasQueryValues, IsElementName, IsQueryAtom, IsQueryBond, IsQueryProperty, IsQueryWord, IsRingBondCount, LeavesFewBonds, NamesItsAtoms}
 use Rattle.mk_query.specs.Drawn.{ElementList, bears_point, by_numbers, by_symbols, drawn_neighbours, is_site, is_site_at, labels_at, links_at, lists_at, query_bonds}
-use Rattle.mk_query.specs.FirstFault.{Check, Demands, IsFirstFault, Passes, PassesAll, PassesBelow, attachment_points, element_lists, group_logic, link_atoms, number, query_atoms, query_bonds as bonds_checked, query_properties, site_labels, site_orders, site_places}
-use Rattle.mk_query.specs.LinkChecks.{AreRightLinks, BearsSome, HasLink, HasLogic, HasPoint, IsInBlock, IsLinkAt, IsLogical, IsPlainBut, IsPointed, IsRightLogic, LeadAlike, SpeaksOfSame}
+use Rattle.mk_query.specs.FirstFault.{QueryCheck, QueryDemands, IsFirstFault, Passes, PassesAll, PassesBelow, attachment_points, element_lists, group_logic, link_atoms, query_check_number, query_atoms, query_bonds as bonds_checked, query_properties, site_labels, site_orders, site_places}
+use Rattle.mk_query.specs.LinkChecks.{AreRightLinks, BearsSome, HasLink, HasLogic, HasPoint, IsInBlock, CanBeLink, IsLogical, IsPlainBut, IsPointed, IsRightLogic, LeadAlike, SpeaksOfSame}
 use Rattle.mk_query.specs.SiteChecks.{ArePlaced, HasKnownMembers, HasLabel, HasLists, HasMember, HasSiteOrder, HasSitePlace, IsLabelled, IsListed, IsOrdered, IsSiteOrder, OrdersNeighbours, OrdersSame}
 use Rattle.mk_query.proofs.FaultLemmas.{below_all, below_more, below_none}
 use Rattle.mk_query.proofs.KnownLemmas.{Known, SomeBelow, SomeOf, known_all, known_as, known_below, known_both, known_bytes, known_either, known_equal, known_if, known_iff, known_integers, known_item, known_most, known_not, known_some, known_some_below, known_some_items, known_true, known_within, least_failing}
@@ -62,7 +62,7 @@ known_name symbol = known_as (known_either (known_place symbols symbol) (known_e
     to (inl (k, at)) = (let place : k + 1 - 1 ≡ k = omega arith in record { element = k + 1; names = inl (omega arith, rw place at) })
     to (inr heavy) = record { element = 1; names = inr (refl, heavy) }
 
-    by_name : (z : ℕ) → Names symbol z → ((k : ℕ) × (slice_get symbols k ≡ Some symbol)) ⊎ ((symbol ≡ codes "D") ⊎ (symbol ≡ codes "T"))
+    by_name : (z : ℕ) → NamesElement symbol z → ((k : ℕ) × (slice_get symbols k ≡ Some symbol)) ⊎ ((symbol ≡ codes "D") ⊎ (symbol ≡ codes "T"))
     by_name z (inl is) = inl (z - 1, is.1)
     by_name z (inr heavy) = inr heavy.1
 
@@ -71,7 +71,9 @@ known_name symbol = known_as (known_either (known_place symbols symbol) (known_e
 
 known_word : (symbol : List ℕ) → Known (IsQueryWord symbol)
 known_word symbol =
-    known_either (known_bytes symbol (codes "L")) (known_either (known_bytes symbol (codes "A")) (known_either (known_bytes symbol (codes "Q")) (known_either (known_bytes symbol (codes "*")) (known_bytes symbol (codes "R#")))))
+    known_either (known_bytes symbol (codes "L")) (known_either (known_bytes symbol (codes "A"))
+    (known_either (known_bytes symbol (codes "Q")) (known_either (known_bytes symbol (codes "*"))
+    (known_bytes symbol (codes "R#")))))
 
 known_atom : (atom : RawAtom) → Known (IsQueryAtom atom)
 known_atom atom =
@@ -82,7 +84,8 @@ known_atom atom =
 
 known_same_ends : (other bond : RawBond) → Known (JoinSame other bond)
 known_same_ends other bond =
-    known_either (known_both (known_integers other.first bond.first) (known_integers other.second bond.second)) (known_both (known_integers other.first bond.second) (known_integers other.second bond.first))
+    known_either (known_both (known_integers other.first bond.first) (known_integers other.second bond.second))
+    (known_both (known_integers other.first bond.second) (known_integers other.second bond.first))
 
 known_new : (atoms : ℕ) (earlier : List RawBond) (bond : RawBond) → Known (IsNewBond atoms earlier bond)
 known_new atoms earlier bond =
@@ -104,7 +107,9 @@ known_type bond =
 known_bond : (atoms : ℕ) (bonds : List RawBond) (item : ℕ) → Known (IsQueryBond atoms bonds item)
 known_bond atoms bonds item =
     known_as
-    (known_both (known_item (IsNewBond atoms (take (item - 1) bonds)) (known_new atoms (take (item - 1) bonds)) bonds item) (known_both (known_item HasQueryType known_type bonds item) (known_few atoms (edges_of (take item bonds)))))
+    (known_both (known_item (IsNewBond atoms (take (item - 1) bonds)) (known_new atoms (take (item - 1) bonds)) bonds
+    item) (known_both (known_item HasQueryType known_type bonds item)
+    (known_few atoms (edges_of (take item bonds)))))
     (λ all. record { new = all.0; columns = all.1.0; few = all.1.1 }) (λ is. (is.new, (is.columns, is.few)))
 
 -- a number past the last bond is right where all bonds are
@@ -169,7 +174,8 @@ known_listed lists atom =
 
 known_member : (groups : List RawGroup) (label : ℤ) → Known (HasMember groups label)
 known_member groups label =
-    known_as (known_some (λ (group : RawGroup). (pos group.number ≡ label) × (1 ≤ length group.members)) (λ group. known_both (known_integers (pos group.number) label) (known_most 1 (length group.members))) groups)
+    known_as (known_some (λ (group : RawGroup). (pos group.number ≡ label) × (1 ≤ length group.members))
+    (λ group. known_both (known_integers (pos group.number) label) (known_most 1 (length group.members))) groups)
     (λ some. (some.0, some.1, some.2.0, some.2.1)) (λ has. (has.0, has.1, (has.2, has.3)))
 
 known_labelled : (groups : List RawGroup) (labels : List ℤ) (atom : RawAtom) → Known (IsLabelled groups labels atom)
@@ -184,15 +190,21 @@ module _ (table : RawTable) where
   known_placed : (neighbours : List ℕ) → Known (ArePlaced table neighbours)
   known_placed neighbours =
       known_as
-      (known_both (known_most 1 (length neighbours)) (known_both (known_most (length neighbours) 2) (known_all (λ (y : ℕ). IsTrue (is_site_at table y) → ⊥) (λ y. known_not (known_true (is_site_at table y))) neighbours)))
+      (known_both (known_most 1 (length neighbours)) (known_both (known_most (length neighbours) 2)
+      (known_all (λ (y : ℕ). IsTrue (is_site_at table y) → ⊥) (λ y. known_not (known_true (is_site_at table y)))
+      neighbours)))
       (λ all. record { some = all.0; two = all.1.0; apart = all.1.1 }) (λ are. (are.some, (are.two, are.apart)))
 
   known_orders : (entries : List Pair) (neighbours : List ℕ) → Known (OrdersNeighbours entries neighbours)
   known_orders entries neighbours =
       known_as
       (known_both (known_equal (length entries) (length neighbours))
-      (known_both (known_all (λ (y : ℕ). SomeOf (λ (pair : Pair). pair.atom ≡ pos y) entries) (λ y. known_some (λ (pair : Pair). pair.atom ≡ pos y) (λ pair. known_integers pair.atom (pos y)) entries) neighbours)
-      (known_below (λ k. 1 ≤ k → SomeOf (λ (pair : Pair). pair.value ≡ pos k) entries) (λ k. known_if (known_most 1 k) (known_some (λ (pair : Pair). pair.value ≡ pos k) (λ pair. known_integers pair.value (pos k)) entries)) (length neighbours + 1))))
+      (known_both (known_all (λ (y : ℕ). SomeOf (λ (pair : Pair). pair.atom ≡ pos y) entries)
+      (λ y. known_some (λ (pair : Pair). pair.atom ≡ pos y) (λ pair. known_integers pair.atom (pos y)) entries)
+      neighbours)
+      (known_below (λ k. 1 ≤ k → SomeOf (λ (pair : Pair). pair.value ≡ pos k) entries)
+      (λ k. known_if (known_most 1 k) (known_some (λ (pair : Pair). pair.value ≡ pos k)
+      (λ pair. known_integers pair.value (pos k)) entries)) (length neighbours + 1))))
       (λ all. record { as_many = all.0; named = all.1.0; places = λ k least most. all.1.1 k (omega (arith, most)) least })
       (λ orders. (orders.as_many, (orders.named, λ k below least. orders.places k least (omega (arith, below)))))
 
@@ -205,7 +217,9 @@ module _ (table : RawTable) where
       known_as
       (known_both (known_within (pos 1) (pos (length table.atoms)) order.atom)
       (known_both (known_true (is_site_at table (natural order.atom)))
-      (known_both (known_all (λ (later : Property). OrdersSame order later → ⊥) (λ later. known_not (known_same_site order later)) behind) (known_orders order.entries (drawn_neighbours table (natural order.atom))))))
+      (known_both (known_all (λ (later : Property). OrdersSame order later → ⊥)
+      (λ later. known_not (known_same_site order later)) behind)
+      (known_orders order.entries (drawn_neighbours table (natural order.atom))))))
       (λ all. record { atom = all.0; site = all.1.0; last = all.1.1.0; orders = all.1.1.1 }) (λ is. (is.atom, (is.site, (is.last, is.orders))))
   known_ordered behind other = inl tt
 
@@ -220,7 +234,9 @@ module _ (table : RawTable) where
 
       back : BearsSome table x → IsTrue (bears_point table 1 x) ⊎ IsTrue (bears_point table 2 x)
       back (p, least, most, bears) =
-          ⊎_elim (λ one. inl (subst (λ (n : ℕ). IsTrue (bears_point table n x)) one bears)) (λ other. inr (let two : p ≡ 2 = omega (arith, least, most, other) in subst (λ (n : ℕ). IsTrue (bears_point table n x)) two bears)) (cases_eq p 1)
+          ⊎_elim (λ one. inl (subst (λ (n : ℕ). IsTrue (bears_point table n x)) one bears))
+          (λ other. inr (let two : p ≡ 2 = omega (arith, least, most, other)
+          in subst (λ (n : ℕ). IsTrue (bears_point table n x)) two bears)) (cases_eq p 1)
 
   -- no lower atom bears the point
   Alone : ℕ → ℕ → Type 0
@@ -272,7 +288,9 @@ module _ (table : RawTable) where
   known_alike : (x from to : ℕ) → Known (LeadAlike table x from to)
   known_alike x from to =
       known_as
-      (known_some (λ (one : QueryBond). IsTrue (joins x from one) × SomeOf (λ (other : QueryBond). IsTrue (joins x to other) × ((one.kind ≡ other.kind) × (one.topology ≡ other.topology))) (query_bonds table.bonds))
+      (known_some (λ (one : QueryBond). IsTrue (joins x from one)
+      × SomeOf (λ (other : QueryBond). IsTrue (joins x to other)
+      × ((one.kind ≡ other.kind) × (one.topology ≡ other.topology))) (query_bonds table.bonds))
       (λ one. known_both (known_true (joins x from one))
       (known_some (λ (other : QueryBond). IsTrue (joins x to other) × ((one.kind ≡ other.kind) × (one.topology ≡ other.topology)))
       (λ other. known_both (known_true (joins x to other)) (known_both (known_equal one.kind other.kind) (known_equal one.topology other.topology))) (query_bonds table.bonds)))
@@ -299,7 +317,7 @@ module _ (table : RawTable) where
   known_block : (x : ℕ) (link : LinkEntry) (y : ℕ) → Known (IsInBlock table x link y)
   known_block x link y = known_true _
 
-  known_link : (x : ℕ) (link : LinkEntry) → Known (IsLinkAt table x link)
+  known_link : (x : ℕ) (link : LinkEntry) → Known (CanBeLink table x link)
   known_link x link =
       known_as
       (known_both (known_not (known_true (is_site_at table x)))
@@ -365,22 +383,26 @@ module _ (groups : List RawGroup) (is_root : Bool) (table : RawTable) where
   abbrev atoms : ℕ
   atoms = length table.atoms
 
-  known_demand : (check : Check) (item : ℕ) → Known (Demands groups is_root table check item)
+  known_demand : (check : QueryCheck) (item : ℕ) → Known (QueryDemands groups is_root table check item)
   known_demand query_atoms item = known_item IsQueryAtom known_atom table.atoms item
   known_demand bonds_checked item = known_bond atoms table.bonds item
   known_demand query_properties item = known_item (IsQueryProperty atoms) (known_property atoms) table.props item
   known_demand element_lists item =
-      known_both (known_if (known_equal item 0) (known_all (λ list. IsAtom atoms list.atom) (λ list. known_within (pos 1) (pos atoms) list.atom) table.lists)) (known_item (IsListed (lists_at table item)) (known_listed (lists_at table item)) table.atoms item)
+      known_both (known_if (known_equal item 0) (known_all (λ list. IsAtom atoms list.atom)
+      (λ list. known_within (pos 1) (pos atoms) list.atom) table.lists))
+      (known_item (IsListed (lists_at table item)) (known_listed (lists_at table item)) table.atoms item)
   known_demand site_labels item = known_item (IsLabelled groups (labels_at table item)) (known_labelled groups (labels_at table item)) table.atoms item
   known_demand site_places item =
-      known_item (λ (atom : RawAtom). IsTrue (is_site atom) → ArePlaced table (drawn_neighbours table item)) (λ atom. known_if (known_true (is_site atom)) (known_placed table (drawn_neighbours table item))) table.atoms item
+      known_item (λ (atom : RawAtom). IsTrue (is_site atom) → ArePlaced table (drawn_neighbours table item))
+      (λ atom. known_if (known_true (is_site atom)) (known_placed table (drawn_neighbours table item))) table.atoms
+      item
   known_demand site_orders item = known_item (IsOrdered table (drop item table.props)) (known_ordered table (drop item table.props)) table.props item
   known_demand attachment_points item = known_item (λ (atom : RawAtom). IsPointed is_root table item) (λ atom. known_pointed table is_root item) table.atoms item
   known_demand link_atoms item = known_item (λ (atom : RawAtom). AreRightLinks table item (links_at table item)) (λ atom. known_links table item (links_at table item)) table.atoms item
   known_demand group_logic item = known_item (IsLogical is_root (drop item table.props)) (known_logical is_root (drop item table.props)) table.props item
 
   -- the numbers of a check's items
-  last_of : Check → ℕ
+  last_of : QueryCheck → ℕ
   last_of bonds_checked = length table.bonds + 1
   last_of query_properties = length table.props + 1
   last_of site_orders = length table.props + 1
@@ -388,7 +410,7 @@ module _ (groups : List RawGroup) (is_root : Bool) (table : RawTable) where
   last_of other = atoms + 1
 
   -- past the last item none fails
-  past_last : (check : Check) → ((j : ℕ) → j < last_of check → Demands groups is_root table check j) → (k : ℕ) → last_of check ≤ k → Demands groups is_root table check k
+  past_last : (check : QueryCheck) → ((j : ℕ) → j < last_of check → QueryDemands groups is_root table check j) → (k : ℕ) → last_of check ≤ k → QueryDemands groups is_root table check k
   unfolding last_of
   past_last query_atoms before k past = of_item-past IsQueryAtom table.atoms k (omega (arith, past))
   past_last bonds_checked before k past = bonds_past atoms table.bonds before k past
@@ -405,14 +427,14 @@ module _ (groups : List RawGroup) (is_root : Bool) (table : RawTable) where
   SoFar : ℕ → Type 0
   SoFar n = PassesBelow groups is_root table n ⊎ ((fault : Fault) × IsFirstFault groups is_root table fault)
 
-  one_more : (check : Check) → SoFar (number check) → SoFar (number check + 1)
+  one_more : (check : QueryCheck) → SoFar (query_check_number check) → SoFar (query_check_number check + 1)
   unfolding SoFar
   one_more check (inr found) = inr found
-  one_more check (inl before) = by_items (least_failing (Demands groups is_root table check) (known_demand check) (last_of check) (past_last check))
+  one_more check (inl before) = by_items (least_failing (QueryDemands groups is_root table check) (known_demand check) (last_of check) (past_last check))
     where
-      by_items : ((k : ℕ) → Demands groups is_root table check k) ⊎ ((k : ℕ) × IsLeastFailing (Demands groups is_root table check) k) → SoFar (number check + 1)
+      by_items : ((k : ℕ) → QueryDemands groups is_root table check k) ⊎ ((k : ℕ) × IsLeastFailing (QueryDemands groups is_root table check) k) → SoFar (query_check_number check + 1)
       by_items (inl passes) = inl (below_more groups is_root table check passes before)
-      by_items (inr (item, least)) = inr (record { check = number check; item = item }, record { check = check; numbered = refl; before = before; least = least })
+      by_items (inr (item, least)) = inr (record { check = query_check_number check; item = item }, record { check = check; numbered = refl; before = before; least = least })
 
   pub first_in_table : PassesAll groups is_root table ⊎ ((fault : Fault) × IsFirstFault groups is_root table fault)
   unfolding SoFar

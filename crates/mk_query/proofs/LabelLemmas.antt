@@ -43,7 +43,8 @@ one_property property old new more =
 -- ---- what is demanded of labels
 
 -- what is noted of the labels of the atom at a place
-pub labels_at_place : (table : RawTable) (marks : List Labels) (i : ℕ) (l : Labels) → i < length marks → AreMarks (λ x. IsLabels (labels_at table x)) marks → l ≡ get_or marks i l → IsLabels (labels_at table (i + 1)) l
+pub labels_at_place : (table : RawTable) (marks : List Labels) (i : ℕ) (l : Labels) → i < length marks
+    → AreMarks (λ x. IsLabels (labels_at table x)) marks → l ≡ get_or marks i l → IsLabels (labels_at table (i + 1)) l
 labels_at_place table marks i l below are is = rw (← is) at (are i l below)
 
 -- what is demanded of the labels of atom x

@@ -26,9 +26,9 @@ use Rattle.mk_query.specs.AtomMarks.{AreStanding}
 use Rattle.mk_query.specs.BlockSearch.{AreNumbersOf, MayHold, is_own, others}
 use Rattle.mk_query.specs.Checks.{IsQueryBond}
 use Rattle.mk_query.specs.Drawn.{bears_point, is_site_at, links_at, query_bond, query_bonds}
-use Rattle.mk_query.specs.LinkChecks.{AreRightLinks, BearsSome, IsInBlock, IsLinkAt}
+use Rattle.mk_query.specs.LinkChecks.{AreRightLinks, BearsSome, IsInBlock, CanBeLink}
 use Rattle.mk_query.specs.LinkMarks.{IsLinked}
-use Rattle.mk_query.specs.LinkSearch.{AreRightBy, IsRightBy, IsRightLink, ends_of}
+use Rattle.mk_query.specs.LinkSearch.{AreRightBy, IsRightLinkBy, IsRightLink, ends_of}
 use Rattle.mk_query.proofs.FollowLemmas.{bond_number, edge_at, number_bond}
 use Rattle.mk_query.proofs.AtomMarkLemmas.{bears_is, link_none, links_are, none_link, site_is}
 
@@ -45,7 +45,9 @@ none-more P bonds y numbers i d are inside not before k e below =
     (λ earlier. before k e earlier)
     (λ here.
     let same : i ≡ k = omega (arith, here, below) in
-    let first : ¬ (P (get_or bonds (get_or numbers i 0 - 1) e)) = subst (λ (b : QueryBond). ¬ (P b)) (get_or_default bonds (get_or numbers i 0 - 1) d e (number_bond bonds y numbers i d are inside).0) not in
+    let first : ¬ (P (get_or bonds (get_or numbers i 0 - 1) e)) =
+    subst (λ (b : QueryBond). ¬ (P b)) (get_or_default bonds (get_or numbers i 0 - 1) d e
+    (number_bond bonds y numbers i d are inside).0) not in
     subst (λ (j : ℕ). ¬ (P (get_or bonds (get_or numbers j 0 - 1) e))) same first)
     (cases_lt k i)
 
@@ -98,12 +100,14 @@ module _ (atoms : ℕ) (bonds : List QueryBond) (link : LinkEnds) (ends : AreBet
 
 -- ---- one link
 
-module _ (table : RawTable) (standing : Standing) (are : AreStanding table standing) (ends : AreBetween (length table.atoms) (query_edges (query_bonds table.bonds))) (x : ℕ) (link : LinkEntry) (least : 1 ≤ x) (most : x ≤ length table.atoms) where
+module _ (table : RawTable) (standing : Standing) (are : AreStanding table standing)
+    (ends : AreBetween (length table.atoms) (query_edges (query_bonds table.bonds))) (x : ℕ) (link : LinkEntry)
+    (least : 1 ≤ x) (most : x ≤ length table.atoms) where
   not_true : (b : Bool) → ¬ (b ≡ true) → b ≡ false
   not_true true not = absurd (not refl)
   not_true false not = refl
 
-  to_table : IsRightLink (length table.atoms) (query_bonds table.bonds) standing x link → IsLinkAt table x link
+  to_table : IsRightLink (length table.atoms) (query_bonds table.bonds) standing x link → CanBeLink table x link
   to_table by = record {
     no_site = λ site. true≢false (sym (site_is table standing x are ∙ site) ∙ by.linkable.no_site);
     twice = by.linkable.twice;
@@ -140,7 +144,7 @@ module _ (table : RawTable) (standing : Standing) (are : AreStanding table stand
           true≢false (sym (bears_is table standing 2 y are y_least y_most ∙ subst (λ (q : ℕ). bears_point table q y ≡ true) same is) ∙ may.no_second))
           (cases_eq p 1)
 
-  to_search : IsLinkAt table x link → IsRightLink (length table.atoms) (query_bonds table.bonds) standing x link
+  to_search : CanBeLink table x link → IsRightLink (length table.atoms) (query_bonds table.bonds) standing x link
   to_search right = record {
     linkable = record {
       no_site = site_is table standing x are ∙ not_true (is_site_at table x) right.no_site;
@@ -174,15 +178,18 @@ module _ (table : RawTable) (standing : Standing) (are : AreStanding table stand
 
 -- ---- the links of an atom
 
-by_links : (table : RawTable) (standing : Standing) (x : ℕ) (links : List LinkEntry) (noted : Linked) → AreStanding table standing → AreBetween (length table.atoms) (query_edges (query_bonds table.bonds)) → 1 ≤ x → x ≤ length table.atoms
-    → IsLinked links noted → IsRightBy (length table.atoms) (query_bonds table.bonds) standing x noted ↔ AreRightLinks table x links
+by_links : (table : RawTable) (standing : Standing) (x : ℕ) (links : List LinkEntry) (noted : Linked)
+    → AreStanding table standing → AreBetween (length table.atoms) (query_edges (query_bonds table.bonds)) → 1 ≤ x
+    → x ≤ length table.atoms
+    → IsLinked links noted → IsRightLinkBy (length table.atoms) (query_bonds table.bonds) standing x noted ↔ AreRightLinks table x links
 by_links table standing x links linked.Nothing are ends least most is = rw is (λ t. tt, λ t. tt)
 by_links table standing x links (linked.One link) are ends least most is = rw is (to_table table standing are ends x link least most, to_search table standing are ends x link least most)
 by_links table standing x [] linked.More are ends least most is = absurd (omega (arith, is))
 by_links table standing x (link ∷ []) linked.More are ends least most is = absurd (omega (arith, is))
 by_links table standing x (link ∷ second ∷ others) linked.More are ends least most is = (λ never. never, λ never. never)
 
-pub right_links : (table : RawTable) (standing : Standing) (x : ℕ) → AreStanding table standing → AreBetween (length table.atoms) (query_edges (query_bonds table.bonds)) → 1 ≤ x → x ≤ length table.atoms
+pub right_links : (table : RawTable) (standing : Standing) (x : ℕ) → AreStanding table standing
+    → AreBetween (length table.atoms) (query_edges (query_bonds table.bonds)) → 1 ≤ x → x ≤ length table.atoms
     → AreRightBy (length table.atoms) (query_bonds table.bonds) standing x ↔ AreRightLinks table x (links_at table x)
 right_links table standing x are ends least most =
     by_links table standing x (links_at table x) (get_or standing.links.items (x - 1) linked.Nothing) are ends least most (links_are table standing x are least most)

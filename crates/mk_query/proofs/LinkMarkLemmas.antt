@@ -43,7 +43,8 @@ links_same more others old new same are = record {
 }
 
 -- one entry more
-pub links-more : (links : List LinkEntry) (i : ℕ) (d : LinkEntry) (old mid new : List Linked) → i < length links → AreMoreLinks (named (take i links)) old mid → AreMoreLinks (named (get_or links i d ∷ [])) mid new
+pub links-more : (links : List LinkEntry) (i : ℕ) (d : LinkEntry) (old mid new : List Linked) → i < length links
+    → AreMoreLinks (named (take i links)) old mid → AreMoreLinks (named (get_or links i d ∷ [])) mid new
     → AreMoreLinks (named (take (i + 1) links)) old new
 links-more links i d old mid new below first second =
     links_same (λ (x : ℕ). named (take i links) x ++ named (get_or links i d ∷ []) x) (named (take (i + 1) links)) old new
@@ -58,7 +59,9 @@ links_for-push : (x : ℕ) (ps : List Property) (p : Property) → links_for x (
 links_for-push x [] p = append-nil (named (links_of p) x)
 links_for-push x (q ∷ ps) p = ap (λ (l : List LinkEntry). named (links_of q) x ++ l) (links_for-push x ps p) ∙ sym (append_assoc (named (links_of q) x) (links_for x ps) (named (links_of p) x))
 
-pub properties-more : (props : List Property) (i : ℕ) (p : Property) (old mid new : List Linked) → i < length props → p ≡ get_or props i p → AreMoreLinks (λ x. links_for x (take i props)) old mid → AreMoreLinks (named (links_of p)) mid new
+pub properties-more : (props : List Property) (i : ℕ) (p : Property) (old mid new : List Linked) → i < length props
+    → p ≡ get_or props i p → AreMoreLinks (λ x. links_for x (take i props)) old mid
+    → AreMoreLinks (named (links_of p)) mid new
     → AreMoreLinks (λ x. links_for x (take (i + 1) props)) old new
 properties-more props i p old mid new below is first second =
     let next : take (i + 1) props ≡ take i props ++ p ∷ [] = take_more props i p below ∙ ap (λ (y : Property). take i props ++ y ∷ []) (sym is) in
@@ -67,10 +70,12 @@ properties-more props i p old mid new below is first second =
     (links_join (λ (x : ℕ). links_for x (take i props)) (named (links_of p)) old mid new first second)
 
 -- behind the last property
-pub properties-all : (props : List Property) (i n : ℕ) (old new : List Linked) → length props ≤ i → old ≡ replicate n linked.Nothing → AreMoreLinks (λ x. links_for x (take i props)) old new → AreLinked props new
+pub properties-all : (props : List Property) (i n : ℕ) (old new : List Linked) → length props ≤ i
+    → old ≡ replicate n linked.Nothing → AreMoreLinks (λ x. links_for x (take i props)) old new → AreLinked props new
 properties-all props i n old new all none are k d below =
     let inside : k < length old = omega (arith, are.size) in
-    let nothing : get_or old k d ≡ linked.Nothing = ap (λ (l : List Linked). get_or l k d) none ∙ get_or-replicate n k linked.Nothing d (omega (arith, ap length none, length-replicate n linked.Nothing)) in
+    let nothing : get_or old k d ≡ linked.Nothing = ap (λ (l : List Linked). get_or l k d) none
+    ∙ get_or-replicate n k linked.Nothing d (omega (arith, ap length none, length-replicate n linked.Nothing)) in
     subst (λ (l : List Property). IsLinked (links_for (k + 1) l) (get_or new k d)) (take_all i props all) (are.each k d inside [] (rw nothing refl))
 
 -- ---- one entry

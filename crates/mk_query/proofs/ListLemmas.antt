@@ -62,7 +62,8 @@ not_nil : {X : Type 0} (xs : List X) (x : X) → xs ++ x ∷ [] ≡ [] → ⊥
 not_nil xs x e = (let none : length (xs ++ x ∷ []) ≡ 0 = ap length e in omega (arith, none, length_push xs x))
 
 -- one list more
-pub list_more : (list : ElementList) (known : Bool) (old new : ListMark) → (IsTrue known ↔ HasKnownMembers list) → new.listed ≡ true → new.known ≡ (old.known && known) → HasMore IsListMark (list ∷ []) old new
+pub list_more : (list : ElementList) (known : Bool) (old new : ListMark) → (IsTrue known ↔ HasKnownMembers list)
+    → new.listed ≡ true → new.known ≡ (old.known && known) → HasMore IsListMark (list ∷ []) old new
 list_more list known old new tested listed is those are = record {
   listed = (λ t. not_nil those list, λ some. listed);
   known = (
@@ -77,7 +78,9 @@ list_more list known old new tested listed is those are = record {
 }
 
 -- the list of an `M  ALS`
-pub one_list : (property : Property) (list : AtomList) (old new : List ListMark) → property ≡ kinds.List list → AreMore IsListMark (lists_for (by_symbols list ∷ [])) old new → AreMore IsListMark (symbol_lists_by (property ∷ [])) old new
+pub one_list : (property : Property) (list : AtomList) (old new : List ListMark) → property ≡ kinds.List list
+    → AreMore IsListMark (lists_for (by_symbols list ∷ [])) old new
+    → AreMore IsListMark (symbol_lists_by (property ∷ [])) old new
 one_list property list old new is more = subst (λ (p : Property). AreMore IsListMark (symbol_lists_by (p ∷ [])) old new) (sym is) more
 
 -- all lists of a table
@@ -89,7 +92,8 @@ all_lists_noted table n none old mid new listed known blank p q =
     (more-both IsListMark (number_lists_by table.lists) (symbol_lists_by table.props) old mid new p q))
 
 -- what is noted of the lists of the atom at a place
-pub lists_at_place : (table : RawTable) (marks : List ListMark) (i : ℕ) (m : ListMark) → i < length marks → AreMarks (λ x. IsListMark (lists_at table x)) marks → m ≡ get_or marks i m → IsListMark (lists_at table (i + 1)) m
+pub lists_at_place : (table : RawTable) (marks : List ListMark) (i : ℕ) (m : ListMark) → i < length marks
+    → AreMarks (λ x. IsListMark (lists_at table x)) marks → m ≡ get_or marks i m → IsListMark (lists_at table (i + 1)) m
 lists_at_place table marks i m below are is = rw (← is) at (are i m below)
 
 -- ---- what is demanded
@@ -106,12 +110,14 @@ lists_fail table b tested failed = record {
 }
 
 -- where each names one, it is an atom
-pub atom_fails : (table : RawTable) (item : ℕ) → All (λ (list : RawList). IsAtom (length table.atoms) list.atom) table.lists → IsLeastFailing (Numbered (HasListsAt table) table.atoms) item → IsLeastFailing (HasLists table) item
+pub atom_fails : (table : RawTable) (item : ℕ) → All (λ (list : RawList). IsAtom (length table.atoms) list.atom)
+    table.lists → IsLeastFailing (Numbered (HasListsAt table) table.atoms) item → IsLeastFailing (HasLists table) item
 atom_fails table item named least = record {
   lower = λ j below. (λ none. named, least.lower j below);
   fails = λ has. least.fails has.1;
 }
 
 -- or none
-pub all_listed : (table : RawTable) → All (λ (list : RawList). IsAtom (length table.atoms) list.atom) table.lists → ((item : ℕ) → Numbered (HasListsAt table) table.atoms item) → (item : ℕ) → HasLists table item
+pub all_listed : (table : RawTable) → All (λ (list : RawList). IsAtom (length table.atoms) list.atom) table.lists
+    → ((item : ℕ) → Numbered (HasListsAt table) table.atoms item) → (item : ℕ) → HasLists table item
 all_listed table named all item = (λ none. named, all item)

@@ -44,7 +44,8 @@ place_by lists props put old found before true is was = is
 place_by lists props put old found before false is was = was
 
 -- one list more
-force_more : (lists : List RawList) (props : List Property) (front : List ElementList) (list : ElementList) (n : ℕ) (put : ListPlace) (old new : List ListPlace) → n ≡ listed_atom list → IsPlaceOf lists props put (Some list)
+force_more : (lists : List RawList) (props : List Property) (front : List ElementList) (list : ElementList) (n : ℕ)
+    (put : ListPlace) (old new : List ListPlace) → n ≡ listed_atom list → IsPlaceOf lists props put (Some list)
     → IsPlaceAt n put old new → AreInForce lists props front old → AreInForce lists props (front ++ list ∷ []) new
 force_more lists props front list n put old new names there placed are k d below =
     let inside : k < length old = omega (arith, placed.size) in
@@ -60,7 +61,9 @@ lines_more lists props i n list old new below is names placed are =
     let next : map by_numbers (take (i + 1) lists) ≡ map by_numbers (take i lists) ++ by_numbers list ∷ [] =
     map_more by_numbers lists i list below ∙ ap (λ (l : RawList). map by_numbers (take i lists) ++ by_numbers l ∷ []) (sym is) in
     let at : slice_get lists i ≡ Some list = slice_get-get_or lists i list below ∙ ap Some (sym is) in
-    subst (λ (front : List ElementList). AreInForce lists props front new) (sym next) (force_more lists props (map by_numbers (take i lists)) (by_numbers list) n (place.Line i) old new names (list, at, refl) placed are)
+    subst (λ (front : List ElementList). AreInForce lists props front new) (sym next)
+    (force_more lists props (map by_numbers (take i lists)) (by_numbers list) n (place.Line i) old new names
+    (list, at, refl) placed are)
 
 -- ---- properties
 
@@ -84,13 +87,16 @@ noted_more lists props front j (kinds.List list) old new at noted are = force_mo
 noted_more lists props front j p old new at noted are = rw (append-nil front, noted) are
 
 -- one property more
-pub property_more : (lists : List RawList) (props : List Property) (front : List ElementList) (j : ℕ) (p : Property) (old new : List ListPlace) → j < length props → p ≡ get_or props j p → IsListNoted p j old new
+pub property_more : (lists : List RawList) (props : List Property) (front : List ElementList) (j : ℕ) (p : Property)
+    (old new : List ListPlace) → j < length props → p ≡ get_or props j p → IsListNoted p j old new
     → AreInForce lists props (front ++ symbol_lists (take j props)) old → AreInForce lists props (front ++ symbol_lists (take (j + 1) props)) new
 property_more lists props front j p old new below is noted are =
     let at : slice_get props j ≡ Some p = slice_get-get_or props j p below ∙ ap Some (sym is) in
     let taken : take (j + 1) props ≡ take j props ++ p ∷ [] = take_more props j p below ∙ ap (λ (q : Property). take j props ++ q ∷ []) (sym is) in
     let next : front ++ symbol_lists (take (j + 1) props) ≡ (front ++ symbol_lists (take j props)) ++ lists_of p =
-    ap (λ (l : List Property). front ++ symbol_lists l) taken ∙ ap (λ (l : List ElementList). front ++ l) (symbols_push (take j props) p) ∙ sym (append_assoc front (symbol_lists (take j props)) (lists_of p)) in
+    ap (λ (l : List Property). front ++ symbol_lists l) taken
+    ∙ ap (λ (l : List ElementList). front ++ l) (symbols_push (take j props) p)
+    ∙ sym (append_assoc front (symbol_lists (take j props)) (lists_of p)) in
     subst (λ (l : List ElementList). AreInForce lists props l new) (sym next) (noted_more lists props (front ++ symbol_lists (take j props)) j p old new at noted are)
 
 -- before the first
@@ -99,6 +105,7 @@ pub property_none : (lists : List RawList) (props : List Property) (i : ℕ) (pl
 property_none lists props i places all are = rw append-nil (subst (λ (l : List RawList). AreInForce lists props (map by_numbers l) places) (take_all i lists all) are)
 
 -- behind the last
-pub property_all : (table : RawTable) (j : ℕ) (places : List ListPlace) → length table.props ≤ j → AreInForce table.lists table.props (map by_numbers table.lists ++ symbol_lists (take j table.props)) places
+pub property_all : (table : RawTable) (j : ℕ) (places : List ListPlace) → length table.props ≤ j
+    → AreInForce table.lists table.props (map by_numbers table.lists ++ symbol_lists (take j table.props)) places
     → AreInForce table.lists table.props (all_lists table) places
 property_all table j places all are = subst (λ (l : List Property). AreInForce table.lists table.props (map by_numbers table.lists ++ symbol_lists l) places) (take_all j table.props all) are

@@ -27,7 +27,8 @@ last-none props last zeros = record {
       record { others = λ k early names. absurd (omega (arith, early)); here = λ some. absurd (omega (arith, some, zero)) };
 }
 
-last_one : (props : List Property) (k g old new : ℕ) (p : Property) → slice_get props k ≡ Some p → new ≡ cond (names_group g p) (k + 1) old → IsLastLogic props k g old → IsLastLogic props (k + 1) g new
+last_one : (props : List Property) (k g old new : ℕ) (p : Property) → slice_get props k ≡ Some p
+    → new ≡ cond (names_group g p) (k + 1) old → IsLastLogic props k g old → IsLastLogic props (k + 1) g new
 last_one props k g old new p at is last = by_names (names_group g p) refl is
   where
     by_names : (b : Bool) → names_group g p ≡ b → new ≡ cond b (k + 1) old → IsLastLogic props (k + 1) g new
@@ -56,7 +57,8 @@ last_one props k g old new p at is last = by_names (names_group g p) refl is
     }
 
 -- one property more
-pub last-more : (props : List Property) (k : ℕ) (p : Property) (old new : List ℕ) → k < length props → p ≡ get_or props k p → IsMarkedBy p (k + 1) old new → AreLastLogics props k old → AreLastLogics props (k + 1) new
+pub last-more : (props : List Property) (k : ℕ) (p : Property) (old new : List ℕ) → k < length props
+    → p ≡ get_or props k p → IsMarkedBy p (k + 1) old new → AreLastLogics props k old → AreLastLogics props (k + 1) new
 last-more props k p old new below is marked last = record {
   size = marked.size ∙ last.size;
   each = λ g within.
@@ -86,7 +88,9 @@ names_same logic (kinds.Logic later) group names =
     pos_is other some = absurd (omega (arith, some))
 names_same logic other group names = absurd cc
 
-module _ (props : List Property) (last : List ℕ) (are : AreLastLogics props (length props) last) (k : ℕ) (logic : LogicLine) (at : slice_get props k ≡ Some (kinds.Logic logic)) (group : IsWithin (pos 1) (pos 32) logic.group) where
+module _ (props : List Property) (last : List ℕ) (are : AreLastLogics props (length props) last) (k : ℕ)
+    (logic : LogicLine) (at : slice_get props k ≡ Some (kinds.Logic logic))
+    (group : IsWithin (pos 1) (pos 32) logic.group) where
   of_group : IsLastLogic props (length props) (natural logic.group) (get_or last (natural logic.group) 0)
   of_group = are.each (natural logic.group) (omega (arith, atom_within 32 logic.group group))
 
@@ -155,7 +159,8 @@ right_is is_root props last k p b are below is by =
 -- ---- ranges
 
 -- where a range is found exactly where the text is one
-pub range_found : (text : List ℕ) (found : Option (List Interval)) (b : Bool) → b ≡ is_some found → IfSome found (IsRangeText text) → IfNone found ((range : List Interval) → IsRangeText text range → ⊥)
+pub range_found : (text : List ℕ) (found : Option (List Interval)) (b : Bool) → b ≡ is_some found
+    → IfSome found (IsRangeText text) → IfNone found ((range : List Interval) → IsRangeText text range → ⊥)
     → IsTrue b ↔ ((range : List Interval) × IsRangeText text range)
 range_found text None b is some none = (λ t. absurd cc, λ has. absurd (none has.0 has.1))
 range_found text (Some range) b is some none = (λ t. (range, some), λ has. is)

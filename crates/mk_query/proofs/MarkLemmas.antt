@@ -29,7 +29,8 @@ more-same Is more more' old new same are = record {
 }
 
 -- one thing and then another
-pub more-both : {V X : Type 0} (Is : List V → X → Type 0) (first second : ℕ → List V) (old mid new : List X) → AreMore Is first old mid → AreMore Is second mid new → AreMore Is (λ x. first x ++ second x) old new
+pub more-both : {V X : Type 0} (Is : List V → X → Type 0) (first second : ℕ → List V) (old mid new : List X)
+    → AreMore Is first old mid → AreMore Is second mid new → AreMore Is (λ x. first x ++ second x) old new
 more-both Is first second old mid new p q = record {
   size = q.size ∙ p.size;
   each = λ k d below those is.
@@ -78,11 +79,13 @@ pass-more_at Is F tells items i d old mid new below first second =
     pass-more Is F tells items i (get_or items i d) old mid new below (get_or_default items i d (get_or items i d) below) first second
 
 -- behind the last item
-pub pass-all : {A V X : Type 0} (Is : List V → X → Type 0) (F : List A → ℕ → List V) (items : List A) (i : ℕ) (old new : List X) → length items ≤ i → AreMore Is (F (take i items)) old new → AreMore Is (F items) old new
+pub pass-all : {A V X : Type 0} (Is : List V → X → Type 0) (F : List A → ℕ → List V) (items : List A) (i : ℕ)
+    (old new : List X) → length items ≤ i → AreMore Is (F (take i items)) old new → AreMore Is (F items) old new
 pass-all Is F items i old new all more = more-same Is (F (take i items)) (F items) old new (λ x. ap (λ (l : List _). F l x) (take_all i items all)) more
 
 -- over notes that say nothing
-pub noted : {V X : Type 0} (Is : List V → X → Type 0) (more : ℕ → List V) (n : ℕ) (none : X) (old new : List X) → Is [] none → old ≡ replicate n none → AreMore Is more old new → AreMarks (λ x. Is (more x)) new
+pub noted : {V X : Type 0} (Is : List V → X → Type 0) (more : ℕ → List V) (n : ℕ) (none : X) (old new : List X)
+    → Is [] none → old ≡ replicate n none → AreMore Is more old new → AreMarks (λ x. Is (more x)) new
 noted Is more n none old new is blank are k d below =
     let inside : k < length old = omega (arith, are.size) in
     let at : get_or old k d ≡ none = ap (λ (l : List _). get_or l k d) blank ∙ get_or-replicate n k none d (omega (arith, ap length blank, length-replicate n none)) in

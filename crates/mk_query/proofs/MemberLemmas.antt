@@ -47,7 +47,8 @@ member_between next g (part ∷ parts) u at =
     at
 
 -- two rising lists, where the first ends before the second begins
-rise_both : (xs ys : List ℕ) (n : ℕ) → AllPairs (λ u v. u < v) xs → AllPairs (λ u v. u < v) ys → ((u : ℕ) → Contains xs u → u < n) → ((u : ℕ) → Contains ys u → n ≤ u) → AllPairs (λ u v. u < v) (xs ++ ys)
+rise_both : (xs ys : List ℕ) (n : ℕ) → AllPairs (λ u v. u < v) xs → AllPairs (λ u v. u < v) ys
+    → ((u : ℕ) → Contains xs u → u < n) → ((u : ℕ) → Contains ys u → n ≤ u) → AllPairs (λ u v. u < v) (xs ++ ys)
 rise_both xs ys n first second low high i j d before below =
     ⊎_elim
     (λ j_first.
@@ -99,7 +100,12 @@ one_group next [] g h u in_g in_h = absurd (let below = in_g.1 in omega arith)
 one_group next (part ∷ parts) g h u in_g in_h =
     ⊎_elim
     (λ here. ⊎_elim (λ also. sym here.0 ∙ also.0) (λ later. absurd (omega (arith, here.1, (member_between (next + length part.members) h parts u later).0))) (where_is h in_h))
-    (λ later. ⊎_elim (λ also. absurd (omega (arith, also.1, (member_between (next + length part.members) g parts u later).0))) (λ both. one_group (next + length part.members) parts g h u later both) (where_is h in_h))
+    (λ later. ⊎_elim (λ also. absurd (omega (
+      arith,
+      also.1,
+      (member_between (next + length part.members) g parts u later).0,
+    )))
+    (λ both. one_group (next + length part.members) parts g h u later both) (where_is h in_h))
     (where_is g in_g)
   where
     -- in this part or behind it
@@ -107,7 +113,8 @@ one_group next (part ∷ parts) g h u in_g in_h =
     where_is k at =
         let later = members_from (next + length part.members) k parts in
         by_number part.number k (λ (l : List ℕ). Contains l u → ((part.number ≡ k) × (u < next + length part.members)) ⊎ Contains later u) (range_with_len next (length part.members) ++ later) later
-        (λ same here. ⊎_elim (λ first. inl (same, (of_range next (length part.members) u first).1)) (λ behind. inr behind) (Contains-append_cases (range_with_len next (length part.members)) later u here))
+        (λ same here. ⊎_elim (λ first. inl (same, (of_range next (length part.members) u first).1))
+        (λ behind. inr behind) (Contains-append_cases (range_with_len next (length part.members)) later u here))
         (λ here. inr here) at
 
 -- ---- how many there are
@@ -153,7 +160,9 @@ sum_one number size k (suc n) least most =
     (cases_lt k number)
 
 -- one part more
-size_more : (next g : ℕ) (part : RawGroup) (parts : List RawGroup) → length (members_from next g (part ∷ parts)) ≡ adds_if part.number (length part.members) g + length (members_from (next + length part.members) g parts)
+size_more : (next g : ℕ) (part : RawGroup) (parts : List RawGroup)
+    → length (members_from next g (part ∷ parts)) ≡ adds_if part.number (length part.members) g + length
+    (members_from (next + length part.members) g parts)
 size_more next g part parts = by_test (part.number == g)
   where
     by_test : (b : Bool) → length (cond b (range_with_len next (length part.members) ++ members_from (next + length part.members) g parts) (members_from (next + length part.members) g parts))
@@ -172,13 +181,17 @@ sum_members next (part ∷ parts) raw =
     let number = raw 0 part (omega arith) in
     omega (
       arith,
-      sum_both (adds_if part.number (length part.members)) (λ g. length (members_from (next + length part.members) g parts)) (λ g. length (members_from next g (part ∷ parts))) 1 32 (λ g. size_more next g part parts),
+      sum_both (adds_if part.number (length part.members))
+          (λ g. length (members_from (next + length part.members) g parts))
+          (λ g. length (members_from next g (part ∷ parts))) 1 32 (λ g. size_more next g part parts),
       sum_one part.number (length part.members) 1 32 number.from_one (omega (arith, number.to_32)),
       sum_members (next + length part.members) parts (λ k d below. raw (suc k) d (omega (arith, below))),
     )
 
 -- groups that have these members, from the k-th on
-sum_groups : (groups : List Group) (f : ℕ → ℕ) (k : ℕ) → ((i : ℕ) (group : Group) → slice_get groups i ≡ Some group → length group.members ≡ f (k + i)) → sum_by (λ (group : Group). length group.members) groups ≡ sum_range f k (length groups)
+sum_groups : (groups : List Group) (f : ℕ → ℕ) (k : ℕ) →
+    ((i : ℕ) (group : Group) → slice_get groups i ≡ Some group → length group.members ≡ f (k + i))
+    → sum_by (λ (group : Group). length group.members) groups ≡ sum_range f k (length groups)
 sum_groups [] f k each = refl
 sum_groups (group ∷ groups) f k each =
     let first : length group.members ≡ f (k + 0) = each 0 group refl in
@@ -191,8 +204,11 @@ sum_groups (group ∷ groups) f k each =
       sum_groups groups f (k + 1) (λ i g at. let sum : k + suc i ≡ k + 1 + i = omega arith in each (suc i) g at ∙ ap f sum),
     )
 
-pub members_total : (parts : List RawGroup) (groups : List Group) → All IsGroupInRange parts → length groups ≡ 32 → ((i : ℕ) (group : Group) → slice_get groups i ≡ Some group → group.members ≡ members_from 1 (i + 1) parts)
+pub members_total : (parts : List RawGroup) (groups : List Group) → All IsGroupInRange parts → length groups ≡ 32
+    → ((i : ℕ) (group : Group) → slice_get groups i ≡ Some group → group.members ≡ members_from 1 (i + 1) parts)
     → sum_by (λ (group : Group). length group.members) groups ≡ members_in parts
 members_total parts groups raw size each =
-    sum_groups groups (λ g. length (members_from 1 g parts)) 1 (λ i group at. let place : i + 1 ≡ 1 + i = omega arith in ap length (each i group at) ∙ ap (λ (g : ℕ). length (members_from 1 g parts)) place)
+    sum_groups groups (λ g. length (members_from 1 g parts)) 1
+    (λ i group at. let place : i + 1 ≡ 1 + i = omega arith in ap length (each i group at)
+    ∙ ap (λ (g : ℕ). length (members_from 1 g parts)) place)
     ∙ ap (sum_range (λ g. length (members_from 1 g parts)) 1) size ∙ sum_members 1 parts raw

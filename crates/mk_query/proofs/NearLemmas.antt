@@ -26,7 +26,9 @@ bond-once bond first second old new is_first is_second same more =
 
 -- a bond between two atoms
 pub bond-twice : (bond : RawBond) (first second : ℕ) (old mid new : List Near) → first ≡ (query_bond bond).first → second ≡ (query_bond bond).second → second ≢ first
-    → AreMore IsNear (λ x. cond (eqb first x) (second ∷ []) []) old mid → AreMore IsNear (λ x. cond (eqb second x) (first ∷ []) []) mid new → AreMore IsNear (neighbours_at (query_bond bond ∷ [])) old new
+    → AreMore IsNear (λ x. cond (eqb first x) (second ∷ []) []) old mid
+    → AreMore IsNear (λ x. cond (eqb second x) (first ∷ []) []) mid new
+    → AreMore IsNear (neighbours_at (query_bond bond ∷ [])) old new
 bond-twice bond first second old mid new is_first is_second differ p q =
     more-same IsNear (λ x. cond (eqb first x) (second ∷ []) [] ++ cond (eqb second x) (first ∷ []) []) (neighbours_at (query_bond bond ∷ [])) old new
     (λ x. rw (← is_first, ← is_second) (by_end x (eqb first x) refl))
@@ -41,10 +43,15 @@ neighbours_at-push : (bonds : List QueryBond) (bond : QueryBond) (x : ℕ) → n
 neighbours_at-push [] bond x = refl
 neighbours_at-push (b ∷ bonds) bond x =
     let more = neighbours_at-push bonds bond x in
-    elim (eqb b.first x) as (λ t. cond t (b.second ∷ neighbours_at (bonds ++ bond ∷ []) x) (cond (eqb b.second x) (b.first ∷ neighbours_at (bonds ++ bond ∷ []) x) (neighbours_at (bonds ++ bond ∷ []) x)) ≡ cond t (b.second ∷ neighbours_at bonds x) (cond (eqb b.second x) (b.first ∷ neighbours_at bonds x) (neighbours_at bonds x)) ++ neighbours_at (bond ∷ []) x) [
+    elim (eqb b.first x) as (λ t. cond t (b.second ∷ neighbours_at (bonds ++ bond ∷ []) x)
+    (cond (eqb b.second x) (b.first ∷ neighbours_at (bonds ++ bond ∷ []) x) (neighbours_at (bonds ++ bond ∷ []) x))
+    ≡ cond t (b.second ∷ neighbours_at bonds x) (cond (eqb b.second x) (b.first ∷ neighbours_at bonds x)
+    (neighbours_at bonds x)) ++ neighbours_at (bond ∷ []) x) [
       | true ↦ ap (λ (l : List ℕ). b.second ∷ l) more
       | false ↦
-          elim (eqb b.second x) as (λ t. cond t (b.first ∷ neighbours_at (bonds ++ bond ∷ []) x) (neighbours_at (bonds ++ bond ∷ []) x) ≡ cond t (b.first ∷ neighbours_at bonds x) (neighbours_at bonds x) ++ neighbours_at (bond ∷ []) x)
+          elim (eqb b.second x) as (λ t. cond t (b.first ∷ neighbours_at (bonds ++ bond ∷ []) x)
+          (neighbours_at (bonds ++ bond ∷ []) x) ≡ cond t (b.first ∷ neighbours_at bonds x)
+          (neighbours_at bonds x) ++ neighbours_at (bond ∷ []) x)
           [ true ↦ ap (λ (l : List ℕ). b.first ∷ l) more | false ↦ more ]
     ]
 

@@ -14,14 +14,16 @@ pub numbered-none : {X : Type 0} (P : ℕ → X → Type 0) (xs : List X) (j : �
 numbered-none P xs j below = items-none (P j) xs j below
 
 -- one item more
-pub numbered-more : {X : Type 0} (P : ℕ → X → Type 0) (xs : List X) (k : ℕ) (x : X) → x ≡ get_or xs k x → P (k + 1) x → ((j : ℕ) → j < k + 1 → OfItem (P j) xs j) → (j : ℕ) → j < k + 1 + 1 → OfItem (P j) xs j
+pub numbered-more : {X : Type 0} (P : ℕ → X → Type 0) (xs : List X) (k : ℕ) (x : X) → x ≡ get_or xs k x → P (k + 1) x
+    → ((j : ℕ) → j < k + 1 → OfItem (P j) xs j) → (j : ℕ) → j < k + 1 + 1 → OfItem (P j) xs j
 numbered-more P xs k x is p before j below =
     ⊎_elim (λ earlier. before j earlier)
     (λ here. let same : k + 1 ≡ j = omega arith in subst (λ (i : ℕ). OfItem (P i) xs i) same (of_item-here (P (k + 1)) xs k x is p))
     (cases_lt j (k + 1))
 
 -- the first item that fails
-pub numbered-fail : {X : Type 0} (P : ℕ → X → Type 0) (xs : List X) (k : ℕ) (x : X) → k < length xs → x ≡ get_or xs k x → (P (k + 1) x → ⊥) → ((j : ℕ) → j < k + 1 → OfItem (P j) xs j) → IsLeastFailing (Numbered P xs) (k + 1)
+pub numbered-fail : {X : Type 0} (P : ℕ → X → Type 0) (xs : List X) (k : ℕ) (x : X) → k < length xs → x ≡ get_or xs k x
+    → (P (k + 1) x → ⊥) → ((j : ℕ) → j < k + 1 → OfItem (P j) xs j) → IsLeastFailing (Numbered P xs) (k + 1)
 numbered-fail P xs k x below is fails before = record {
   lower = before;
   fails = λ of. fails (of_item-at (P (k + 1)) xs k x below is of);
@@ -44,7 +46,9 @@ placed-more P xs k p before j below =
     (cases_lt j (k + 1))
 
 -- the first item that fails
-pub placed-fail : {X : Type 0} (P : ℕ → Type 0) (xs : List X) (k : ℕ) → k < length xs → (P (k + 1) → ⊥) → ((j : ℕ) → j < k + 1 → OfItem (λ (x : X). P j) xs j) → IsLeastFailing (λ (j : ℕ). OfItem (λ (x : X). P j) xs j) (k + 1)
+pub placed-fail : {X : Type 0} (P : ℕ → Type 0) (xs : List X) (k : ℕ) → k < length xs → (P (k + 1) → ⊥)
+    → ((j : ℕ) → j < k + 1 → OfItem (λ (x : X). P j) xs j)
+    → IsLeastFailing (λ (j : ℕ). OfItem (λ (x : X). P j) xs j) (k + 1)
 placed-fail P xs k below fails before = record {
   lower = before;
   fails = λ of.

@@ -12,23 +12,25 @@ use Rattle.mk_rgfile.specs.declared.raw_query.RawGroup.{RawGroup}
 use Rattle.mk_rgfile.specs.declared.raw_query.RawQuery.{RawQuery}
 use Rattle.mk_query.specs.declared.checking.Fault.{Fault}
 use Rattle.mk_query.specs.declared.compile_fault.FaultAt.{FaultAt}
-use Rattle.mk_query.specs.Compiled.{IsQueryOf, tables_of}
+use Rattle.mk_query.specs.Compiled.{IsQueryOf, query_tables}
 use Rattle.mk_query.specs.CompileFaults.{FitsAt, FitsTable, IsAcross, IsFirstCompileFault, IsFirstInTables, IsNoCycle, IsSmall, IsWhole, PassAcross, PassChecks, PassEach, across_tables, in_a_table, points, recursion, size, whole}
-use Rattle.mk_query.specs.FirstFault.{Check, Demands, IsFirstFault, PassesAll}
+use Rattle.mk_query.specs.FirstFault.{QueryCheck, QueryDemands, IsFirstFault, PassesAll}
 use Rattle.mk_query.specs.Laws.{NoFaultWhereAllPass, OneFirstFault, OneQuery}
 use Rattle.mk_query.proofs.FaultLemmas.{number-once}
 
 -- ---- of one table
 
 -- the first fault of a table is one check and one item
-one_in_table : (groups : List RawGroup) (is_root : Bool) (table : RawTable) (f g : Fault) → IsFirstFault groups is_root table f → IsFirstFault groups is_root table g → (f.check ≡ g.check) × (f.item ≡ g.item)
+one_in_table : (groups : List RawGroup) (is_root : Bool) (table : RawTable) (f g : Fault)
+    → IsFirstFault groups is_root table f → IsFirstFault groups is_root table g → (f.check ≡ g.check)
+    × (f.item ≡ g.item)
 one_in_table groups is_root table f g p q = by_order (cases_order f.check g.check)
   where
     by_order : (f.check ≡ g.check) ⊎ ((f.check < g.check) ⊎ (g.check < f.check)) → (f.check ≡ g.check) × (f.item ≡ g.item)
     by_order (inl same) =
         let checks : q.check ≡ p.check = number-once q.check p.check (q.numbered ∙ sym same ∙ sym p.numbered) in
-        let P : Check → Type 0 = λ c. IsLeastFailing (Demands groups is_root table c) g.item in
-        (same, one_item (Demands groups is_root table p.check) f.item g.item p.least (subst P checks q.least))
+        let P : QueryCheck → Type 0 = λ c. IsLeastFailing (QueryDemands groups is_root table c) g.item in
+        (same, one_item (QueryDemands groups is_root table p.check) f.item g.item p.least (subst P checks q.least))
     by_order (inr (inl below)) = absurd (p.least.fails (q.before p.check (omega (arith, p.numbered, below)) f.item))
     by_order (inr (inr above)) = absurd (q.least.fails (p.before q.check (omega (arith, q.numbered, above)) g.item))
 
@@ -56,8 +58,8 @@ one_in_tables raw f g p q = by_order (cases_order f.table g.table)
   where
     by_order : (f.table ≡ g.table) ⊎ ((f.table < g.table) ⊎ (g.table < f.table)) → f ≡ g
     by_order (inl same) =
-        let at : slice_get (tables_of raw) f.table ≡ Some q.table = ap (slice_get (tables_of raw)) same ∙ q.at in
-        let tables : q.table ≡ p.table = same_table (tables_of raw) f.table q.table p.table at p.at in
+        let at : slice_get (query_tables raw) f.table ≡ Some q.table = ap (slice_get (query_tables raw)) same ∙ q.at in
+        let tables : q.table ≡ p.table = same_table (query_tables raw) f.table q.table p.table at p.at in
         let here : IsFirstFault raw.groups (f.table == 0) p.table (record { check = g.check; item = g.item }) =
         subst (λ (t : RawTable). IsFirstFault raw.groups (f.table == 0) t (record { check = g.check; item = g.item })) tables
         (subst (λ (n : ℕ). IsFirstFault raw.groups (n == 0) q.table (record { check = g.check; item = g.item })) (sym same) q.here) in

@@ -7,7 +7,7 @@ use Rattle.std.specs.List.{list_all}
 use Rattle.std.proofs.lemmas.Bool.{eqb-true}
 use Rattle.std.proofs.lemmas.List.{same_lists}
 use Rattle.std.proofs.lemmas.Option.{slice_get-get_or}
-use Rattle.mk_elements.specs.Symbols.{Names, symbols}
+use Rattle.mk_elements.specs.Symbols.{NamesElement, symbols}
 use Rattle.mk_elements.proofs.ForCallers.{one_element}
 use Rattle.mk_text.proofs.ForCallers.{both}
 use Rattle.mk_props.specs.declared.property.LogicLine.{LogicLine}
@@ -25,7 +25,7 @@ use Rattle.mk_ctab.specs.declared.raw.RawTable.{RawTable}
 use Rattle.mk_ctab.specs.Numbers.{natural}
 use Rattle.mk_logic.specs.RangeTexts.{OneRange}
 use Rattle.mk_rgfile.specs.declared.raw_query.RawQuery.{RawQuery}
-use Rattle.mk_query.specs.Compiled.{AreGroupsOf, AreTemplatesOf, AreTestsOf, HasElements, IsGroupOf, IsKindOf, IsLogicOf, IsQueryOf, IsTemplateOf, IsTestBy, IsTestDrawn, NameElements, kind_by, logic_for, of_any, of_any_heavy, of_element, of_hetero, of_list, tables_of}
+use Rattle.mk_query.specs.Compiled.{AreGroupsOf, AreTemplatesOf, AreTestsOf, HasElements, IsGroupOf, IsKindOf, IsLogicOf, IsQueryOf, IsTemplateOf, IsTestBy, IsTestDrawn, NameElements, kind_by, logic_for, of_any, of_any_heavy, of_element, of_hetero, of_list, query_tables}
 use Rattle.mk_query.specs.Drawn.{ElementList, by_numbers, by_symbols, is_site, list_in_force}
 use Rattle.mk_query.specs.Laws.{OneQuery}
 
@@ -65,7 +65,7 @@ unfolding is_named
 by_word named e = refl
 by_word other e = absurd cc
 
-word_of-named : (symbol : List ℕ) (z : ℕ) → Names symbol z → word_of symbol ≡ named
+word_of-named : (symbol : List ℕ) (z : ℕ) → NamesElement symbol z → word_of symbol ≡ named
 unfolding names_one word_of
 word_of-named symbol z (inl is) = by_word (word_of symbol) (all_at symbols (z - 1) symbol symbols-named is.1)
 word_of-named symbol z (inr (one, inl d)) = ap word_of d
@@ -73,7 +73,7 @@ word_of-named symbol z (inr (one, inr t)) = ap word_of t
 
 -- the kind that a symbol stands for, by what it is
 KindBy : Option ElementList → List ℕ → Kind → Word → Type 0
-KindBy in_force symbol kind named = (z : ℕ) × Names symbol z × (kind ≡ Element z)
+KindBy in_force symbol kind named = (z : ℕ) × NamesElement symbol z × (kind ≡ Element z)
 KindBy in_force symbol kind listed = (list : ElementList) × (in_force ≡ Some list) × (elements : List ℕ) × HasElements list elements × (kind ≡ kind_by list elements)
 KindBy in_force symbol kind any_heavy = kind ≡ NotHydrogen
 KindBy in_force symbol kind hetero = kind ≡ Hetero
@@ -121,7 +121,8 @@ one_kind in_force symbol a b p q = one_by_word in_force symbol a b (word_of symb
 
 -- ---- tests
 
-same_test : (a b : AtomTest) → a.kind ≡ b.kind → a.charge ≡ b.charge → a.radical ≡ b.radical → a.hydrogens ≡ b.hydrogens → a.ring_bonds ≡ b.ring_bonds → a.substitution ≡ b.substitution → a.unsaturated ≡ b.unsaturated
+same_test : (a b : AtomTest) → a.kind ≡ b.kind → a.charge ≡ b.charge → a.radical ≡ b.radical → a.hydrogens ≡ b.hydrogens
+    → a.ring_bonds ≡ b.ring_bonds → a.substitution ≡ b.substitution → a.unsaturated ≡ b.unsaturated
     → a ≡ b
 same_test a b p q r s t u v =
     ap (λ (x : Kind). record { kind = x; charge = a.charge; radical = a.radical; hydrogens = a.hydrogens; ring_bonds = a.ring_bonds; substitution = a.substitution; unsaturated = a.unsaturated }) p
@@ -207,5 +208,5 @@ module _ (one_range : OneRange) where
 
   pub one_query : OneQuery
   one_query raw a b p q =
-      ap (λ (x : List TemplateView). record { templates = x; groups = a.groups }) (one_templates (tables_of raw) raw.root a.templates b.templates p.templates q.templates)
+      ap (λ (x : List TemplateView). record { templates = x; groups = a.groups }) (one_templates (query_tables raw) raw.root a.templates b.templates p.templates q.templates)
       ∙ ap (λ (x : List Group). record { templates = b.templates; groups = x }) (one_groups raw a.groups b.groups p.groups q.groups)

@@ -49,14 +49,23 @@ near_orders entries neighbours (near.Two y z) is o = rw is (record {
 })
 near_orders entries neighbours near.More is o = absurd o
 
-pub orders_near : (entries : List Pair) (neighbours : List ℕ) (n : Near) → IsNear neighbours n → 1 ≤ length neighbours → length neighbours ≤ 2 → OrdersNeighbours entries neighbours → OrdersNear entries n
+pub orders_near : (entries : List Pair) (neighbours : List ℕ) (n : Near) → IsNear neighbours n → 1 ≤ length neighbours
+    → length neighbours ≤ 2 → OrdersNeighbours entries neighbours → OrdersNear entries n
 orders_near entries neighbours near.Nothing is some two o = absurd (let none : length neighbours ≡ 0 = ap length is in omega (arith, none, some))
 orders_near entries neighbours (near.One y) is some two o =
     let p : OrdersNeighbours entries (y ∷ []) = rw is at o in
     (p.as_many, (All-head (Names entries) y [] p.named, p.places 1 (omega arith) (omega arith)))
 orders_near entries neighbours (near.Two y z) is some two o =
-    let p : OrdersNeighbours entries (y ∷ z ∷ []) = rw is at o in
-    (p.as_many, ((All-head (Names entries) y (z ∷ []) p.named, All-head (Names entries) z [] (All-tail (Names entries) y (z ∷ []) p.named)), (p.places 1 (omega arith) (omega arith), p.places 2 (omega arith) (omega arith))))
+    let p : OrdersNeighbours entries (y ∷ z ∷ []) = rw is at o in (
+      p.as_many,
+      (
+        (
+          All-head (Names entries) y (z ∷ []) p.named,
+          All-head (Names entries) z [] (All-tail (Names entries) y (z ∷ []) p.named),
+        ),
+        (p.places 1 (omega arith) (omega arith), p.places 2 (omega arith) (omega arith)),
+      ),
+    )
 orders_near entries neighbours near.More is some two o = absurd (omega (arith, is, two))
 
 -- ---- the sites of the properties behind
@@ -127,13 +136,17 @@ module _ (table : RawTable) (behind : ℕ) (sites : List Bool) (notes : List Nea
 
   none_behind : IsAtom (length table.atoms) order.atom → site_mark seen (natural order.atom) ≡ false → All (λ later. ¬ (OrdersSame order later)) (drop behind table.props)
   none_behind atom unseen k d below same =
-      let any : list_any (names_site (natural order.atom)) (drop behind table.props) ≡ true = list_any_at (names_site (natural order.atom)) (drop behind table.props) k d below (same_names order _ same) in
+      let any : list_any (names_site (natural order.atom)) (drop behind table.props) ≡ true =
+      list_any_at (names_site (natural order.atom)) (drop behind table.props) k d below (same_names order _ same) in
       true≢false (sym any ∙ sym (mark_is atom) ∙ unseen)
 
   unseen : IsAtom (length table.atoms) order.atom → All (λ later. ¬ (OrdersSame order later)) (drop behind table.props) → site_mark seen (natural order.atom) ≡ false
-  unseen atom none = mark_is atom ∙ list_any_none (names_site (natural order.atom)) (drop behind table.props) (λ k d below. by_test k d below (names_site (natural order.atom) (get_or (drop behind table.props) k d)) refl)
+  unseen atom none = mark_is atom ∙ list_any_none (names_site (natural order.atom)) (drop behind table.props)
+      (λ k d below. by_test k d below (names_site (natural order.atom) (get_or (drop behind table.props) k d)) refl)
     where
-      by_test : (k : ℕ) (d : Property) → k < length (drop behind table.props) → (b : Bool) → names_site (natural order.atom) (get_or (drop behind table.props) k d) ≡ b → names_site (natural order.atom) (get_or (drop behind table.props) k d) ≡ false
+      by_test : (k : ℕ) (d : Property) → k < length (drop behind table.props) → (b : Bool)
+          → names_site (natural order.atom) (get_or (drop behind table.props) k d) ≡ b
+          → names_site (natural order.atom) (get_or (drop behind table.props) k d) ≡ false
       by_test k d below true e = absurd (none k d below (names_same order _ (length table.atoms) atom e))
       by_test k d below false e = e
 
@@ -200,11 +213,19 @@ behind-wrong Demand i wrong = some (i + 1) refl (omega arith) (λ j above below.
 -- in front of all it is the least
 pub behind-all : (Demand : ℕ → Type 0) (found : Option ℕ) → Demand 0 → FindsBehind Demand 0 found → FindsLeast Demand found
 behind-all Demand found zero (none is all) = subst (FindsLeast Demand) (sym is) (λ item. at_zero Demand item zero (all item))
-behind-all Demand found zero (some item is behind before fails) = subst (FindsLeast Demand) (sym is) (record { lower = λ j below. at_zero Demand j zero (λ above. before j above below); fails = fails })
+behind-all Demand found zero (some item is behind before fails) =
+    subst (FindsLeast Demand) (sym is) (record {
+      lower = λ j below. at_zero Demand j zero
+          (λ above. before j above below);
+      fails = fails;
+    })
 
 -- one property more, by what is noted
-step : (table : RawTable) (j : ℕ) (p : Property) (sites : List Bool) (notes : List Near) (seen : List Bool) (right : Bool) (found found' : Option ℕ) → j < length table.props → p ≡ get_or table.props j p
-    → AreKnown table (j + 1) sites notes seen → IsTrue right ↔ IsOrderedBy sites notes seen p → found' ≡ cond right found (Some (j + 1)) → FindsBehind (HasSiteOrder table) (j + 1) found → FindsBehind (HasSiteOrder table) j found'
+step : (table : RawTable) (j : ℕ) (p : Property) (sites : List Bool) (notes : List Near) (seen : List Bool)
+    (right : Bool) (found found' : Option ℕ) → j < length table.props → p ≡ get_or table.props j p
+    → AreKnown table (j + 1) sites notes seen → IsTrue right ↔ IsOrderedBy sites notes seen p
+    → found' ≡ cond right found (Some (j + 1)) → FindsBehind (HasSiteOrder table) (j + 1) found
+    → FindsBehind (HasSiteOrder table) j found'
 step table j p sites notes seen right found found' below is known tested chosen behind =
     let same = ordered_is table (j + 1) sites notes seen known p in
     ⊎_elim
@@ -216,14 +237,21 @@ step table j p sites notes seen right found found' below is known tested chosen 
     rw named (behind-wrong (HasSiteOrder table) j (λ has. true≢false (sym (tested.1 (same.1 (of_item-at (IsOrdered table (drop (j + 1) table.props)) table.props j p below is has))) ∙ failed))))
     (cases_Bool right)
 
-pub order_step : (table : RawTable) (i : ℕ) (p : Property) (sites : List Bool) (notes : List Near) (seen : List Bool) (right : Bool) (found found' : Option ℕ) → 0 < i → i ≤ length table.props → p ≡ get_or table.props (i - 1) p
-    → AreKnown table i sites notes seen → IsTrue right ↔ IsOrderedBy sites notes seen p → found' ≡ cond right found (Some (i - 1 + 1)) → FindsBehind (HasSiteOrder table) i found → FindsBehind (HasSiteOrder table) (i - 1) found'
+pub order_step : (table : RawTable) (i : ℕ) (p : Property) (sites : List Bool) (notes : List Near) (seen : List Bool)
+    (right : Bool) (found found' : Option ℕ) → 0 < i → i ≤ length table.props → p ≡ get_or table.props (i - 1) p
+    → AreKnown table i sites notes seen → IsTrue right ↔ IsOrderedBy sites notes seen p
+    → found' ≡ cond right found (Some (i - 1 + 1)) → FindsBehind (HasSiteOrder table) i found
+    → FindsBehind (HasSiteOrder table) (i - 1) found'
 order_step table i p sites notes seen right found found' first few is known tested chosen behind =
     let place : i ≡ i - 1 + 1 = omega arith in
-    step table (i - 1) p sites notes seen right found found' (omega arith) is (subst (λ (n : ℕ). AreKnown table n sites notes seen) place known) tested chosen (subst (λ (n : ℕ). FindsBehind (HasSiteOrder table) n found) place behind)
+    step table (i - 1) p sites notes seen right found found' (omega arith) is
+    (subst (λ (n : ℕ). AreKnown table n sites notes seen) place known) tested chosen
+    (subst (λ (n : ℕ). FindsBehind (HasSiteOrder table) n found) place behind)
 
-pub seen_step : (props : List Property) (i : ℕ) (p : Property) (old new : List Bool) → 0 < i → i ≤ length props → p ≡ get_or props (i - 1) p → IsSeen p old new → AreSeen props i old → AreSeen props (i - 1) new
-seen_step props i p old new first few is marked seen = (let place : i ≡ i - 1 + 1 = omega arith in seen-more props (i - 1) p old new (omega arith) is marked (subst (λ (n : ℕ). AreSeen props n old) place seen))
+pub seen_step : (props : List Property) (i : ℕ) (p : Property) (old new : List Bool) → 0 < i → i ≤ length props
+    → p ≡ get_or props (i - 1) p → IsSeen p old new → AreSeen props i old → AreSeen props (i - 1) new
+seen_step props i p old new first few is marked seen = (let place : i ≡ i - 1 + 1 = omega arith
+    in seen-more props (i - 1) p old new (omega arith) is marked (subst (λ (n : ℕ). AreSeen props n old) place seen))
 
 -- behind the last property
 pub orders-none : (table : RawTable) → FindsBehind (HasSiteOrder table) (length table.props) None

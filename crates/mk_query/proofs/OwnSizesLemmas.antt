@@ -106,11 +106,14 @@ link_same template (Site atom group first second) by marks = refl
 cap_sum : (a b m n : ℕ) → a ≡ capped b → capped m ≡ capped n → capped (a + m) ≡ capped (b + n)
 cap_sum a b m n first second = omega (arith, first, second)
 
-pub links_more : (template : TemplateView) (i : ℕ) (d : Slot) (by : List Bool) (links added : ℕ) → i < length template.slots → Marks (length template.atoms) (takes template.bonds (get_or template.slots i d)) by
+pub links_more : (template : TemplateView) (i : ℕ) (d : Slot) (by : List Bool) (links added : ℕ)
+    → i < length template.slots → Marks (length template.atoms) (takes template.bonds (get_or template.slots i d)) by
     → capped added ≡ capped (link_size_by by (length template.atoms) (get_or template.slots i d))
     → links ≡ capped (sum_by (link_size template) (take i template.slots)) → capped (links + added) ≡ capped (sum_by (link_size template) (take (i + 1) template.slots))
 links_more template i d by links added below marks size before =
-    cap_sum links (sum_by (link_size template) (take i template.slots)) added (link_size template (get_or template.slots i d)) before (size ∙ ap capped (link_same template (get_or template.slots i d) by marks))
+    cap_sum links (sum_by (link_size template) (take i template.slots)) added
+    (link_size template (get_or template.slots i d)) before
+    (size ∙ ap capped (link_same template (get_or template.slots i d) by marks))
     ∙ ap capped (sym (ap (sum_by (link_size template)) (take_more template.slots i d below) ∙ sum_by_push (link_size template) (take i template.slots) (get_or template.slots i d)))
 
 -- ---- all slots

@@ -17,7 +17,7 @@ use Rattle.mk_ctab.specs.declared.raw.RawTable.{RawTable}
 use Rattle.mk_rgfile.specs.declared.raw_query.RawGroup.{RawGroup}
 use Rattle.mk_rgfile.specs.declared.raw_query.RawQuery.{RawQuery}
 use Rattle.mk_rgfile.specs.QueryFacts.{member_count, members_in}
-use Rattle.mk_query.specs.Compiled.{AreGroupsOf, AreTemplatesOf, IsTemplateOf, member_tables, members_from, tables_of}
+use Rattle.mk_query.specs.Compiled.{AreGroupsOf, AreTemplatesOf, IsTemplateOf, member_tables, members_from, query_tables}
 use Rattle.mk_query.specs.CompileFaults.{PassAcross, PassEach}
 use Rattle.mk_query.specs.InRange.{IsGroupInRange, IsQueryInRange, IsTableInRange}
 use Rattle.mk_query.specs.OwnSizes.{IsSized}
@@ -42,20 +42,22 @@ no_atoms [] none = refl
 no_atoms (atom ∷ atoms) none = absurd (omega (arith, none))
 
 -- every table is in range
-each_in_range : (raw : RawQuery) → IsQueryInRange raw → (t : ℕ) (table : RawTable) → slice_get (tables_of raw) t ≡ Some table → IsTableInRange table
+each_in_range : (raw : RawQuery) → IsQueryInRange raw → (t : ℕ) (table : RawTable) → slice_get (query_tables raw) t ≡ Some table → IsTableInRange table
 each_in_range raw is zero table at = (let same : raw.root ≡ table = cc in subst IsTableInRange same is.root)
 each_in_range raw is (suc t) table at =
     all_at IsTableInRange (member_tables raw.groups) t table (all_members IsTableInRange raw.groups (λ k d below. (is.groups k d below).members)) at
 
-module _ (raw : RawQuery) (is : IsQueryInRange raw) (passed : PassNested raw) (templates : List TemplateView) (are : AreTemplatesOf (tables_of raw) templates) where
+module _ (raw : RawQuery) (is : IsQueryInRange raw) (passed : PassNested raw) (templates : List TemplateView) (are : AreTemplatesOf (query_tables raw) templates) where
   -- what holds of the template of each table that passes
   pub all_templates : (P : TemplateView → Type 0) → ((table : RawTable) (template : TemplateView) → IsTableInRange table → HasPassed table → IsTemplateOf table template → P template) → All P templates
   all_templates P each k d below =
       let at = at_place templates k d below in
-      let inside : k < length (tables_of raw) = omega (arith, below, are.size) in
-      let table = get_or (tables_of raw) k raw.root in
-      let table_at = at_place (tables_of raw) k raw.root inside in
-      each table (get_or templates k d) (each_in_range raw is k table table_at) (record { groups = raw.groups; is_root = (k == 0); passes = pass_each raw passed k table table_at }) (are.each k table (get_or templates k d) table_at at)
+      let inside : k < length (query_tables raw) = omega (arith, below, are.size) in
+      let table = get_or (query_tables raw) k raw.root in
+      let table_at = at_place (query_tables raw) k raw.root inside in
+      each table (get_or templates k d) (each_in_range raw is k table table_at)
+      (record { groups = raw.groups; is_root = (k == 0); passes = pass_each raw passed k table table_at })
+      (are.each k table (get_or templates k d) table_at at)
 
   pub labels_in : All (λ template. All HasGroup template.slots) templates
   labels_in = all_templates (λ template. All HasGroup template.slots) (λ table template raw passed of. has_groups table template passed of)

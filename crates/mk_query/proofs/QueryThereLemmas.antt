@@ -23,7 +23,7 @@ use Rattle.mk_ctab.specs.Numbers.{IsWithin, natural}
 use Rattle.mk_logic.specs.RangeTexts.{IsRangeText}
 use Rattle.mk_rgfile.specs.declared.raw_query.RawQuery.{RawQuery}
 use Rattle.mk_query.specs.Checks.{IsElementName, IsQueryWord}
-use Rattle.mk_query.specs.Compiled.{HasElements, IsGroupOf, IsKindOf, IsLogicOf, IsQueryOf, IsTemplateOf, IsTestBy, IsTestOf, NameElements, kind_by, logic_for, members_of_group, no_test, of_any, of_any_heavy, of_element, of_hetero, of_list, points_of, slots_of, tables_of}
+use Rattle.mk_query.specs.Compiled.{HasElements, IsGroupOf, IsKindOf, IsLogicOf, IsQueryOf, IsTemplateOf, IsTestBy, IsTestOf, NameElements, kind_by, logic_for, members_of_group, no_test, of_any, of_any_heavy, of_element, of_hetero, of_list, points_of, table_slots, query_tables}
 use Rattle.mk_query.specs.CompileFaults.{PassEach}
 use Rattle.mk_query.specs.Drawn.{ElementList, by_numbers, by_symbols, is_site, last_list, list_in_force, lists_at, query_bonds, ring_bonds_of, substitutions_of, unsaturations_of, value_at}
 use Rattle.mk_query.specs.GroupMarks.{HasKnownLogic, IsKnownLogic}
@@ -131,7 +131,7 @@ no_line = record { symbol = []; charge = pos 0; hydrogens = pos 0; valence = pos
 template_there : (table : RawTable) → HasPassed table → (template : TemplateView) × IsTemplateOf table template
 template_there table passed =
     let tests = made (λ i test. (line : RawAtom) → slice_get table.atoms i ≡ Some line → IsTestOf table (i + 1) line test) (length table.atoms) (test_at table passed) in (
-      record { atoms = tests.0; bonds = query_bonds table.bonds; slots = slots_of table; points = points_of table },
+      record { atoms = tests.0; bonds = query_bonds table.bonds; slots = table_slots table; points = points_of table },
       record { atoms = record { size = tests.1; each = λ i line test line_at test_at. tests.2 i test test_at line line_at }; bonds = refl; slots = refl; points = refl },
     )
   where
@@ -148,14 +148,17 @@ template_there table passed =
 -- ---- groups
 
 -- the first `M  LOG` of a group is such as there are
-logic_here : (b : Bool) (first logic : LogicLine) (later : Option LogicLine) → cond b (Some first) later ≡ Some logic → IsKnownLogic first → (later ≡ Some logic → IsKnownLogic logic) → IsKnownLogic logic
+logic_here : (b : Bool) (first logic : LogicLine) (later : Option LogicLine) → cond b (Some first) later ≡ Some logic
+    → IsKnownLogic first → (later ≡ Some logic → IsKnownLogic logic) → IsKnownLogic logic
 logic_here true first logic later is known on = (let same : first ≡ logic = cc in subst IsKnownLogic same known)
 logic_here false first logic later is known on = on is
 
 logic_is : (g : ℕ) (props : List Property) (logic : LogicLine) → All HasKnownLogic props → logic_for g props ≡ Some logic → IsKnownLogic logic
 logic_is g [] logic all is = absurd cc
 logic_is g (kinds.Logic first ∷ props) logic all is =
-    logic_here (natural first.group == g) first logic (logic_for g props) is (All-head HasKnownLogic (kinds.Logic first) props all) (λ later. logic_is g props logic (All-tail HasKnownLogic (kinds.Logic first) props all) later)
+    logic_here (natural first.group == g) first logic (logic_for g props) is
+    (All-head HasKnownLogic (kinds.Logic first) props all)
+    (λ later. logic_is g props logic (All-tail HasKnownLogic (kinds.Logic first) props all) later)
 logic_is g (other ∷ props) logic all is = logic_is g props logic (All-tail HasKnownLogic other props all) is
 
 module _ (raw : RawQuery) (root : HasPassed raw.root) (g : ℕ) where
@@ -175,7 +178,7 @@ module _ (raw : RawQuery) (root : HasPassed raw.root) (g : ℕ) where
 
 pub query_there : (raw : RawQuery) → PassEach raw → (query : QueryView) × IsQueryOf raw query
 query_there raw passed =
-    let templates = made (λ t template. (table : RawTable) → slice_get (tables_of raw) t ≡ Some table → IsTemplateOf table template) (length (tables_of raw)) template_at in
+    let templates = made (λ t template. (table : RawTable) → slice_get (query_tables raw) t ≡ Some table → IsTemplateOf table template) (length (query_tables raw)) template_at in
     let groups = made (λ i group. IsGroupOf raw (i + 1) group) 32 (λ i below. group_there raw (record { groups = raw.groups; is_root = true; passes = passed 0 raw.root refl }) (i + 1)) in (
       record { templates = templates.0; groups = groups.0 },
       record {
@@ -187,9 +190,9 @@ query_there raw passed =
     one_table : (a b : RawTable) → Some a ≡ Some b → a ≡ b
     one_table a b e = cc
 
-    template_at : (t : ℕ) → t < length (tables_of raw) → (template : TemplateView) × ((table : RawTable) → slice_get (tables_of raw) t ≡ Some table → IsTemplateOf table template)
+    template_at : (t : ℕ) → t < length (query_tables raw) → (template : TemplateView) × ((table : RawTable) → slice_get (query_tables raw) t ≡ Some table → IsTemplateOf table template)
     template_at t below =
-        let table = get_or (tables_of raw) t raw.root in
-        let at : slice_get (tables_of raw) t ≡ Some table = slice_get-get_or (tables_of raw) t raw.root below in
+        let table = get_or (query_tables raw) t raw.root in
+        let at : slice_get (query_tables raw) t ≡ Some table = slice_get-get_or (query_tables raw) t raw.root below in
         let template = template_there table (record { groups = raw.groups; is_root = (t == 0); passes = passed t table at }) in
         (template.0, λ other other_at. subst (λ (x : RawTable). IsTemplateOf x template.0) (one_table table other (sym at ∙ other_at)) template.1)

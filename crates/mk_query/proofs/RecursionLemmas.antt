@@ -239,7 +239,9 @@ leads_chain query k t g u member back =
     let on = in_list (leads_on (leads query k) g) (slots_of query t) back in
     by_slot query k t g u on.0 member on.1 on.2
   where
-    by_slot : (query : QueryView) (k t g u : ℕ) (slot : Slot) → Contains (members_of query g) u → Contains (slots_of query t) slot → leads_on (leads query k) g slot ≡ true → (via : List ℕ) × IsChain query t via u
+    by_slot : (query : QueryView) (k t g u : ℕ) (slot : Slot) → Contains (members_of query g) u
+        → Contains (slots_of query t) slot → leads_on (leads query k) g slot ≡ true → (via : List ℕ)
+        × IsChain query t via u
     by_slot query k t g u (Link atom most from to) member at on = absurd cc
     by_slot query k t g u (Site atom group first second) member at on = by_label (group == g) refl
       where

@@ -78,7 +78,15 @@ slots_split query size template [] = refl
 slots_split query size template (slot ∷ slots) =
     let later = slots_split query size template slots in
     let here = one slot in
-    omega (arith, later, here, sum_by-cons (size_of_slot query size template) slot slots, sum_by-cons (link_size template) slot slots, sum_by-cons (site_size (λ g. greatest size (members_of query g))) slot slots)
+    omega (
+      arith,
+      later,
+      here,
+      sum_by-cons (size_of_slot query size template) slot slots,
+      sum_by-cons (link_size template) slot slots,
+      sum_by-cons (site_size (λ g. greatest size (members_of query g)))
+          slot slots,
+    )
   where
     one : (slot : Slot) → size_of_slot query size template slot ≡ link_size template slot + site_size (λ g. greatest size (members_of query g)) slot
     one (Link atom most from to) = omega arith

@@ -26,7 +26,9 @@ site_noted table sites x are =
     by_atom (Some atom) e = rw e refl
 
 -- what is noted of the neighbours of the atom at a place
-pub near_at : (table : RawTable) (marks : List Near) (i : ℕ) (n : Near) → i < length marks → AreMarks (λ x. IsNear (drawn_neighbours table x)) marks → n ≡ get_or marks i n → IsNear (drawn_neighbours table (i + 1)) n
+pub near_at : (table : RawTable) (marks : List Near) (i : ℕ) (n : Near) → i < length marks
+    → AreMarks (λ x. IsNear (drawn_neighbours table x)) marks → n ≡ get_or marks i n
+    → IsNear (drawn_neighbours table (i + 1)) n
 near_at table marks i n below are is = rw (← is) at (are i n below)
 
 -- ---- places
@@ -50,7 +52,12 @@ pub are_placed : (table : RawTable) (sites : List Bool) (neighbours : List ℕ) 
 unfolding are_apart
 are_placed table sites neighbours near.Nothing are is t = absurd (true≢false (sym t))
 are_placed table sites neighbours (near.One y) are is t =
-    rw is (record { some = omega arith; two = omega arith; apart = All-cons (λ z. IsTrue (is_site_at table z) → ⊥) y [] (no_site table sites y are t) (All-nil (λ z. IsTrue (is_site_at table z) → ⊥)) })
+    rw is (record {
+      some = omega arith;
+      two = omega arith;
+      apart = All-cons (λ z. IsTrue (is_site_at table z) → ⊥) y [] (no_site table sites y are t)
+          (All-nil (λ z. IsTrue (is_site_at table z) → ⊥));
+    })
 are_placed table sites neighbours (near.Two y z) are is t =
     let both = and_parts (not (site_mark sites y)) (not (site_mark sites z)) t in
     rw is (record {
@@ -62,7 +69,8 @@ are_placed table sites neighbours (near.Two y z) are is t =
     })
 are_placed table sites neighbours near.More are is t = absurd (true≢false (sym t))
 
-pub placed_apart : (table : RawTable) (sites : List Bool) (neighbours : List ℕ) (n : Near) → sites ≡ map is_site table.atoms → IsNear neighbours n → ArePlaced table neighbours → are_apart sites n ≡ true
+pub placed_apart : (table : RawTable) (sites : List Bool) (neighbours : List ℕ) (n : Near)
+    → sites ≡ map is_site table.atoms → IsNear neighbours n → ArePlaced table neighbours → are_apart sites n ≡ true
 unfolding are_apart
 placed_apart table sites neighbours near.Nothing are is placed = absurd (let some : 1 ≤ length neighbours = placed.some in let none : length neighbours ≡ 0 = ap length is in omega (arith, some, none))
 placed_apart table sites neighbours (near.One y) are is placed =

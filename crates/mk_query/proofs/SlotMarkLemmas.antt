@@ -22,7 +22,7 @@ use Rattle.mk_query.specs.declared.drawn.Near.TheVariants as near
 use Rattle.mk_query.specs.declared.linked_atoms.Linked.{Linked}
 use Rattle.mk_query.specs.declared.linked_atoms.Linked.TheVariants as linked
 use Rattle.mk_query.specs.declared.site_orders.SiteEnds.{SiteEnds}
-use Rattle.mk_query.specs.Compiled.{atom_placed, neighbours_by, order_for, order_of, ordered_neighbours, rising_neighbours, slot_at, slot_with, slots_at, slots_in, slots_of}
+use Rattle.mk_query.specs.Compiled.{atom_placed, neighbours_by, order_for, order_of, ordered_neighbours, rising_neighbours, slot_at, slot_with, slots_at, slots_in, table_slots}
 use Rattle.mk_query.specs.Drawn.{drawn_neighbours, is_site, labels_at, labels_of, links_at, neighbours_at, query_bonds}
 use Rattle.mk_query.specs.FirstFault.{link_atoms, site_labels, site_places}
 use Rattle.mk_query.specs.LastValues.{AreLastValues}
@@ -36,12 +36,20 @@ use Rattle.mk_query.proofs.RangeLemmas.{numbers_more}
 -- ---- the atom of a place
 
 -- the entry at hand gives the place
-pub placed_here : (k i : ℕ) (entries : List Pair) (d : Pair) → i < length entries → int_eq (get_or entries i d).value (pos k) ≡ true → atom_placed k (drop i entries) ≡ atom_placed k entries → natural (get_or entries i d).atom ≡ atom_placed k entries
-placed_here k i entries d below gives before = (let next = ap (atom_placed k) (drop_more entries i d below) in sym (ap (λ (b : Bool). cond b (natural (get_or entries i d).atom) (atom_placed k (drop (i + 1) entries))) gives) ∙ sym next ∙ before)
+pub placed_here : (k i : ℕ) (entries : List Pair) (d : Pair) → i < length entries
+    → int_eq (get_or entries i d).value (pos k) ≡ true → atom_placed k (drop i entries) ≡ atom_placed k entries
+    → natural (get_or entries i d).atom ≡ atom_placed k entries
+placed_here k i entries d below gives before = (let next = ap (atom_placed k) (drop_more entries i d below)
+    in sym (ap (λ (b : Bool). cond b (natural (get_or entries i d).atom) (atom_placed k (drop (i + 1) entries))) gives)
+    ∙ sym next ∙ before)
 
 -- it doesn't
-pub placed_on : (k i : ℕ) (entries : List Pair) (d : Pair) → i < length entries → int_eq (get_or entries i d).value (pos k) ≡ false → atom_placed k (drop i entries) ≡ atom_placed k entries → atom_placed k (drop (i + 1) entries) ≡ atom_placed k entries
-placed_on k i entries d below gives before = (let next = ap (atom_placed k) (drop_more entries i d below) in sym (ap (λ (b : Bool). cond b (natural (get_or entries i d).atom) (atom_placed k (drop (i + 1) entries))) gives) ∙ sym next ∙ before)
+pub placed_on : (k i : ℕ) (entries : List Pair) (d : Pair) → i < length entries
+    → int_eq (get_or entries i d).value (pos k) ≡ false → atom_placed k (drop i entries) ≡ atom_placed k entries
+    → atom_placed k (drop (i + 1) entries) ≡ atom_placed k entries
+placed_on k i entries d below gives before = (let next = ap (atom_placed k) (drop_more entries i d below)
+    in sym (ap (λ (b : Bool). cond b (natural (get_or entries i d).atom) (atom_placed k (drop (i + 1) entries))) gives)
+    ∙ sym next ∙ before)
 
 -- ---- orders
 
@@ -62,7 +70,9 @@ after_one x (kinds.Order order) later pair = by_test (eqb (natural order.atom) x
 after_one x p later pair = refl
 
 -- one property more, before the others
-ordered_more : (props : List Property) (i : ℕ) (d : Property) (start old new : List SiteEnds) → i < length props → AreOrdered (drop (i + 1) props) start old → AreOrdered (get_or props i d ∷ []) old new → AreOrdered (drop i props) start new
+ordered_more : (props : List Property) (i : ℕ) (d : Property) (start old new : List SiteEnds) → i < length props
+    → AreOrdered (drop (i + 1) props) start old → AreOrdered (get_or props i d ∷ []) old new
+    → AreOrdered (drop i props) start new
 ordered_more props i d start old new below others one = record {
   size = one.size ∙ others.size;
   each = λ k e inside.
@@ -72,13 +82,16 @@ ordered_more props i d start old new below others one = record {
       ∙ ap (λ (l : List Property). ends_after (order_for (k + 1) l) (get_or start k e)) (sym (drop_more props i d below));
 }
 
-pub ordered_back : (props : List Property) (i : ℕ) (p : Property) (start old new : List SiteEnds) → 0 < i → i ≤ length props → p ≡ get_or props (i - 1) p → AreOrdered (drop i props) start old → AreOrdered (p ∷ []) old new → AreOrdered (drop (i - 1) props) start new
+pub ordered_back : (props : List Property) (i : ℕ) (p : Property) (start old new : List SiteEnds) → 0 < i
+    → i ≤ length props → p ≡ get_or props (i - 1) p → AreOrdered (drop i props) start old → AreOrdered (p ∷ []) old new
+    → AreOrdered (drop (i - 1) props) start new
 ordered_back props i p start old new some most is others one =
     let place : i - 1 + 1 ≡ i = omega arith in
     ordered_more props (i - 1) p start old new (omega arith) (rw place others) (subst (λ (q : Property). AreOrdered (q ∷ []) old new) is one)
 
 -- the pair that an order gives
-pub ordered_one : (order : SiteOrder) (n : ℕ) (pair : SiteEnds) (old new : List SiteEnds) → n ≡ natural order.atom → pair ≡ ends_placed order.entries → IsPutAt n pair old new → AreOrdered (kinds.Order order ∷ []) old new
+pub ordered_one : (order : SiteOrder) (n : ℕ) (pair : SiteEnds) (old new : List SiteEnds) → n ≡ natural order.atom
+    → pair ≡ ends_placed order.entries → IsPutAt n pair old new → AreOrdered (kinds.Order order ∷ []) old new
 ordered_one order n pair old new names is put = record {
   size = put.size;
   each = λ k d below.
@@ -107,15 +120,19 @@ after_ends None neighbours pair are = are
 after_ends (Some entries) neighbours pair are = (refl, refl)
 
 -- what is noted of neighbours is their order, where they are one or two
-pub ordered_are : (table : RawTable) (marks : List Near) (start new : List SiteEnds) → start ≡ map ends_near marks → AreMarks (λ x. IsNear (neighbours_at (query_bonds table.bonds) x)) marks → AreOrdered table.props start new
+pub ordered_are : (table : RawTable) (marks : List Near) (start new : List SiteEnds) → start ≡ map ends_near marks
+    → AreMarks (λ x. IsNear (neighbours_at (query_bonds table.bonds) x)) marks → AreOrdered table.props start new
     → AreMarks (λ x pair. length (drawn_neighbours table x) ≤ 2 → AreEnds (ordered_neighbours table x) pair) new
 ordered_are table marks start new noted are ordered k d below few =
     let size : length start ≡ length marks = ap (λ (l : List SiteEnds). length l) noted ∙ length-map marks ends_near in
     let inside : k < length start = omega (arith, ordered.size) in
     let within : k < length marks = omega (arith, size, inside) in
     let was : get_or start k d ≡ ends_near (get_or marks k near.Nothing) = ap (λ (l : List SiteEnds). get_or l k d) noted ∙ get_or-map ends_near marks k near.Nothing d within in
-    let is : get_or new k d ≡ ends_after (order_for (k + 1) table.props) (ends_near (get_or marks k near.Nothing)) = ordered.each k d inside ∙ ap (λ (p : SiteEnds). ends_after (order_for (k + 1) table.props) p) was in
-    rw is (after_ends (order_for (k + 1) table.props) (drawn_neighbours table (k + 1)) (ends_near (get_or marks k near.Nothing)) (near_ends (drawn_neighbours table (k + 1)) (get_or marks k near.Nothing) (are k near.Nothing within) few))
+    let is : get_or new k d ≡ ends_after (order_for (k + 1) table.props) (ends_near (get_or marks k near.Nothing)) =
+    ordered.each k d inside ∙ ap (λ (p : SiteEnds). ends_after (order_for (k + 1) table.props) p) was in
+    rw is (after_ends (order_for (k + 1) table.props) (drawn_neighbours table (k + 1))
+    (ends_near (get_or marks k near.Nothing)) (near_ends (drawn_neighbours table (k + 1))
+    (get_or marks k near.Nothing) (are k near.Nothing within) few))
 
 pub ordered_size : (marks : List Near) (start new : List SiteEnds) → start ≡ map ends_near marks → length new ≡ length start → length new ≡ length marks
 ordered_size marks start new noted same = same ∙ ap (λ (l : List SiteEnds). length l) noted ∙ length-map marks ends_near
@@ -123,7 +140,9 @@ ordered_size marks start new noted same = same ∙ ap (λ (l : List SiteEnds). l
 -- ---- slots
 
 -- the slot by the labels of an atom without links
-by_labels : (x : ℕ) (labels : List ℤ) (site : Bool) (label : ℤ) (both : ℕ × ℕ) (pair : SiteEnds) → IsTrue site ↔ (labels ≢ []) → length labels ≤ 1 → label ≡ last_or (pos 0) labels → (IsTrue site → AreEnds both pair)
+by_labels : (x : ℕ) (labels : List ℤ) (site : Bool) (label : ℤ) (both : ℕ × ℕ) (pair : SiteEnds)
+    → IsTrue site ↔ (labels ≢ []) → length labels ≤ 1 → label ≡ last_or (pos 0) labels
+    → (IsTrue site → AreEnds both pair)
     → slot_by x linked.Nothing site label pair ≡ slot_with x [] labels both
 by_labels x [] true label both pair word few is ends = absurd (word.0 refl refl)
 by_labels x [] false label both pair word few is ends = refl
@@ -132,7 +151,8 @@ by_labels x (v ∷ []) false label both pair word few is ends = absurd (let yes 
 by_labels x (v ∷ w ∷ vs) site label both pair word few is ends = absurd (omega (arith, few))
 
 -- the slot by the links of an atom
-by_links : (table : RawTable) (x : ℕ) (links : List LinkEntry) (mark : Linked) (site : Bool) (label : ℤ) (labels : List ℤ) (both : ℕ × ℕ) (pair : SiteEnds) → IsLinked links mark → AreRightLinks table x links
+by_links : (table : RawTable) (x : ℕ) (links : List LinkEntry) (mark : Linked) (site : Bool) (label : ℤ)
+    (labels : List ℤ) (both : ℕ × ℕ) (pair : SiteEnds) → IsLinked links mark → AreRightLinks table x links
     → slot_by x linked.Nothing site label pair ≡ slot_with x [] labels both → slot_by x mark site label pair ≡ slot_with x links labels both
 by_links table x links linked.Nothing site label labels both pair is right none = rw is none
 by_links table x links (linked.One link) site label labels both pair is right none = rw is refl
@@ -156,7 +176,9 @@ slot_is table i line linked site label pair passed at are_links is_site_is is_la
     (λ yes. ends (placed (rw is_site_is at yes)).two))
 
 -- what is noted at the place of an atom
-pub slot_noted : (table : RawTable) (i : ℕ) (links : List Linked) (sites : List Bool) (labels : List ℤ) (ends : List SiteEnds) (mark : Linked) (site : Bool) (label : ℤ) (pair : SiteEnds) → HasPassed table → i < length table.atoms
+pub slot_noted : (table : RawTable) (i : ℕ) (links : List Linked) (sites : List Bool) (labels : List ℤ)
+    (ends : List SiteEnds) (mark : Linked) (site : Bool) (label : ℤ) (pair : SiteEnds) → HasPassed table
+    → i < length table.atoms
     → length links ≡ length table.atoms → AreLinked table.props links → sites ≡ map is_site table.atoms → length labels ≡ length table.atoms → AreLastValues labels_of table.props labels
     → length ends ≡ length table.atoms → AreMarks (λ x p. length (drawn_neighbours table x) ≤ 2 → AreEnds (ordered_neighbours table x) p) ends
     → mark ≡ get_or links i mark → site ≡ get_or sites i site → label ≡ get_or labels i label → pair ≡ get_or ends i pair → slot_by (i + 1) mark site label pair ≡ slot_at table (i + 1)
@@ -168,7 +190,9 @@ slot_noted table i links sites labels ends mark site label pair passed below lin
     let linked_so : IsLinked (links_at table (i + 1)) mark = subst (IsLinked (links_at table (i + 1))) (sym mark_is) (links_are i mark (omega (arith, below, links_size))) in
     let site_so : site ≡ is_site line =
     site_is ∙ ap (λ (l : List Bool). get_or l i site) sites_are ∙ get_or-map is_site table.atoms i line site below ∙ ap is_site (get_or_from_slice_get table.atoms i line line at) in
-    let label_so : label ≡ last_or (pos 0) (labels_at table (i + 1)) = label_is ∙ get_or_default labels i label (pos 0) (omega (arith, below, labels_size)) ∙ labels_are i (omega (arith, below, labels_size)) in
+    let label_so : label ≡ last_or (pos 0) (labels_at table (i + 1)) = label_is
+    ∙ get_or_default labels i label (pos 0) (omega (arith, below, labels_size))
+    ∙ labels_are i (omega (arith, below, labels_size)) in
     slot_is table i line mark site label pair passed at linked_so site_so label_so
     (λ few. (let P : SiteEnds → Type 0 = λ p. AreEnds (ordered_neighbours table (i + 1)) p in subst P (sym pair_is) (ends_are i pair (omega (arith, below, ends_size)) few))))
     (λ none. absurd (omega (arith, none.0, below)))
@@ -178,14 +202,18 @@ slot_noted table i links sites labels ends mark site label pair passed below lin
 
 pub slots_at-push : (table : RawTable) (atoms : List ℕ) (x : ℕ) → slots_at table (atoms ++ x ∷ []) ≡ slots_at table atoms ++ slots_in (slot_at table x)
 slots_at-push table [] x = append-nil (slots_in (slot_at table x))
-slots_at-push table (y ∷ atoms) x = ap (λ (l : List Slot). slots_in (slot_at table y) ++ l) (slots_at-push table atoms x) ∙ sym (append_assoc (slots_in (slot_at table y)) (slots_at table atoms) (slots_in (slot_at table x)))
+slots_at-push table (y ∷ atoms) x = ap (λ (l : List Slot). slots_in (slot_at table y) ++ l)
+    (slots_at-push table atoms x) ∙ sym (append_assoc (slots_in (slot_at table y)) (slots_at table atoms)
+    (slots_in (slot_at table x)))
 
 -- one atom more
-pub slots_more : (table : RawTable) (i : ℕ) (old new : List Slot) (slot : Option Slot) → slot ≡ slot_at table (i + 1) → new ≡ old ++ slots_in slot → old ≡ slots_at table (range_with_len 1 i) → new ≡ slots_at table (range_with_len 1 (i + 1))
+pub slots_more : (table : RawTable) (i : ℕ) (old new : List Slot) (slot : Option Slot) → slot ≡ slot_at table (i + 1)
+    → new ≡ old ++ slots_in slot → old ≡ slots_at table (range_with_len 1 i)
+    → new ≡ slots_at table (range_with_len 1 (i + 1))
 slots_more table i old new slot is put are =
     put ∙ ap (λ (s : Option Slot). old ++ slots_in s) is ∙ ap (λ (l : List Slot). l ++ slots_in (slot_at table (i + 1))) are
     ∙ sym (ap (slots_at table) (numbers_more i) ∙ slots_at-push table (range_with_len 1 i) (i + 1))
 
 -- behind the last atom
-pub slots_all : (table : RawTable) (i : ℕ) (slots : List Slot) → length table.atoms ≡ i → slots ≡ slots_at table (range_with_len 1 i) → slots ≡ slots_of table
+pub slots_all : (table : RawTable) (i : ℕ) (slots : List Slot) → length table.atoms ≡ i → slots ≡ slots_at table (range_with_len 1 i) → slots ≡ table_slots table
 slots_all table i slots all are = are ∙ ap (λ (n : ℕ). slots_at table (range_with_len 1 n)) (sym all)

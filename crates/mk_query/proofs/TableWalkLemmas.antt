@@ -19,7 +19,7 @@ use Rattle.mk_rgfile.specs.declared.raw_query.RawQuery.{RawQuery}
 use Rattle.mk_rgfile.specs.QueryFacts.{members_in}
 use Rattle.mk_query.specs.declared.checking.Fault.{Fault}
 use Rattle.mk_query.specs.declared.compile_fault.FaultAt.{FaultAt}
-use Rattle.mk_query.specs.Compiled.{AreTemplatesOf, IsTemplateOf, member_tables, tables_of}
+use Rattle.mk_query.specs.Compiled.{AreTemplatesOf, IsTemplateOf, member_tables, query_tables}
 use Rattle.mk_query.specs.CompileFaults.{IsFirstInTables, PassEach}
 use Rattle.mk_query.specs.FirstFault.{IsFirstFault, PassesAll}
 use Rattle.mk_query.specs.TableWalk.{IsFirstInMembers, PassNested}
@@ -140,8 +140,9 @@ walk_fault raw i group t fault at root passed number found =
       here = rw (place, no_root (length front + found.place)) found.here;
     }
   where
-    before : (rest : List RawTable) → member_tables raw.groups ≡ member_tables (take i raw.groups) ++ (group.members ++ rest) → fault.table ≡ suc (length (member_tables (take i raw.groups)) + found.place)
-        → (s : ℕ) (earlier : RawTable) → s < fault.table → slice_get (tables_of raw) s ≡ Some earlier → PassesAll raw.groups (s == 0) earlier
+    before : (rest : List RawTable) → member_tables raw.groups ≡ member_tables (take i raw.groups) ++
+        (group.members ++ rest) → fault.table ≡ suc (length (member_tables (take i raw.groups)) + found.place)
+        → (s : ℕ) (earlier : RawTable) → s < fault.table → slice_get (query_tables raw) s ≡ Some earlier → PassesAll raw.groups (s == 0) earlier
     before rest split place zero earlier below at = (let same : raw.root ≡ earlier = cc in subst (PassesAll raw.groups true) same root)
     before rest split place (suc s) earlier below at = rw (no_root s) (⊎_elim in_front in_group (cases_lt s (length (member_tables (take i raw.groups)))))
       where

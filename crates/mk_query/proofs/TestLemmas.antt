@@ -67,7 +67,9 @@ last_within x (pair ∷ pairs) d small all =
     elim (eqb (natural pair.atom) x) as (λ t. IsSmallNumber (last_or d (cond t (pair.value ∷ values_for x pairs) (values_for x pairs))))
     [ true ↦ last_within x pairs pair.value here later | false ↦ last_within x pairs d small later ]
 
-props_within : (x : ℕ) (select : Property → List Pair) (props : List Property) (d : ℤ) → IsSmallNumber d → All (λ p. All (λ pair. IsSmallNumber pair.value) (select p)) props → IsSmallNumber (last_or d (values_for x (pairs_by select props)))
+props_within : (x : ℕ) (select : Property → List Pair) (props : List Property) (d : ℤ) → IsSmallNumber d
+    → All (λ p. All (λ pair. IsSmallNumber pair.value) (select p)) props
+    → IsSmallNumber (last_or d (values_for x (pairs_by select props)))
 props_within x select [] d small all = small
 props_within x select (p ∷ props) d small all =
     let here : All (λ pair. IsSmallNumber pair.value) (select p) = all 0 p (omega arith) in
@@ -89,23 +91,30 @@ substitutions_small : (p : Property) → HasQueryValues p → All (λ pair. IsSm
 substitutions_small (kinds.Substitution pairs) h = λ k d below. widened (negsuc 1) (pos 6) (get_or pairs k d).value (omega (arith, ints)) (omega (arith, ints)) (h k d below)
 substitutions_small p h = none_small
 
-value_small : (table : RawTable) (select : Property → List Pair) (x : ℕ) → HasPassed table → ((p : Property) → HasQueryValues p → All (λ pair. IsSmallNumber pair.value) (select p)) → IsSmallNumber (value_at select table x)
+value_small : (table : RawTable) (select : Property → List Pair) (x : ℕ) → HasPassed table
+    → ((p : Property) → HasQueryValues p → All (λ pair. IsSmallNumber pair.value) (select p))
+    → IsSmallNumber (value_at select table x)
 value_small table select x passed small =
     props_within x select table.props (pos 0) (record { least = omega (arith, ints); most = omega (arith, ints) })
     (λ k d below. small (get_or table.props k d) (all_of (IsQueryProperty (length table.atoms)) table.props (passed.passes query_properties) k d below).values)
 
 -- the value at the place of an atom
-noted_is : (table : RawTable) (select : Property → List Pair) (values : List ℤ) (i : ℕ) (v : ℤ) → length values ≡ length table.atoms → AreLastValues select table.props values → i < length table.atoms → v ≡ get_or values i v
+noted_is : (table : RawTable) (select : Property → List Pair) (values : List ℤ) (i : ℕ) (v : ℤ)
+    → length values ≡ length table.atoms → AreLastValues select table.props values → i < length table.atoms
+    → v ≡ get_or values i v
     → v ≡ value_at select table (i + 1)
 noted_is table select values i v size are below is = is ∙ get_or_default values i v (pos 0) (omega (arith, size, below)) ∙ are i (omega (arith, size, below))
 
 pub ring_bonds_fit : (table : RawTable) (notes : AtomNotes) (i : ℕ) (v : ℤ) → HasPassed table → AreNotes table notes → i < length table.atoms → v ≡ get_or notes.ring_bonds.items i v → IsSmallNumber v
 ring_bonds_fit table notes i v passed are below is =
-    subst IsSmallNumber (sym (noted_is table ring_bonds_of notes.ring_bonds.items i v are.ring_bonds_size are.ring_bonds_are below is)) (value_small table ring_bonds_of (i + 1) passed ring_bonds_small)
+    subst IsSmallNumber (sym (noted_is table ring_bonds_of notes.ring_bonds.items i v are.ring_bonds_size
+    are.ring_bonds_are below is)) (value_small table ring_bonds_of (i + 1) passed ring_bonds_small)
 
-pub substitution_fits : (table : RawTable) (notes : AtomNotes) (i : ℕ) (v : ℤ) → HasPassed table → AreNotes table notes → i < length table.atoms → v ≡ get_or notes.substitutions.items i v → IsSmallNumber v
+pub substitution_fits : (table : RawTable) (notes : AtomNotes) (i : ℕ) (v : ℤ) → HasPassed table → AreNotes table notes
+    → i < length table.atoms → v ≡ get_or notes.substitutions.items i v → IsSmallNumber v
 substitution_fits table notes i v passed are below is =
-    subst IsSmallNumber (sym (noted_is table substitutions_of notes.substitutions.items i v are.substitutions_size are.substitutions_are below is)) (value_small table substitutions_of (i + 1) passed substitutions_small)
+    subst IsSmallNumber (sym (noted_is table substitutions_of notes.substitutions.items i v are.substitutions_size
+    are.substitutions_are below is)) (value_small table substitutions_of (i + 1) passed substitutions_small)
 
 -- ---- one atom
 
@@ -124,22 +133,28 @@ plain_symbol table i line passed at no_site = record {
 }
 
 -- what is noted of the list that is in force for it
-pub place_is : (table : RawTable) (notes : AtomNotes) (i : ℕ) (put : ListPlace) → AreNotes table notes → i < length table.atoms → put ≡ get_or notes.places.items i put → IsPlaceOf table.lists table.props put (list_in_force table (i + 1))
+pub place_is : (table : RawTable) (notes : AtomNotes) (i : ℕ) (put : ListPlace) → AreNotes table notes
+    → i < length table.atoms → put ≡ get_or notes.places.items i put
+    → IsPlaceOf table.lists table.props put (list_in_force table (i + 1))
 place_is table notes i put are below is =
     subst (λ (p : ListPlace). IsPlaceOf table.lists table.props p (list_in_force table (i + 1))) (sym is) (are.places_are i put (omega (arith, are.places_size, below)))
 
-pub known_place : (table : RawTable) (notes : AtomNotes) (i : ℕ) (line : RawAtom) (put : ListPlace) → HasPassed table → AreNotes table notes → slice_get table.atoms i ≡ Some line → put ≡ get_or notes.places.items i put
+pub known_place : (table : RawTable) (notes : AtomNotes) (i : ℕ) (line : RawAtom) (put : ListPlace) → HasPassed table
+    → AreNotes table notes → slice_get table.atoms i ≡ Some line → put ≡ get_or notes.places.items i put
     → AreKnownAt table.lists table.props put
 known_place table notes i line put passed are at is = known_at table i line put passed at (place_is table notes i put are (slice_get_within table.atoms i line at) is)
 
 -- the test of an atom that is no site
-pub drawn_is : (table : RawTable) (notes : AtomNotes) (i : ℕ) (line : RawAtom) (put : ListPlace) (electrons : Electrons) (ring_bonds substitution unsaturated : ℤ) (test : AtomTest) → HasPassed table → AreNotes table notes
+pub drawn_is : (table : RawTable) (notes : AtomNotes) (i : ℕ) (line : RawAtom) (put : ListPlace) (electrons : Electrons)
+    (ring_bonds substitution unsaturated : ℤ) (test : AtomTest) → HasPassed table → AreNotes table notes
     → slice_get table.atoms i ≡ Some line → is_site line ≡ false
     → put ≡ get_or notes.places.items i put → IsKindFor line.symbol table.lists table.props put test.kind
     → electrons ≡ get_or notes.electrons.items i electrons → test.charge ≡ electrons.charge → test.radical ≡ electrons.radical → pos test.hydrogens ≡ line.hydrogens
     → ring_bonds ≡ get_or notes.ring_bonds.items i ring_bonds → test.ring_bonds ≡ ring_bonds → substitution ≡ get_or notes.substitutions.items i substitution → test.substitution ≡ substitution
     → unsaturated ≡ get_or notes.unsaturations.items i unsaturated → test.unsaturated ≡ int_eq unsaturated (pos 1) → IsTestOf table (i + 1) line test
-drawn_is table notes i line put electrons ring_bonds substitution unsaturated test passed are at no_site place_so kind electrons_so charge radical hydrogens ring_bonds_so ring_bonds_are substitution_so substitution_are unsaturated_so unsaturated_are =
+drawn_is table notes i line put electrons ring_bonds substitution unsaturated test passed are at no_site place_so kind
+    electrons_so charge radical hydrogens ring_bonds_so ring_bonds_are substitution_so substitution_are unsaturated_so
+    unsaturated_are =
     let below = slice_get_within table.atoms i line at in
     let has = are.electrons_are.each i line electrons at (slice_get-get_or notes.electrons.items i electrons (omega (arith, are.electrons_are.size, below)) ∙ ap Some (sym electrons_so)) in
     let drawn : IsTestDrawn table (i + 1) line test = record {
@@ -149,7 +164,9 @@ drawn_is table notes i line put electrons ring_bonds substitution unsaturated te
       hydrogens = hydrogens;
       ring_bonds = ring_bonds_are ∙ noted_is table ring_bonds_of notes.ring_bonds.items i ring_bonds are.ring_bonds_size are.ring_bonds_are below ring_bonds_so;
       substitution = substitution_are ∙ noted_is table substitutions_of notes.substitutions.items i substitution are.substitutions_size are.substitutions_are below substitution_so;
-      unsaturated = unsaturated_are ∙ ap (λ (v : ℤ). int_eq v (pos 1)) (noted_is table unsaturations_of notes.unsaturations.items i unsaturated are.unsaturations_size are.unsaturations_are below unsaturated_so);
+      unsaturated = unsaturated_are ∙ ap (λ (v : ℤ). int_eq v (pos 1))
+          (noted_is table unsaturations_of notes.unsaturations.items i unsaturated are.unsaturations_size
+          are.unsaturations_are below unsaturated_so);
     } in
     subst (λ (b : Bool). IsTestBy b table (i + 1) line test) (sym no_site) drawn
 
@@ -168,7 +185,9 @@ pub tests_none : (table : RawTable) (tests : List AtomTest) → tests ≡ [] →
 tests_none table tests is = record { size = ap length is; each = λ i line d below. absurd (omega arith) }
 
 -- one atom more
-pub tests_more : (table : RawTable) (k : ℕ) (tests : List AtomTest) (test : AtomTest) → ((line : RawAtom) → slice_get table.atoms k ≡ Some line → IsTestOf table (k + 1) line test) → AreTestsTo table k tests
+pub tests_more : (table : RawTable) (k : ℕ) (tests : List AtomTest) (test : AtomTest)
+    → ((line : RawAtom) → slice_get table.atoms k ≡ Some line → IsTestOf table (k + 1) line test)
+    → AreTestsTo table k tests
     → AreTestsTo table (k + 1) (tests ++ test ∷ [])
 tests_more table k tests test made are = record {
   size = omega (arith, length_push tests test, are.size);

@@ -34,14 +34,19 @@ put-more ps qs old mid new first second = record {
 }
 
 -- one pair more
-pub pairs-more : (pairs : List Pair) (i : ℕ) (d : Pair) (old mid new : List ℤ) → i < length pairs → AreValuesPut (take i pairs) old mid → AreValuesPut (get_or pairs i d ∷ []) mid new → AreValuesPut (take (i + 1) pairs) old new
+pub pairs-more : (pairs : List Pair) (i : ℕ) (d : Pair) (old mid new : List ℤ) → i < length pairs
+    → AreValuesPut (take i pairs) old mid → AreValuesPut (get_or pairs i d ∷ []) mid new
+    → AreValuesPut (take (i + 1) pairs) old new
 pairs-more pairs i d old mid new below first second = rw (take_more pairs i d below) (put-more (take i pairs) (get_or pairs i d ∷ []) old mid new first second)
 
 pub pairs-all : (pairs : List Pair) (i : ℕ) (old new : List ℤ) → length pairs ≤ i → AreValuesPut (take i pairs) old new → AreValuesPut pairs old new
 pairs-all pairs i old new all put = rw (take_all i pairs all) at put
 
 -- one property more
-pub properties-more : (select : Property → List Pair) (props : List Property) (i : ℕ) (p : Property) (old mid new : List ℤ) → i < length props → p ≡ get_or props i p → AreValuesPut (pairs_by select (take i props)) old mid → AreValuesPut (select p) mid new → AreValuesPut (pairs_by select (take (i + 1) props)) old new
+pub properties-more : (select : Property → List Pair) (props : List Property) (i : ℕ) (p : Property)
+    (old mid new : List ℤ) → i < length props → p ≡ get_or props i p
+    → AreValuesPut (pairs_by select (take i props)) old mid → AreValuesPut (select p) mid new
+    → AreValuesPut (pairs_by select (take (i + 1) props)) old new
 properties-more select props i p old mid new below is first second =
     let next : take (i + 1) props ≡ take i props ++ p ∷ [] = take_more props i p below ∙ ap (λ (x : Property). take i props ++ x ∷ []) (sym is) in
     rw (next, pairs_by-push select (take i props) p) (put-more (pairs_by select (take i props)) (select p) old mid new first second)

@@ -21,7 +21,13 @@ use Rattle.mk_query.proofs.TableWalkLemmas.{members_count, members_more}
 -- the members of one group more
 pub members_in-more : (groups : List RawGroup) (i : ℕ) (group : RawGroup) → slice_get groups i ≡ Some group → members_in (take (i + 1) groups) ≡ members_in (take i groups) + length group.members
 members_in-more groups i group at =
-    omega (arith, members_count (take (i + 1) groups), members_count (take i groups), ap (λ (l : List RawTable). length l) (members_more groups i group at), length-append (member_tables (take i groups)) group.members)
+    omega (
+      arith,
+      members_count (take (i + 1) groups),
+      members_count (take i groups),
+      ap (λ (l : List RawTable). length l) (members_more groups i group at),
+      length-append (member_tables (take i groups)) group.members,
+    )
 
 -- no group has a number above 32
 no_number : (g n : ℕ) → n ≤ 32 → 32 < g → (n == g) ≡ false

@@ -16,7 +16,7 @@ use Rattle.mk_model.specs.Edges.{numbers_at}
 use Rattle.mk_model.specs.Templates.{hang_together, joins, query_edges}
 use Rattle.mk_query.specs.declared.atom_marks.Standing.{Standing}
 use Rattle.mk_query.specs.declared.blocks.LinkEnds.{LinkEnds}
-use Rattle.mk_query.specs.AtomMarks.{bears, is_link, is_site}
+use Rattle.mk_query.specs.AtomMarks.{bears, is_link, is_marked_site}
 
 -- ---- blocks
 
@@ -32,7 +32,7 @@ others link bonds = filter (λ bond. not (is_own link bond)) bonds
 pub record MayHold (standing : Standing) (link : LinkEnds) (y : ℕ) : Type 0 where
   pub not_from : y ≢ link.from
   pub not_to : y ≢ link.to
-  pub no_site : is_site standing y ≡ false
+  pub no_site : is_marked_site standing y ≡ false
   pub no_link : y ≢ link.atom → is_link standing y ≡ false
   pub no_first : bears standing 1 y ≡ false
   pub no_second : bears standing 2 y ≡ false

@@ -9,7 +9,7 @@
 --     HasQueryValues property          the values that a property gives are such as there are
 use Rattle.std.specs.Prelude.{◌≡◌, ◌≢◌, ◌⊎◌, ℕ, ℤ, pos, negsuc, List, All, codes, take}
 use Rattle.mk_text.specs.Items.{OfItem}
-use Rattle.mk_elements.specs.Symbols.{Names}
+use Rattle.mk_elements.specs.Symbols.{NamesElement}
 use Rattle.mk_props.specs.declared.property.LinkEntry.{LinkEntry}
 use Rattle.mk_props.specs.declared.property.Property.{Property}
 use Rattle.mk_props.specs.declared.property.Property.TheVariants as kinds
@@ -24,7 +24,7 @@ use Rattle.mk_ctab.specs.Values.{AreForAtoms, HaveValues}
 -- the bytes name an element
 pub record IsElementName (symbol : List ℕ) : Type 0 where
   pub element : ℕ
-  pub names : Names symbol element
+  pub names : NamesElement symbol element
 
 -- `L` for a list, `A` for any atom but hydrogen, `Q` for any but hydrogen and carbon, `*` for any
 -- atom, `R#` for a site

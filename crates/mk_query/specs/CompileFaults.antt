@@ -21,20 +21,20 @@ use Rattle.mk_rgfile.specs.QueryFacts.{member_count}
 use Rattle.mk_query.specs.declared.compile_fault.CompileFault.{CompileFault}
 use Rattle.mk_query.specs.declared.compile_fault.CompileFault.TheVariants as compile_fault
 use Rattle.mk_query.specs.declared.compile_fault.FaultAt.{FaultAt}
-use Rattle.mk_query.specs.Compiled.{IsQueryOf, tables_of}
+use Rattle.mk_query.specs.Compiled.{IsQueryOf, query_tables}
 use Rattle.mk_query.specs.FirstFault.{PassesAll, IsFirstFault}
 
 -- ---- in one table
 
 -- every table passes its own checks
 abbrev pub PassEach : RawQuery → Type 0
-PassEach raw = (t : ℕ) (table : RawTable) → slice_get (tables_of raw) t ≡ Some table → PassesAll raw.groups (t == 0) table
+PassEach raw = (t : ℕ) (table : RawTable) → slice_get (query_tables raw) t ≡ Some table → PassesAll raw.groups (t == 0) table
 
 -- the tables before that of the fault pass, and it has this fault
 pub record IsFirstInTables (raw : RawQuery) (fault : FaultAt) : Type 0 where
   pub table : RawTable
-  pub at : slice_get (tables_of raw) fault.table ≡ Some table
-  pub before : (t : ℕ) (earlier : RawTable) → t < fault.table → slice_get (tables_of raw) t ≡ Some earlier → PassesAll raw.groups (t == 0) earlier
+  pub at : slice_get (query_tables raw) fault.table ≡ Some table
+  pub before : (t : ℕ) (earlier : RawTable) → t < fault.table → slice_get (query_tables raw) t ≡ Some earlier → PassesAll raw.groups (t == 0) earlier
   pub here : IsFirstFault raw.groups (fault.table == 0) table (record { check = fault.check; item = fault.item })
 
 -- ---- across tables

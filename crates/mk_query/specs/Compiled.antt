@@ -1,9 +1,9 @@
 -- The query that a raw query means. Tables count from 0: the root, then the members in the order of
 -- the file.
---     tables_of raw              the tables, by their numbers
+--     query_tables raw           the tables, by their numbers
 --     members_of_group raw g     the numbers of the members of group g
 --     IsTestOf table x line test the test of atom x, of which this is the atom line
---     slots_of table             the sites and links of a table
+--     table_slots table          the sites and links of a table
 --     points_of table            its atoms with attachment point 1 and 2
 --     IsTemplateOf table template    the template of a table
 --     IsGroupOf raw g group      the group of a number
@@ -11,7 +11,7 @@
 use Rattle.std.specs.Prelude.{◌≡◌, ◌+◌, ◌==◌, nat_lt, ℕ, ℤ, pos, Bool, true, false, List, [], ◌∷◌, ◌++◌, Option, Some, None, slice_get, length, map, codes, if◌then◌else◌}
 use Rattle.std.specs.List.{filter, range_with_len}
 use Rattle.std.specs.Ordering.{int_eq}
-use Rattle.mk_elements.specs.Symbols.{Names}
+use Rattle.mk_elements.specs.Symbols.{NamesElement}
 use Rattle.mk_props.specs.declared.property.LinkEntry.{LinkEntry}
 use Rattle.mk_props.specs.declared.property.LogicLine.{LogicLine}
 use Rattle.mk_props.specs.declared.property.Pair.{Pair}
@@ -42,8 +42,8 @@ member_tables [] = []
 member_tables (group ∷ groups) = group.members ++ member_tables groups
 
 -- the root, and then the members in the order of the file
-abbrev pub tables_of : RawQuery → List RawTable
-tables_of raw = raw.root ∷ member_tables raw.groups
+abbrev pub query_tables : RawQuery → List RawTable
+query_tables raw = raw.root ∷ member_tables raw.groups
 
 -- the numbers of the members of group g, where the members of these groups count from `next` on
 abbrev pub members_from : ℕ → ℕ → List RawGroup → List ℕ
@@ -64,7 +64,7 @@ abbrev pub NameElements : List (List ℕ) → List ℕ → Type 0
 NameElements [] [] = Unit {0}
 NameElements [] (z ∷ elements) = ⊥
 NameElements (symbol ∷ symbols) [] = ⊥
-NameElements (symbol ∷ symbols) (z ∷ elements) = Names symbol z × NameElements symbols elements
+NameElements (symbol ∷ symbols) (z ∷ elements) = NamesElement symbol z × NameElements symbols elements
 
 -- the elements that a list has, in its order
 abbrev pub HasElements : ElementList → List ℕ → Type 0
@@ -84,7 +84,7 @@ kind_by list elements = if is_not_list list then NoneOf elements else OneOf elem
 -- for `L` the list; for `A` any element but hydrogen, for `Q` any but hydrogen and carbon, for `*`
 -- any.
 pub data IsKindOf (in_force : Option ElementList) (symbol : List ℕ) (kind : Kind) : Type 0 where
-  of_element : (z : ℕ) → Names symbol z → kind ≡ Element z → IsKindOf in_force symbol kind
+  of_element : (z : ℕ) → NamesElement symbol z → kind ≡ Element z → IsKindOf in_force symbol kind
   of_list : symbol ≡ codes "L" → (list : ElementList) → in_force ≡ Some list
       → (elements : List ℕ) → HasElements list elements → kind ≡ kind_by list elements → IsKindOf in_force symbol kind
   of_any_heavy : symbol ≡ codes "A" → kind ≡ NotHydrogen → IsKindOf in_force symbol kind
@@ -176,24 +176,24 @@ slots_at table [] = []
 slots_at table (x ∷ atoms) = slots_in (slot_at table x) ++ slots_at table atoms
 
 -- the numbers of a table's atoms
-abbrev pub atoms_of : RawTable → List ℕ
-atoms_of table = range_with_len 1 (length table.atoms)
+abbrev pub all_atoms : RawTable → List ℕ
+all_atoms table = range_with_len 1 (length table.atoms)
 
 -- the slots of a table, by rising atom
-abbrev pub slots_of : RawTable → List Slot
-slots_of table = slots_at table (atoms_of table)
+abbrev pub table_slots : RawTable → List Slot
+table_slots table = slots_at table (all_atoms table)
 
 -- ---- templates
 
 -- the atom with attachment point 1, where there is one, and behind it the atom with point 2
 abbrev pub points_of : RawTable → List ℕ
-points_of table = filter (bears_point table 1) (atoms_of table) ++ filter (bears_point table 2) (atoms_of table)
+points_of table = filter (bears_point table 1) (all_atoms table) ++ filter (bears_point table 2) (all_atoms table)
 
 -- the template of a table
 pub record IsTemplateOf (table : RawTable) (template : TemplateView) : Type 0 where
   pub atoms : AreTestsOf table template.atoms
   pub bonds : template.bonds ≡ query_bonds table.bonds
-  pub slots : template.slots ≡ slots_of table
+  pub slots : template.slots ≡ table_slots table
   pub points : template.points ≡ points_of table
 
 -- ---- groups
@@ -234,5 +234,5 @@ pub record AreGroupsOf (raw : RawQuery) (groups : List Group) : Type 0 where
 
 -- the query of a raw query
 pub record IsQueryOf (raw : RawQuery) (query : QueryView) : Type 0 where
-  pub templates : AreTemplatesOf (tables_of raw) query.templates
+  pub templates : AreTemplatesOf (query_tables raw) query.templates
   pub groups : AreGroupsOf raw query.groups

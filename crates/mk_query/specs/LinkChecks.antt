@@ -68,7 +68,7 @@ pub record IsPlainBut (table : RawTable) (x y : ℕ) : Type 0 where
 
 -- A link stands at least up to twice, between two of its neighbours, with bonds that are alike; and
 -- its block holds neither of them, no other slot and no point.
-pub record IsLinkAt (table : RawTable) (x : ℕ) (link : LinkEntry) : Type 0 where
+pub record CanBeLink (table : RawTable) (x : ℕ) (link : LinkEntry) : Type 0 where
   pub no_site : ¬ (IsTrue (is_site_at table x))
   pub twice : pos 2 ≤ℤ link.most
   pub from : IsAtom (length table.atoms) link.from
@@ -82,7 +82,7 @@ pub record IsLinkAt (table : RawTable) (x : ℕ) (link : LinkEntry) : Type 0 whe
 -- no link stands at an atom, or one that is right and no second
 abbrev pub AreRightLinks : RawTable → ℕ → List LinkEntry → Type 0
 AreRightLinks table x [] = Unit {0}
-AreRightLinks table x (link ∷ []) = IsLinkAt table x link
+AreRightLinks table x (link ∷ []) = CanBeLink table x link
 AreRightLinks table x (link ∷ second ∷ others) = ⊥
 
 -- where there is an atom of this number, no link stands there, or one that is right and no second

@@ -14,7 +14,7 @@ use Rattle.mk_query.specs.declared.atom_marks.Standing.{Standing}
 use Rattle.mk_query.specs.declared.blocks.LinkEnds.{LinkEnds}
 use Rattle.mk_query.specs.declared.linked_atoms.Linked.{Linked}
 use Rattle.mk_query.specs.declared.linked_atoms.Linked.TheVariants as linked
-use Rattle.mk_query.specs.AtomMarks.{is_site}
+use Rattle.mk_query.specs.AtomMarks.{is_marked_site}
 use Rattle.mk_query.specs.BlockSearch.{HasPlainBlock}
 
 -- the atom of a link and its two neighbours
@@ -43,7 +43,7 @@ pub record AreAlikeBonds (bonds : List QueryBond) (link : LinkEnds) : Type 0 whe
 -- the atom is no site, the link stands at least up to twice, and its two neighbours are atoms and
 -- differ
 pub record IsLinkable (atoms : ℕ) (standing : Standing) (x : ℕ) (link : LinkEntry) : Type 0 where
-  pub no_site : is_site standing x ≡ false
+  pub no_site : is_marked_site standing x ≡ false
   pub twice : pos 2 ≤ℤ link.most
   pub from : IsAtom atoms link.from
   pub to : IsAtom atoms link.to
@@ -56,11 +56,11 @@ pub record IsRightLink (atoms : ℕ) (bonds : List QueryBond) (standing : Standi
   pub plain : HasPlainBlock bonds standing (ends_of x link)
 
 -- where this is noted of an atom, no link names it, or one that can stand there
-abbrev pub IsRightBy : ℕ → List QueryBond → Standing → ℕ → Linked → Type 0
-IsRightBy atoms bonds standing x linked.Nothing = Unit {0}
-IsRightBy atoms bonds standing x (linked.One link) = IsRightLink atoms bonds standing x link
-IsRightBy atoms bonds standing x linked.More = ⊥
+abbrev pub IsRightLinkBy : ℕ → List QueryBond → Standing → ℕ → Linked → Type 0
+IsRightLinkBy atoms bonds standing x linked.Nothing = Unit {0}
+IsRightLinkBy atoms bonds standing x (linked.One link) = IsRightLink atoms bonds standing x link
+IsRightLinkBy atoms bonds standing x linked.More = ⊥
 
 -- no link names atom x, or one that can stand there, by what is noted of it
 abbrev pub AreRightBy : ℕ → List QueryBond → Standing → ℕ → Type 0
-AreRightBy atoms bonds standing x = IsRightBy atoms bonds standing x (slice_index_or standing.links.items (x - 1) linked.Nothing)
+AreRightBy atoms bonds standing x = IsRightLinkBy atoms bonds standing x (slice_index_or standing.links.items (x - 1) linked.Nothing)

@@ -52,7 +52,7 @@ pub record IsMarkedBy (property : Property) (item : ℕ) (old new : List ℕ) : 
 
 -- The `M  LOG` stands in the root and is the last of its group, its group is 1 to 32, its THEN
 -- group 0 to 32, RestH 0 or 1, and its range text is a range.
-pub record IsRightBy (is_root is_last : Bool) (logic : LogicLine) : Type 0 where
+pub record IsRightLogicBy (is_root is_last : Bool) (logic : LogicLine) : Type 0 where
   pub root : is_root ≡ true
   pub last : is_last ≡ true
   pub group : IsWithin (pos 1) (pos 32) logic.group
@@ -62,5 +62,5 @@ pub record IsRightBy (is_root is_last : Bool) (logic : LogicLine) : Type 0 where
 
 -- the demand on the property of a number, by the numbers of the last of each group
 abbrev pub IsLogicalBy : Bool → List ℕ → ℕ → Property → Type 0
-IsLogicalBy is_root last item (kinds.Logic logic) = IsRightBy is_root (slice_index last (natural logic.group) == item) logic
+IsLogicalBy is_root last item (kinds.Logic logic) = IsRightLogicBy is_root (slice_index last (natural logic.group) == item) logic
 IsLogicalBy is_root last item other = Unit {0}

@@ -5,7 +5,7 @@
 --                                                      that bear point 1 and 2
 use Rattle.std.specs.Prelude.{◌≡◌, ◌≢◌, ◌≤◌, ◌<◌, ◌⊎◌, ℕ, Bool, true, false}
 use Rattle.mk_query.specs.declared.atom_marks.Standing.{Standing}
-use Rattle.mk_query.specs.AtomMarks.{bears, is_link, is_site}
+use Rattle.mk_query.specs.AtomMarks.{bears, is_link, is_marked_site}
 
 -- the lowest of so many atoms that bears point p, and 0 where none does
 pub record IsFirstBearer (standing : Standing) (p atoms lowest : ℕ) : Type 0 where
@@ -16,7 +16,7 @@ pub record IsFirstBearer (standing : Standing) (p atoms lowest : ℕ) : Type 0 w
 -- Where the atom bears a point, it is no site, no link and no atom of the root, and it is the
 -- lowest that bears it; and where it bears point 2, some atom bears point 1.
 pub record IsPointedBy (is_root : Bool) (standing : Standing) (first second x : ℕ) : Type 0 where
-  pub free : (bears standing 1 x ≡ true) ⊎ (bears standing 2 x ≡ true) → (is_root ≡ false) × (is_site standing x ≡ false) × (is_link standing x ≡ false)
+  pub free : (bears standing 1 x ≡ true) ⊎ (bears standing 2 x ≡ true) → (is_root ≡ false) × (is_marked_site standing x ≡ false) × (is_link standing x ≡ false)
   pub one_alone : bears standing 1 x ≡ true → first ≡ x
   pub two_alone : bears standing 2 x ≡ true → second ≡ x
   pub has_first : bears standing 2 x ≡ true → first ≢ 0

@@ -1,7 +1,7 @@
 // What stands at the atoms of a table: how it is gathered, and what is asked of one atom.
 ghost use Rattle.std.specs.Prelude.{◌≡◌, ◌≤◌, ◌-◌, pos, IfOk, length, slice_index_or};
 ghost use Rattle.mk_query.specs.declared.linked_atoms.Linked.TheVariants.{Nothing};
-ghost use Rattle.mk_query.specs.AtomMarks.{AreStanding, HasPlace, bears, is_link, is_site};
+ghost use Rattle.mk_query.specs.AtomMarks.{AreStanding, HasPlace, bears, is_link, is_marked_site};
 ghost use Rattle.mk_query.specs.Drawn.{gives_point};
 
 use crate::drawn::sites_of;
@@ -37,9 +37,9 @@ pub fn standing_of(alloc: Global, table: &RawTable) -> Result<Standing, Memory>
 }
 
 /// Whether atom x is a site.
-pub fn is_site(standing: &Standing, x: u32) -> bool
+pub fn is_marked_site(standing: &Standing, x: u32) -> bool
     requires { HasPlace standing.now x }
-    ensures { result ≡ is_site standing.now x }
+    ensures { result ≡ is_marked_site standing.now x }
 {
     standing.sites[x as usize - 1]
 }

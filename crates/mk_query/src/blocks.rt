@@ -6,10 +6,10 @@
 ghost use Rattle.std.specs.Prelude.{◌≡◌, ◌≤◌, ◌<◌, ◌+◌, ◌-◌, ◌↔◌, ◌||◌, false, true, IfOk, IsTrue, OnOk, length, slice_index, slice_index_or};
 ghost use Rattle.mk_model.specs.Edges.{AreBetween, rows_of};
 ghost use Rattle.mk_model.specs.Templates.{hang_together, joins, query_edges};
-ghost use Rattle.mk_query.specs.AtomMarks.{HasEachPlace, HasPlace, bears, is_link, is_site};
+ghost use Rattle.mk_query.specs.AtomMarks.{HasEachPlace, HasPlace, bears, is_link, is_marked_site};
 ghost use Rattle.mk_query.specs.BlockSearch.{AreNumbersOf, HasPlainBlock, IsBlock, IsLonger, IsReached, KeepReached, LeadsOn, MayHold, is_own, is_reached, others, unreached};
 
-use crate::atom_marks::{Standing, bears, is_link, is_site};
+use crate::atom_marks::{Standing, bears, is_link, is_marked_site};
 use crate::drawn_bonds::joins;
 use mk_model::{Neighbours, QueryBond};
 use mk_text::Memory;
@@ -118,7 +118,7 @@ fn may_hold(standing: &Standing, link: LinkEnds, y: u32) -> bool
 {
     y != link.from
         && y != link.to
-        && !is_site(standing, y)
+        && !is_marked_site(standing, y)
         && is_no_other_link(standing, link, y)
         && !bears(standing, 1, y)
         && !bears(standing, 2, y)

@@ -2,7 +2,7 @@
 ghost use Rattle.std.specs.Prelude.{◌≡◌, ◌≤◌, ◌<◌, ◌+◌, ◌==◌, ◌↔◌, All, IfOk, IsTrue, length};
 ghost use Rattle.mk_text.specs.Items.{FindsLeast, OfItem};
 ghost use Rattle.mk_model.specs.Edges.{touches};
-ghost use Rattle.mk_ctab.specs.Bonds.{edge_of};
+ghost use Rattle.mk_ctab.specs.Bonds.{raw_edge};
 ghost use Rattle.mk_ctab.specs.Numbers.{natural};
 ghost use Rattle.mk_query.specs.Checks.{HasQueryType, IsQueryBond, LeavesFewBonds};
 ghost use Rattle.mk_query.specs.Searches.{AreCounted, HasRoom, least_of};
@@ -83,7 +83,7 @@ fn first_crowding_bond(alloc: Global, atoms: u32, bonds: &[RawBond]) -> Result<O
 fn count_bond(counts: &mut Vec<u32>, bond: &RawBond)
     requires { All (λ count. count ≤ 20) counts.old.items }
     ensures size { length counts.new.items ≡ length counts.old.items }
-    ensures counted { AreCounted (λ k. touches (k + 1) (edge_of bond.now)) counts.old.items counts.new.items }
+    ensures counted { AreCounted (λ k. touches (k + 1) (raw_edge bond.now)) counts.old.items counts.new.items }
 {
     let first = first_end(bond);
     let second = second_end(bond);

@@ -1,6 +1,6 @@
 // The kinds of atoms that lists of elements tell.
 ghost use Rattle.std.specs.Prelude.{◌≡◌, pos, All, IfOk, map};
-ghost use Rattle.mk_elements.specs.Symbols.{Names};
+ghost use Rattle.mk_elements.specs.Symbols.{NamesElement};
 ghost use Rattle.mk_ctab.specs.Numbers.{IsWithin, natural};
 ghost use Rattle.mk_query.specs.Checks.{IsElementName};
 ghost use Rattle.mk_query.specs.Compiled.{NameElements};
@@ -90,7 +90,7 @@ fn named_elements(alloc: Global, symbols: &Symbols) -> Result<Elements, Memory>
 
 fn named_element(symbol: &[u8]) -> u8
     requires { IsElementName symbol.now }
-    ensures { Names symbol.now result }
+    ensures { NamesElement symbol.now result }
 {
     number_of(symbol).unwrap()
 }

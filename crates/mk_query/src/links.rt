@@ -10,7 +10,7 @@ ghost use Rattle.mk_query.specs.Checks.{IsQueryBond};
 ghost use Rattle.mk_query.specs.LinkChecks.{HasLink};
 ghost use Rattle.mk_query.specs.LinkSearch.{AreAlikeBonds, AreRightBy, HasLike, IsLike, IsLinkable, IsRightLink};
 
-use crate::atom_marks::{Standing, is_site, links_at, standing_of};
+use crate::atom_marks::{Standing, is_marked_site, links_at, standing_of};
 use crate::blocks::{LinkEnds, has_plain_block, numbers_of};
 use crate::drawn_bonds::{edges_of, joins, query_bonds_of};
 use crate::linked_atoms::Linked;
@@ -112,7 +112,7 @@ fn is_linkable(atoms: u32, standing: &Standing, x: u32, link: &LinkEntry) -> boo
     requires { HasPlace standing.now x }
     ensures { IsTrue result ↔ IsLinkable atoms standing.now x link.now }
 {
-    !is_site(standing, x)
+    !is_marked_site(standing, x)
         && is_twice(link)
         && has_from(atoms, link)
         && has_to(atoms, link)

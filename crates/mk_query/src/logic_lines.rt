@@ -4,7 +4,7 @@ ghost use Rattle.mk_text.specs.Items.{FindsLeast};
 ghost use Rattle.mk_model.specs.declared.group.Interval.{Interval};
 ghost use Rattle.mk_ctab.specs.Numbers.{IsWithin, natural};
 ghost use Rattle.mk_logic.specs.RangeTexts.{IsRangeText};
-ghost use Rattle.mk_query.specs.LogicSearch.{AreLastLogics, HasLogicIn, IsLogicalBy, IsMarkedBy, IsRightBy, names_group};
+ghost use Rattle.mk_query.specs.LogicSearch.{AreLastLogics, HasLogicIn, IsLogicalBy, IsMarkedBy, IsRightLogicBy, names_group};
 
 use mk_ctab::{is_within, natural};
 use mk_logic::read_range;
@@ -97,7 +97,7 @@ fn is_right_logic(
     is_last: bool,
     logic: &LogicLine,
 ) -> Result<bool, Memory>
-    ensures { IfOk result (λ right. IsTrue right ↔ IsRightBy is_root is_last logic.now) }
+    ensures { IfOk result (λ right. IsTrue right ↔ IsRightLogicBy is_root is_last logic.now) }
 {
     let range = has_range(alloc, logic)?;
     Ok(is_root && is_last && has_group(logic) && has_then_group(logic) && has_rest(logic) && range)

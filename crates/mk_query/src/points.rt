@@ -1,11 +1,11 @@
 // What is demanded of attachment points.
 ghost use Rattle.std.specs.Prelude.{◌≡◌, ◌≢◌, ◌≤◌, ◌↔◌, false, true, IfOk, IsTrue, length};
 ghost use Rattle.mk_text.specs.Items.{FindsLeast};
-ghost use Rattle.mk_query.specs.AtomMarks.{HasEachPlace, HasPlace, bears, is_link, is_site};
+ghost use Rattle.mk_query.specs.AtomMarks.{HasEachPlace, HasPlace, bears, is_link, is_marked_site};
 ghost use Rattle.mk_query.specs.LinkChecks.{HasPoint};
 ghost use Rattle.mk_query.specs.PointSearch.{IsFirstBearer, IsPointedBy};
 
-use crate::atom_marks::{Standing, bears, is_link, is_site, standing_of};
+use crate::atom_marks::{Standing, bears, is_link, is_marked_site, standing_of};
 use mk_ctab::RawTable;
 use mk_text::Memory;
 use std::alloc::Global;
@@ -57,7 +57,7 @@ fn is_pointed(is_root: bool, standing: &Standing, first: u32, second: u32, x: u3
     if !one && !two {
         return true;
     }
-    is_free(is_root, is_site(standing, x), is_link(standing, x))
+    is_free(is_root, is_marked_site(standing, x), is_link(standing, x))
         && is_alone(one, first, x)
         && is_alone(two, second, x)
         && has_first(two, first)

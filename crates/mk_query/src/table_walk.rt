@@ -3,7 +3,7 @@ ghost use Rattle.std.specs.Prelude.{◌≡◌, ◌≤◌, ◌<◌, ◌+◌, ◌+
 ghost use Rattle.mk_ctab.specs.declared.raw.RawTable.{RawTable as Table};
 ghost use Rattle.mk_rgfile.specs.declared.raw_query.RawGroup.{RawGroup as Group};
 ghost use Rattle.mk_rgfile.specs.QueryFacts.{member_count};
-ghost use Rattle.mk_query.specs.Compiled.{AreTemplatesOf, tables_of};
+ghost use Rattle.mk_query.specs.Compiled.{AreTemplatesOf, query_tables};
 ghost use Rattle.mk_query.specs.FirstFault.{PassesAll};
 ghost use Rattle.mk_query.specs.InRange.{HasFewProperties, HaveFewProperties, IsQueryInRange, IsTableInRange};
 ghost use Rattle.mk_query.specs.Marks.{AreServed};
@@ -105,7 +105,7 @@ fn fault_at(table: u32, fault: Fault) -> FaultAt
 pub fn templates_of(alloc: Global, raw: &RawQuery) -> Result<Vec<Template>, Memory>
     requires in_range { IsQueryInRange raw.now }
     requires passed { PassNested raw.now }
-    ensures { IfOk result (λ templates. AreTemplatesOf (tables_of raw.now) templates.items) }
+    ensures { IfOk result (λ templates. AreTemplatesOf (query_tables raw.now) templates.items) }
 {
     let groups = raw.groups.as_slice();
     let mut templates = Vec::with_capacity(alloc, 1)?;

@@ -1,6 +1,6 @@
 // The slots of a template, in one pass over the atoms.
 ghost use Rattle.std.specs.Prelude.{◌≡◌, ◌≤◌, ◌++◌, IfOk, OnOk, length};
-ghost use Rattle.mk_query.specs.Compiled.{slots_in, slots_of};
+ghost use Rattle.mk_query.specs.Compiled.{slots_in, table_slots};
 ghost use Rattle.mk_query.specs.Passed.{HasPassed};
 ghost use Rattle.mk_query.specs.SlotMarks.{slot_by};
 
@@ -14,10 +14,10 @@ use mk_text::Memory;
 use std::alloc::Global;
 
 /// The sites and links of a table, by rising atom.
-pub fn slots_of(alloc: Global, table: &RawTable) -> Result<Vec<Slot>, Memory>
+pub fn table_slots(alloc: Global, table: &RawTable) -> Result<Vec<Slot>, Memory>
     requires few { length table.now.atoms ≤ 999 }
     requires passed { HasPassed table.now }
-    ensures { IfOk result (λ slots. slots.items ≡ slots_of table.now) }
+    ensures { IfOk result (λ slots. slots.items ≡ table_slots table.now) }
 {
     let lines = table.atoms.as_slice();
     let atoms = lines.len() as u32;

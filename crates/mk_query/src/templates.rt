@@ -6,7 +6,7 @@ ghost use Rattle.mk_query.specs.Passed.{HasPassed};
 use crate::atom_tests::tests_of;
 use crate::drawn_bonds::query_bonds_of;
 use crate::template_points::points_of;
-use crate::template_slots::slots_of;
+use crate::template_slots::table_slots;
 use mk_ctab::RawTable;
 use mk_model::Template;
 use mk_text::Memory;
@@ -20,7 +20,7 @@ pub fn template_of(alloc: Global, table: &RawTable) -> Result<Template, Memory>
 {
     let atoms = tests_of(alloc, table)?;
     let bonds = query_bonds_of(alloc, table.bonds.as_slice())?;
-    let slots = slots_of(alloc, table)?;
+    let slots = table_slots(alloc, table)?;
     let points = points_of(alloc, table)?;
     Ok(Template::of(atoms, bonds, slots, points))
 }

@@ -220,7 +220,9 @@ from_rgfile lines query h =
     }
 
 -- and of a molfile, by its header lines
-from_molfile_at : (lines header_lines table_lines blank_lines : List Line) (root : RawTable) → lines ≡ (header_lines ++ table_lines) ++ blank_lines → length header_lines ≡ 3 → FirstIs begins_mdl false (header_lines ++ table_lines) → IsTable table_lines root → AreBlankLines blank_lines
+from_molfile_at : (lines header_lines table_lines blank_lines : List Line) (root : RawTable)
+    → lines ≡ (header_lines ++ table_lines) ++ blank_lines → length header_lines ≡ 3
+    → FirstIs begins_mdl false (header_lines ++ table_lines) → IsTable table_lines root → AreBlankLines blank_lines
     → query_part.is lines (query_with root [])
 from_molfile_at lines [] table_lines blank_lines root whole three first table blanks = absurd (omega arith)
 from_molfile_at lines (line ∷ others) table_lines blank_lines root whole three first table blanks = record {

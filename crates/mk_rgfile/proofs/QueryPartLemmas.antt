@@ -147,8 +147,11 @@ to_group lines group h =
     let further = first.second.is in
     let end = further.last in
     let first_is : first.back ≡ further.front ++ end.line ∷ [] = further.whole ∙ ap (λ (x : List Line). further.front ++ x) end.whole in
-    let members_are : n.back ≡ (first.front ++ further.front) ++ end.line ∷ [] = first.whole ∙ ap (λ (x : List Line). first.front ++ x) first_is ∙ sym (append_assoc first.front further.front (end.line ∷ [])) in
-    let number_is : h.back ≡ n.first.line ∷ ((first.front ++ further.front) ++ end.line ∷ []) = n.whole ∙ ap (λ (x : List Line). x ++ n.back) n.first.whole ∙ ap (λ (x : List Line). n.first.line ∷ x) members_are in
+    let members_are : n.back ≡ (first.front ++ further.front) ++ end.line ∷ [] = first.whole
+    ∙ ap (λ (x : List Line). first.front ++ x) first_is
+    ∙ sym (append_assoc first.front further.front (end.line ∷ [])) in
+    let number_is : h.back ≡ n.first.line ∷ ((first.front ++ further.front) ++ end.line ∷ []) = n.whole
+    ∙ ap (λ (x : List Line). x ++ n.back) n.first.whole ∙ ap (λ (x : List Line). n.first.line ∷ x) members_are in
     let members = members_with first.middle first.second.first in
     let made : IsGroup lines (group_with n.middle members) = record {
       open_line = h.first.line;
@@ -214,7 +217,10 @@ group_due_to lines d = elim d [
         | inl e ↦ absurd e
         | inr n ↦
             let numbered : (others : List Line) → n.back ≡ others → lines ≡ d.first.line ∷ n.first.line ∷ others =
-            λ others e. d.whole ∙ ap (λ (x : List Line). x ++ d.back) d.first.whole ∙ ap (λ (x : List Line). d.first.line ∷ x) (n.whole ∙ ap (λ (x : List Line). x ++ n.back) n.first.whole ∙ ap (λ (x : List Line). n.first.line ∷ x) e) in
+            λ others e. d.whole ∙ ap (λ (x : List Line). x ++ d.back) d.first.whole
+            ∙ ap (λ (x : List Line). d.first.line ∷ x)
+            (n.whole ∙ ap (λ (x : List Line). x ++ n.back) n.first.whole
+            ∙ ap (λ (x : List Line). n.first.line ∷ x) e) in
             elim n.second [
               | inl k ↦ record {
                 open_line = d.first.line;
@@ -239,7 +245,10 @@ group_due_to lines d = elim d [
                       table_line = k.line;
                       number = n.middle;
                       before = m.middle ∷ u.values;
-                      whole = numbered ((m.front ++ u.front) ++ k.line ∷ []) (m.whole ∙ ap (λ (x : List Line). m.front ++ x) (u.whole ∙ ap (λ (x : List Line). u.front ++ x) k.whole) ∙ sym (append_assoc m.front u.front (k.line ∷ [])));
+                      whole = numbered ((m.front ++ u.front) ++ k.line ∷ [])
+                          (m.whole ∙ ap (λ (x : List Line). m.front ++ x)
+                          (u.whole ∙ ap (λ (x : List Line). u.front ++ x) k.whole)
+                          ∙ sym (append_assoc m.front u.front (k.line ∷ [])));
                       opens = passes (is_keyword (codes "$RGP")) d.first.line d.middle d.first.spells;
                       number_is = number_found n.first.line n.middle n.first.spells;
                       members = (m.front, u.front, refl, m.first, u.items);
@@ -252,7 +261,8 @@ group_due_to lines d = elim d [
 ]
 
 -- and only there, by the members before it
-members_due : (lines : List Line) (table_line : Line) (before : List RawTable) → Series IsTableBlock lines before → is_keyword (codes "$CTAB") table_line ≡ true → members_part.due (lines ++ table_line ∷ [])
+members_due : (lines : List Line) (table_line : Line) (before : List RawTable) → Series IsTableBlock lines before
+    → is_keyword (codes "$CTAB") table_line ≡ true → members_part.due (lines ++ table_line ∷ [])
 members_due lines table_line [] none h = inl (record { line = table_line; whole = ap (λ (x : List Line). x ++ table_line ∷ []) none; is = h })
 members_due lines table_line (first ∷ others) i h = inr (record {
   front = i.0;

@@ -95,7 +95,9 @@ module _ (lines : List Line) (from : ℕ) where
 
     module _ (lt : at < length lines) where
       -- one more is read
-      pub members_more : (member : RawTable) (next : ℕ) → is_keyword (codes "$END RGP") (get_or lines at []) ≡ false → at < next → TakesLines lines next member (block_at (drop at lines)) → MembersLeft lines from (members ++ member ∷ []) next
+      pub members_more : (member : RawTable) (next : ℕ) → is_keyword (codes "$END RGP") (get_or lines at []) ≡ false
+          → at < next → TakesLines lines next member (block_at (drop at lines))
+          → MembersLeft lines from (members ++ member ∷ []) next
       members_more member next goes ahead takes = record {
         behind = so_far.behind;
         first = so_far.first;
@@ -103,23 +105,31 @@ module _ (lines : List Line) (from : ℕ) where
         are = ap (λ (ts : List RawTable). ts ++ member ∷ []) so_far.are;
         ahead = omega (arith, so_far.ahead);
         read = so_far.read;
-        left = until_left_item exact-table_block (exact-keyword (codes "$END RGP")) shows-table_block (shows-keyword (codes "$END RGP")) lines so_far.behind so_far.others at next [] member lt goes so_far.left takes;
+        left = until_left_item exact-table_block (exact-keyword (codes "$END RGP")) shows-table_block
+            (shows-keyword (codes "$END RGP")) lines so_far.behind so_far.others at next [] member lt goes so_far.left
+            takes;
       }
 
       -- one more fails
-      pub members_fail : (fault : TableFault) → is_keyword (codes "$END RGP") (get_or lines at []) ≡ false → Fails lines fault (block_at (drop at lines)) → Fails lines fault (members_part.read (drop from lines))
+      pub members_fail : (fault : TableFault) → is_keyword (codes "$END RGP") (get_or lines at []) ≡ false
+          → Fails lines fault (block_at (drop at lines)) → Fails lines fault (members_part.read (drop from lines))
       members_fail fault goes h =
-          let fails = until_fails exact-table_block (exact-keyword (codes "$END RGP")) shows-table_block (shows-keyword (codes "$END RGP")) lines so_far.behind so_far.others at [] fault lt goes so_far.left h in
+          let fails = until_fails exact-table_block (exact-keyword (codes "$END RGP")) shows-table_block
+          (shows-keyword (codes "$END RGP")) lines so_far.behind so_far.others at [] fault lt goes so_far.left h in
           subst (Fails lines fault) (sym whole) (fails_first lines fault (further_part.read (drop so_far.behind lines)) (λ v. Took (members_with so_far.first v)) fails)
 
       -- the end
       pub members_end : is_keyword (codes "$END RGP") (get_or lines at []) ≡ true → TakesLines lines (at + 1) members (members_part.read (drop from lines))
       members_end ends =
           let last = keyword_read (codes "$END RGP") lines at lt ends in
-          let all = until_left_end exact-table_block (exact-keyword (codes "$END RGP")) shows-table_block (shows-keyword (codes "$END RGP")) lines so_far.behind so_far.others at (at + 1) [] tt lt ends so_far.left last in
+          let all = until_left_end exact-table_block (exact-keyword (codes "$END RGP")) shows-table_block
+          (shows-keyword (codes "$END RGP")) lines so_far.behind so_far.others at (at + 1) [] tt lt ends so_far.left
+          last in
           record {
             within = all.within;
-            took = whole ∙ takes_first lines (at + 1) (so_far.others, tt) (further_part.read (drop so_far.behind lines)) (λ v. Took (members_with so_far.first v)) all ∙ ap (λ (ts : List RawTable). Took ts (drop (at + 1) lines)) (sym so_far.are);
+            took = whole ∙ takes_first lines (at + 1) (so_far.others, tt) (further_part.read (drop so_far.behind lines))
+                (λ v. Took (members_with so_far.first v)) all
+                ∙ ap (λ (ts : List RawTable). Took ts (drop (at + 1) lines)) (sym so_far.are);
           }
 
 -- ---- groups
@@ -142,11 +152,14 @@ module _ (lines : List Line) (from : ℕ) where
 
     module _ (lt : at < length lines) where
       -- one more is read
-      pub groups_more : (group : RawGroup) (next : ℕ) → is_keyword (codes "$END MOL") (get_or lines at []) ≡ false → TakesLines lines next group (group_at (drop at lines)) → GroupsLeft lines from (groups ++ group ∷ []) next
-      groups_more group next goes takes = until_left_item exact-group_form (exact-keyword (codes "$END MOL")) shows-group_form (shows-keyword (codes "$END MOL")) lines from groups at next [] group lt goes so_far takes
+      pub groups_more : (group : RawGroup) (next : ℕ) → is_keyword (codes "$END MOL") (get_or lines at []) ≡ false
+          → TakesLines lines next group (group_at (drop at lines)) → GroupsLeft lines from (groups ++ group ∷ []) next
+      groups_more group next goes takes = until_left_item exact-group_form (exact-keyword (codes "$END MOL"))
+          shows-group_form (shows-keyword (codes "$END MOL")) lines from groups at next [] group lt goes so_far takes
 
       -- one more fails
-      pub groups_fail : (fault : TableFault) → is_keyword (codes "$END MOL") (get_or lines at []) ≡ false → Fails lines fault (group_at (drop at lines)) → Fails lines fault (groups_part.read (drop from lines))
+      pub groups_fail : (fault : TableFault) → is_keyword (codes "$END MOL") (get_or lines at []) ≡ false
+          → Fails lines fault (group_at (drop at lines)) → Fails lines fault (groups_part.read (drop from lines))
       groups_fail fault goes h =
           fails_first lines fault (groups_to_end.read (drop from lines)) (λ v. Took (groups_in v))
           (until_fails exact-group_form (exact-keyword (codes "$END MOL")) shows-group_form (shows-keyword (codes "$END MOL")) lines from groups at [] fault lt goes so_far h)

@@ -20,7 +20,9 @@ use Rattle.mk_rings.proofs.WayLemmas.{IsRingBond-linked, Linked, joins_back, lin
 round_first : (bonds : List Edge) (s : ℕ → Bool) (l : ℕ) (x k : ℕ → ℕ) → IsRound bonds s l x k → IsRingBond bonds (k 0)
 round_first bonds s l x k r =
     IsRingBond-linked (joins_back (r.joined 0 (omega arith)))
-    (linked_on (over 1 (omega arith) (omega arith)) (linked_on (over 2 (omega arith) (omega arith)) (linked_on (over 3 (omega arith) (omega arith)) (linked_on (over 4 (omega arith) (omega arith)) (over 5 (omega arith) (omega arith))))))
+    (linked_on (over 1 (omega arith) (omega arith)) (linked_on (over 2 (omega arith) (omega arith))
+    (linked_on (over 3 (omega arith) (omega arith))
+    (linked_on (over 4 (omega arith) (omega arith)) (over 5 (omega arith) (omega arith))))))
   where
     other : (j : ℕ) → 1 ≤ j → j < 6 → k j ≡ k 0 → ⊥
     other j some below same =
@@ -113,7 +115,9 @@ module _ (bonds : List Edge) (rings : List Bool) (edges : List Edge) (are : AreW
   kind_from b l some k =
       let below : b < length edges = within_kind edges b l k in
       let at : get_or edges b d ≡ k.edge = get_or-from_get edges b d k.edge k.at in
-      let is : (cond (get_or rings b false || eqb (get_or bonds b d).kind 4) (get_or bonds b d) (record (get_or bonds b d) { kind = 0 })).kind ≡ l = ap (λ (m : Edge). m.kind) (sym (are.each b d below) ∙ at) ∙ k.is in
+      let is : (cond (get_or rings b false || eqb (get_or bonds b d).kind 4) (get_or bonds b d)
+      (record (get_or bonds b d) { kind = 0 })).kind ≡ l = ap (λ (m : Edge). m.kind) (sym (are.each b d below) ∙ at)
+      ∙ k.is in
       record {
         edge = get_or bonds b d;
         at = slice_get-at bonds b d (omega (arith, below, are.size));
@@ -185,10 +189,17 @@ module _ (bonds : List Edge) (rings : List Bool) (edges : List Edge) (are : AreW
       let between = ends b e (omega (arith, below, are.size)) in
       let first = first-same b e below in
       let second = second-same b e below in
-      record { first = (omega (arith, first, between.first), omega (arith, first, between.first)); second = (omega (arith, second, between.second), omega (arith, second, between.second)); differ = λ same. between.differ (sym first ∙ same ∙ second) }
+      record {
+        first = (omega (arith, first, between.first), omega (arith, first, between.first));
+        second = (omega (arith, second, between.second), omega (arith, second, between.second));
+        differ = λ same.
+            between.differ (sym first ∙ same ∙ second);
+      }
 
 -- bonds with the same ends have the same numbers at each atom
-numbers_same : (k : ℕ) (xs ys : List Edge) (n : ℕ) → length xs ≡ length ys → ((i : ℕ) (e : Edge) → i < length xs → ((get_or xs i e).first ≡ (get_or ys i e).first) × ((get_or xs i e).second ≡ (get_or ys i e).second)) → numbers_from k xs n ≡ numbers_from k ys n
+numbers_same : (k : ℕ) (xs ys : List Edge) (n : ℕ) → length xs ≡ length ys
+    → ((i : ℕ) (e : Edge) → i < length xs → ((get_or xs i e).first ≡ (get_or ys i e).first)
+    × ((get_or xs i e).second ≡ (get_or ys i e).second)) → numbers_from k xs n ≡ numbers_from k ys n
 numbers_same k [] [] n size same = refl
 numbers_same k [] (y ∷ ys) n size same = absurd (omega (arith, size))
 numbers_same k (x ∷ xs) [] n size same = absurd (omega (arith, size))
@@ -205,4 +216,6 @@ rows_same zero xs ys same = refl
 rows_same (suc n) xs ys same = ap (λ (rows : List (List ℕ)). rows ++ numbers_at xs (suc n) ∷ []) (rows_same n xs ys same) ∙ ap (λ (row : List ℕ). rows_of n ys ++ row ∷ []) (same (suc n))
 
 pub rows_rings : (bonds : List Edge) (rings : List Bool) (edges : List Edge) (atoms : ℕ) → AreWithoutBridges bonds rings edges → rows_of atoms edges ≡ rows_of atoms bonds
-rows_rings bonds rings edges atoms are = rows_same atoms edges bonds (λ n. numbers_same 1 edges bonds n are.size (λ i e below. (first-same bonds rings edges are i e below, second-same bonds rings edges are i e below)))
+rows_rings bonds rings edges atoms are = rows_same atoms edges bonds
+    (λ n. numbers_same 1 edges bonds n are.size (λ i e below.
+    (first-same bonds rings edges are i e below, second-same bonds rings edges are i e below)))

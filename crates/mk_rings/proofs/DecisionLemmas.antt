@@ -95,7 +95,9 @@ pub record Closure (n : ℕ) (T : ℕ → Type 0) (Adds : List Bool → ℕ → 
   pub true_facts : (b : ℕ) → IsMarked marks b → T b
   pub closed : (b : ℕ) → b < n → Adds marks b → IsMarked marks b
 
-module _ (n : ℕ) (T : ℕ → Type 0) (Adds : List Bool → ℕ → Type 0) (decide : (marks : List Bool) (b : ℕ) → Decided (Adds marks b)) (sound : (marks : List Bool) → ((b : ℕ) → IsMarked marks b → T b) → (b : ℕ) → Adds marks b → T b) where
+module _ (n : ℕ) (T : ℕ → Type 0) (Adds : List Bool → ℕ → Type 0)
+    (decide : (marks : List Bool) (b : ℕ) → Decided (Adds marks b))
+    (sound : (marks : List Bool) → ((b : ℕ) → IsMarked marks b → T b) → (b : ℕ) → Adds marks b → T b) where
   -- the number isn't marked, and the rule adds it
   IsNew : List Bool → ℕ → Type 0
   IsNew marks b = (get_or marks b false ≡ false) × Adds marks b
@@ -177,7 +179,9 @@ decided_at bonds b P decide = by_found (slice_get bonds b) refl
 
 pub decided_joins : (bonds : List Edge) (b x y : ℕ) → Decided (Joins bonds b x y)
 decided_joins bonds b x y =
-    decided_as (λ there. record { edge = there.0; at = there.1; ends = there.2 }) (λ joins. (joins.edge, joins.at, joins.ends)) (decided_at bonds b (λ edge. HasEnds edge x y) (λ edge. decided_ends edge x y))
+    decided_as (λ there. record { edge = there.0; at = there.1; ends = there.2 })
+    (λ joins. (joins.edge, joins.at, joins.ends)) (decided_at bonds b (λ edge. HasEnds edge x y)
+    (λ edge. decided_ends edge x y))
 
 pub decided_kind : (bonds : List Edge) (b kind : ℕ) → Decided (HasKind bonds b kind)
 decided_kind bonds b kind =
@@ -204,7 +208,9 @@ end_within atoms bonds b x y ends joins =
 module _ (atoms : ℕ) (bonds : List Edge) (ends : AreBetween atoms bonds) (set' : ℕ → Bool) (start : ℕ) where
   pub decided_close : (left : ℕ) (path : List ℕ) (at label : ℕ) → Decided (CanClose bonds set' start path at label left)
   decided_close zero path at label =
-      decided_some (λ b. ClosesBy bonds set' start path at label zero b) (λ b. decided_both (decided_joins bonds b at start) (decided_takes bonds set' b label)) (length bonds) (λ b closes. joins_within bonds b at start closes.0)
+      decided_some (λ b. ClosesBy bonds set' start path at label zero b)
+      (λ b. decided_both (decided_joins bonds b at start) (decided_takes bonds set' b label)) (length bonds)
+      (λ b closes. joins_within bonds b at start closes.0)
   decided_close (suc left) path at label =
       decided_some (λ b. ClosesBy bonds set' start path at label (suc left) b)
       (λ b.
@@ -222,4 +228,5 @@ pub decided_closes : (atoms : ℕ) (bonds : List Edge) → AreBetween atoms bond
 decided_closes atoms bonds ends set' b =
     decided_as (λ there. record { edge = there.0; at = there.1; kind = there.2.0; closes = there.2.1 }) (λ c. (c.edge, c.at, (c.kind, c.closes)))
     (decided_at bonds b (λ edge. ((edge.kind ≡ 1) ⊎ (edge.kind ≡ 2)) × CanClose bonds set' edge.first (edge.second ∷ edge.first ∷ []) edge.second (3 - edge.kind) 4)
-    (λ edge. decided_both (decided_either (cases_eq edge.kind 1) (cases_eq edge.kind 2)) (decided_close atoms bonds ends set' edge.first 4 (edge.second ∷ edge.first ∷ []) edge.second (3 - edge.kind))))
+    (λ edge. decided_both (decided_either (cases_eq edge.kind 1) (cases_eq edge.kind 2))
+    (decided_close atoms bonds ends set' edge.first 4 (edge.second ∷ edge.first ∷ []) edge.second (3 - edge.kind))))

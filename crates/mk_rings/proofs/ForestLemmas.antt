@@ -96,7 +96,9 @@ module _ (bonds : List Edge) (nodes : List Node) (grown : IsGrown bonds nodes) w
   up_one t a high other = linked_by t (grown.hang a high).joined other
 
   -- with the top of its tree, where no atom on the way hangs by the bond to avoid
-  to_top : (d t a : ℕ) → (node nodes a).depth ≡ d → (node nodes a).root ≢ 0 → ((x : ℕ) → 0 < (node nodes x).depth → is_over nodes x a ≡ true → (node nodes x).via ≢ t) → Linked bonds t a (node nodes a).root
+  to_top : (d t a : ℕ) → (node nodes a).depth ≡ d → (node nodes a).root ≢ 0
+      → ((x : ℕ) → 0 < (node nodes x).depth → is_over nodes x a ≡ true → (node nodes x).via ≢ t)
+      → Linked bonds t a (node nodes a).root
   to_top zero t a depth reached free =
       let P : ℕ → Type 0 = λ n. Linked bonds t a n in
       subst P (sym (grown.tops a reached depth)) (linked_here bonds t a)
@@ -114,7 +116,9 @@ module _ (bonds : List Edge) (nodes : List Node) (grown : IsGrown bonds nodes) w
       or_right false c e = e
 
   -- with an atom above it, where that hangs by the bond to avoid
-  to_above : (d t x a : ℕ) → (node nodes a).depth ≡ d → is_over nodes x a ≡ true → ((y : ℕ) → 0 < (node nodes y).depth → (node nodes y).via ≡ t → y ≡ x) → Linked bonds t a x × ((node nodes a).root ≡ (node nodes x).root)
+  to_above : (d t x a : ℕ) → (node nodes a).depth ≡ d → is_over nodes x a ≡ true
+      → ((y : ℕ) → 0 < (node nodes y).depth → (node nodes y).via ≡ t → y ≡ x) → Linked bonds t a x
+      × ((node nodes a).root ≡ (node nodes x).root)
   to_above zero t x a depth over alone =
       let is : x ≡ a = eqb-true x a (sym (over-top x a depth) ∙ over) in
       let P : ℕ → Type 0 = λ n. Linked bonds t n x in
@@ -142,7 +146,9 @@ module _ (bonds : List Edge) (nodes : List Node) (grown : IsGrown bonds nodes) w
       IsRingBond-linked joined (linked_on (subst P one_tree up) (linked_back down))
 
   -- the bond by which x hangs is a ring bond where another bond leads from below x past it
-  below_to_past : (x b u v : ℕ) → 0 < (node nodes x).depth → Joins bonds b u v → b ≢ (node nodes x).via → (node nodes u).root ≡ (node nodes v).root → is_over nodes x u ≡ true → is_over nodes x v ≡ false → IsRingBond bonds (node nodes x).via
+  below_to_past : (x b u v : ℕ) → 0 < (node nodes x).depth → Joins bonds b u v → b ≢ (node nodes x).via
+      → (node nodes u).root ≡ (node nodes v).root → is_over nodes x u ≡ true → is_over nodes x v ≡ false
+      → IsRingBond bonds (node nodes x).via
   below_to_past x b u v high joined other one_tree over past =
       let h = grown.hang x high in
       let alone : (y : ℕ) → 0 < (node nodes y).depth → (node nodes y).via ≡ (node nodes x).via → y ≡ x = λ y y_high same. one_by_one y x y_high high same in
@@ -164,7 +170,8 @@ module _ (bonds : List Edge) (nodes : List Node) (grown : IsGrown bonds nodes) w
       (linked_on (linked_back below.0) (linked_on (linked_by (node nodes x).via joined other) (linked_on (subst P tops v_up) (linked_back p_up))))
 
   -- the bond by which x hangs is a ring bond where another bond has one end below x and one elsewhere
-  pub ring-parted : (x b u v : ℕ) → 0 < (node nodes x).depth → Joins bonds b u v → b ≢ (node nodes x).via → (node nodes u).root ≡ (node nodes v).root → Parts nodes x u v → IsRingBond bonds (node nodes x).via
+  pub ring-parted : (x b u v : ℕ) → 0 < (node nodes x).depth → Joins bonds b u v → b ≢ (node nodes x).via
+      → (node nodes u).root ≡ (node nodes v).root → Parts nodes x u v → IsRingBond bonds (node nodes x).via
   ring-parted x b u v high joined other one_tree parts =
       ⊎_elim
       (λ u_over. ⊎_elim

@@ -33,7 +33,9 @@ pub record HasPut (rings aromatics : List Bool) (old new : List GraphBond) (b : 
 pub put_none : (rings aromatics : List Bool) (old : List GraphBond) → HasPut rings aromatics old old 0
 put_none rings aromatics old = record { size = refl; same = refl; ring = λ k d below within. absurd (omega arith); aromatic = λ k d below within. absurd (omega arith) }
 
-pub put_more : (rings aromatics : List Bool) (old new : List GraphBond) (b : ℕ) (bond d : GraphBond) → b < length new → bond ≡ record (get_or new b d) { ring = get_or rings b false; aromatic = get_or aromatics b false } → HasPut rings aromatics old new b → HasPut rings aromatics old (set new b bond) (b + 1)
+pub put_more : (rings aromatics : List Bool) (old new : List GraphBond) (b : ℕ) (bond d : GraphBond) → b < length new
+    → bond ≡ record (get_or new b d) { ring = get_or rings b false; aromatic = get_or aromatics b false }
+    → HasPut rings aromatics old new b → HasPut rings aromatics old (set new b bond) (b + 1)
 put_more rings aromatics old new b bond d within is put = record {
   size = length-set new b bond ∙ put.size;
   same = map-set_same bare_bond new b bond d (ap bare_bond is) ∙ put.same;
@@ -52,7 +54,8 @@ put_more rings aromatics old new b bond d within is put = record {
 -- ---- what doesn't depend on the marks
 
 -- what holds of each bond whatever its marks are holds of the others that are the same without theirs
-all_bare : (P : GraphBond → Type 0) (old new : List GraphBond) → ((bond : GraphBond) → P (bare_bond bond) → P bond) → ((bond : GraphBond) → P bond → P (bare_bond bond)) → bare_bonds new ≡ bare_bonds old → All P old → All P new
+all_bare : (P : GraphBond → Type 0) (old new : List GraphBond) → ((bond : GraphBond) → P (bare_bond bond) → P bond)
+    → ((bond : GraphBond) → P bond → P (bare_bond bond)) → bare_bonds new ≡ bare_bonds old → All P old → All P new
 all_bare P old new to from same all =
     let bare : All (λ bond. P (bare_bond bond)) old = λ k d below. from (get_or old k d) (all k d below) in
     let moved : All P (bare_bonds new) = rw same (All-map P bare_bond old bare) in
@@ -71,11 +74,14 @@ before_bare b c b' c' first second before =
     ]
 
 -- a sketch is one whatever its marks are
-pub marked_sketch : (atoms : List GraphAtom) (old new : List GraphBond) → bare_bonds new ≡ bare_bonds old → IsUnmarked (record { atoms = atoms; bonds = old }) → IsUnmarked (record { atoms = atoms; bonds = new })
+pub marked_sketch : (atoms : List GraphAtom) (old new : List GraphBond) → bare_bonds new ≡ bare_bonds old
+    → IsUnmarked (record { atoms = atoms; bonds = old }) → IsUnmarked (record { atoms = atoms; bonds = new })
 marked_sketch atoms old new same is = record {
   few = is.few;
   tests = is.tests;
-  bond_tests = all_bare (λ bond. IsBondInRange bond.kind bond.topology) old new (λ bond r. record { kind = r.kind; topology = r.topology }) (λ bond r. record { kind = r.kind; topology = r.topology }) same is.bond_tests;
+  bond_tests = all_bare (λ bond. IsBondInRange bond.kind bond.topology) old new
+      (λ bond r. record { kind = r.kind; topology = r.topology })
+      (λ bond r. record { kind = r.kind; topology = r.topology }) same is.bond_tests;
   graph = subst (IsSimple (length atoms)) (sym (same_edges old new same)) is.graph;
   lower_first = all_bare (λ bond. bond.first < bond.second) old new (λ bond h. h) (λ bond h. h) same is.lower_first;
   order = λ i j d below within.

@@ -10,7 +10,7 @@ use Rattle.mk_model.specs.declared.edge.Edge.{Edge}
 use Rattle.mk_model.specs.Edges.{AreBetween, IsBetween, Joins, HasEnds, numbers_at, rows_of, touches}
 use Rattle.mk_rings.specs.declared.node.Node.{Node}
 use Rattle.mk_rings.specs.Forests.{node, nowhere, Hangs, IsGrown, unreached}
-use Rattle.mk_rings.specs.Growing.{IsDone, IsInTree, IsReaching, StayReached}
+use Rattle.mk_rings.specs.Growing.{HasEndsInTree, IsInTree, IsReaching, StayReached}
 use Rattle.mk_rings.proofs.WayLemmas.{joins_back, same_ends}
 use Rattle.mk_rings.proofs.WalkLemmas.{joins_within, slice_get-at, get_or-from_get}
 use Rattle.mk_model.proofs.ForCallers.{numbers_at-all, numbers_at-each, IsNumberOf}
@@ -54,7 +54,7 @@ module _ (bonds : List Edge) (nodes : List Node) (y : ℕ) (n : Node) (below : y
   StayReached-set = λ z reached none. reached (ap (λ k. k.root) (sym (node-other nodes y n z (reached-other z reached))) ∙ none)
 
   -- whoever is done stays done
-  pub IsDone-set : (z : ℕ) → (node nodes z).root ≢ 0 → IsDone bonds nodes z → IsDone bonds (set nodes y n) z
+  pub IsDone-set : (z : ℕ) → (node nodes z).root ≢ 0 → HasEndsInTree bonds nodes z → HasEndsInTree bonds (set nodes y n) z
   IsDone-set z reached done = λ b w joined.
       let same = done b w joined in
       let w_other : w ≢ y = reached-other w (λ none. reached (sym same ∙ none)) in
@@ -74,7 +74,8 @@ module _ (bonds : List Edge) (nodes : List Node) (y : ℕ) (n : Node) (below : y
       }
 
   -- the forest stays one where the new place fits
-  pub IsGrown-set : IsGrown bonds nodes → (0 < n.depth → Hangs bonds (set nodes y n) y) → (n.depth ≡ 0 → n.root ≡ y) → n.depth + unreached (set nodes y n) < length nodes → IsGrown bonds (set nodes y n)
+  pub IsGrown-set : IsGrown bonds nodes → (0 < n.depth → Hangs bonds (set nodes y n) y) → (n.depth ≡ 0 → n.root ≡ y)
+      → n.depth + unreached (set nodes y n) < length nodes → IsGrown bonds (set nodes y n)
   IsGrown-set grown hangs top shallow =
       let here = node-here nodes y n below in
       let fewer = unreached-set nodes y n below new root in
@@ -139,7 +140,9 @@ end_within atoms bonds b x y ends joined =
     joined.ends
 
 -- the list of an atom among those of all atoms
-pub numbers-row : (atoms : ℕ) (bonds : List Edge) (rows : List (List ℕ)) (x : ℕ) (numbers : List ℕ) → rows ≡ rows_of atoms bonds → 1 ≤ x → x ≤ atoms → slice_get rows (x - 1) ≡ Some numbers → numbers ≡ numbers_at bonds x
+pub numbers-row : (atoms : ℕ) (bonds : List Edge) (rows : List (List ℕ)) (x : ℕ) (numbers : List ℕ)
+    → rows ≡ rows_of atoms bonds → 1 ≤ x → x ≤ atoms → slice_get rows (x - 1) ≡ Some numbers
+    → numbers ≡ numbers_at bonds x
 numbers-row atoms bonds rows x numbers are least most at =
     let there = slice_get-rows_of atoms bonds (x - 1) (omega arith) in
     let back : x - 1 + 1 ≡ x = omega arith in
@@ -148,7 +151,8 @@ numbers-row atoms bonds rows x numbers are least most at =
     list ∙ ap (numbers_at bonds) back
 
 -- before the first
-pub IsFollowed-none : (bonds : List Edge) (nodes : List Node) (x top : ℕ) (numbers stack : List ℕ) → IsReaching bonds nodes stack top x → IsFollowed bonds nodes (length stack) x top numbers 0 nodes stack
+pub IsFollowed-none : (bonds : List Edge) (nodes : List Node) (x top : ℕ) (numbers stack : List ℕ)
+    → IsReaching bonds nodes stack top x → IsFollowed bonds nodes (length stack) x top numbers 0 nodes stack
 IsFollowed-none bonds nodes x top numbers stack reaching = record {
   reaching = reaching;
   same = refl;
@@ -158,7 +162,10 @@ IsFollowed-none bonds nodes x top numbers stack reaching = record {
   size = refl;
 }
 
-module _ (bonds : List Edge) (old : List Node) (waiting x top : ℕ) (numbers : List ℕ) (i : ℕ) (nodes : List Node) (stack : List ℕ) (y : ℕ) (top_is : (node old x).root ≡ top) (some : top ≢ 0) (joined : Joins bonds (get_or numbers i 0 - 1) x y) (f : IsFollowed bonds old waiting x top numbers i nodes stack) where
+module _ (bonds : List Edge) (old : List Node) (waiting x top : ℕ) (numbers : List ℕ) (i : ℕ) (nodes : List Node)
+    (stack : List ℕ) (y : ℕ) (top_is : (node old x).root ≡ top) (some : top ≢ 0)
+    (joined : Joins bonds (get_or numbers i 0 - 1) x y)
+    (f : IsFollowed bonds old waiting x top numbers i nodes stack) where
   root_here : (node nodes x).root ≡ top
   root_here = ap (λ k. k.root) f.same ∙ top_is
 
@@ -197,7 +204,13 @@ module _ (bonds : List Edge) (old : List Node) (waiting x top : ℕ) (numbers : 
           (f.reaching.others y reached)
 
   -- an atom that wasn't reached is put into the tree and onto the stack
-  pub IsFollowed-new : (n : Node) → 1 ≤ y → y < length nodes → (node nodes y).root ≡ 0 → n ≡ record { parent = x; via = get_or numbers i 0 - 1; depth = (node old x).depth + 1; root = (node old x).root } → IsFollowed bonds old waiting x top numbers (i + 1) (set nodes y n) (stack ++ y ∷ [])
+  pub IsFollowed-new : (n : Node) → 1 ≤ y → y < length nodes → (node nodes y).root ≡ 0
+      → n ≡ record {
+        parent = x;
+        via = get_or numbers i 0 - 1;
+        depth = (node old x).depth + 1;
+        root = (node old x).root;
+      } → IsFollowed bonds old waiting x top numbers (i + 1) (set nodes y n) (stack ++ y ∷ [])
   IsFollowed-new n least below new is = record {
     reaching = record {
       grown = IsGrown-set bonds nodes y n below new root f.reaching.grown (λ high. hangs) (λ flat. absurd (omega (arith, ap (λ k. k.depth) is, flat))) shallow;
@@ -269,7 +282,9 @@ module _ (bonds : List Edge) (old : List Node) (waiting x top : ℕ) (numbers : 
           (z_in.0, rw length-set z_in.1, ap (λ k. k.root) (node-other nodes y n z other) ∙ z_in.2)
 
 -- with all numbers followed the atom is done
-pub IsFollowed-all : (bonds : List Edge) (old : List Node) (waiting x top : ℕ) (numbers : List ℕ) (i : ℕ) (nodes : List Node) (stack : List ℕ) → (node old x).root ≡ top → numbers ≡ numbers_at bonds x → length numbers ≤ i → IsFollowed bonds old waiting x top numbers i nodes stack → IsReaching bonds nodes stack top 0
+pub IsFollowed-all : (bonds : List Edge) (old : List Node) (waiting x top : ℕ) (numbers : List ℕ) (i : ℕ)
+    (nodes : List Node) (stack : List ℕ) → (node old x).root ≡ top → numbers ≡ numbers_at bonds x → length numbers ≤ i
+    → IsFollowed bonds old waiting x top numbers i nodes stack → IsReaching bonds nodes stack top 0
 IsFollowed-all bonds old waiting x top numbers i nodes stack top_is are all f = record {
   grown = f.reaching.grown;
   waiting = f.reaching.waiting;
@@ -278,12 +293,12 @@ IsFollowed-all bonds old waiting x top numbers i nodes stack top_is are all f = 
       (λ done. inl done)
       (λ rest. ⊎_elim
       (λ on_stack. inr (inl on_stack))
-      (λ now. let P : ℕ → Type 0 = λ k. IsDone bonds nodes k in inl (subst P (sym now) done_here))
+      (λ now. let P : ℕ → Type 0 = λ k. HasEndsInTree bonds nodes k in inl (subst P (sym now) done_here))
       rest)
       (f.reaching.others z reached);
 }
   where
-    done_here : IsDone bonds nodes x
+    done_here : HasEndsInTree bonds nodes x
     done_here = λ b w joined.
         let within : b < length bonds = joins_within bonds b x w joined in
         let at = numbers_at-all bonds x b (record { first = 0; second = 0; kind = 0 }) within (touches_joined bonds b x w (record { first = 0; second = 0; kind = 0 }) joined) in

@@ -73,7 +73,9 @@ module _ (atoms : ℕ) (bonds : List Edge) (ends : AreBetween atoms bonds) where
     decided_adds marks z =
         decided_either (cases_eq z x)
         (decided_some (λ u. (b : ℕ) × (Joins bonds b u z × ((b ≢ c) × IsMarked marks u)))
-        (λ u. decided_some (λ b. Joins bonds b u z × ((b ≢ c) × IsMarked marks u)) (λ b. decided_both (decided_joins bonds b u z) (decided_both (other_bond b) (decided_marked marks u))) (length bonds) (λ b there. joins_within bonds b u z there.0))
+        (λ u. decided_some (λ b. Joins bonds b u z × ((b ≢ c) × IsMarked marks u))
+        (λ b. decided_both (decided_joins bonds b u z) (decided_both (other_bond b) (decided_marked marks u)))
+        (length bonds) (λ b there. joins_within bonds b u z there.0))
         (atoms + 1) (λ u there. end_within atoms bonds there.0 z u ends (joins_back there.1.0)))
 
     sound : (marks : List Bool) → ((u : ℕ) → IsMarked marks u → Linked bonds c x u) → (z : ℕ) → Adds marks z → Linked bonds c x z
@@ -82,7 +84,9 @@ module _ (atoms : ℕ) (bonds : List Edge) (ends : AreBetween atoms bonds) where
 
     reached : (marks : List Bool) × Closure (atoms + 1) (Linked bonds c x) Adds marks
     reached =
-        closed_from (atoms + 1) (Linked bonds c x) Adds decided_adds sound (unmarked (no_marks (atoms + 1))) (no_marks (atoms + 1)) (length_no_marks (atoms + 1)) (omega arith) (λ u marked. absurd (none_marked (atoms + 1) u marked))
+        closed_from (atoms + 1) (Linked bonds c x) Adds decided_adds sound (unmarked (no_marks (atoms + 1)))
+        (no_marks (atoms + 1)) (length_no_marks (atoms + 1)) (omega arith)
+        (λ u marked. absurd (none_marked (atoms + 1) u marked))
 
     -- a way from a marked atom leads to a marked atom
     way_marked : (marks : List Bool) → Closure (atoms + 1) (Linked bonds c x) Adds marks → (u z : ℕ) (way : List Step) → IsMarked marks u → IsWay bonds c u way z → IsMarked marks z
@@ -114,7 +118,9 @@ module _ (atoms : ℕ) (bonds : List Edge) (ends : AreBetween atoms bonds) where
           let joined : Joins bonds b edge.first edge.second = joins_ends bonds b no_edge below in
           let within : edge.first < atoms + 1 = end_within atoms bonds b edge.second edge.first ends (joins_back joined) in
           decided_as (λ linked. IsRingBond-linked joined linked)
-          (λ ring. (let same : ring.edge ≡ edge = sym (get_or-from_get bonds b no_edge ring.edge ring.at) in subst (λ (e : Edge). Linked bonds b e.first e.second) same (record { way = ring.way; leads = ring.around })))
+          (λ ring. (let same : ring.edge ≡ edge = sym (get_or-from_get bonds b no_edge ring.edge ring.at)
+          in subst (λ (e : Edge). Linked bonds b e.first e.second) same
+          (record { way = ring.way; leads = ring.around })))
           (decided_linked b edge.first edge.second within)
 
   rings_of : (rings : List Bool) × Marks (IsRingBond bonds) bonds rings
@@ -135,8 +141,14 @@ module _ (atoms : ℕ) (bonds : List Edge) (ends : AreBetween atoms bonds) where
   pub aromatics_of : (aromatics : List Bool) × Marks (IsAromatic bonds) bonds aromatics
   aromatics_of =
       let none = no_marks (length bonds) in
-      let all = closed_from (length bonds) (IsAromatic bonds) AddsRing (λ marks b. decided_either (decided_kind bonds b 4) (decided_closes atoms bonds ends (set_of marks) b)) sound_ring (unmarked none) none (length_no_marks (length bonds)) (omega arith) (λ b marked. absurd (none_marked (length bonds) b marked)) in
-      (all.0, Marks-done bonds all.0 all.1.size (λ b four. all.1.closed b (kind_within bonds b 4 four) (inl four)) (λ s closed b marked. all.1.true_facts b marked s closed) (λ b below. done all.0 all.1 b below))
+      let all = closed_from (length bonds) (IsAromatic bonds) AddsRing
+      (λ marks b. decided_either (decided_kind bonds b 4) (decided_closes atoms bonds ends (set_of marks) b))
+      sound_ring (unmarked none) none (length_no_marks (length bonds)) (omega arith)
+      (λ b marked. absurd (none_marked (length bonds) b marked)) in (
+        all.0,
+        Marks-done bonds all.0 all.1.size (λ b four. all.1.closed b (kind_within bonds b 4 four) (inl four))
+            (λ s closed b marked. all.1.true_facts b marked s closed) (λ b below. done all.0 all.1 b below),
+      )
     where
       done : (marks : List Bool) → Closure (length bonds) (IsAromatic bonds) AddsRing marks → (b : ℕ) → b < length bonds → IsMarked marks b ⊎ (ClosesRing bonds (set_of marks) b → ⊥)
       done marks closure b below =
@@ -159,7 +171,8 @@ same_marks P bonds marks others is its =
     same_lists marks others (is.size ∙ sym its.size)
     (λ k d below.
     let within : k < length bonds = omega (arith, is.size) in
-    get_or_default marks k d false below ∙ same_test (get_or marks k false) (get_or others k false) (P k) (is.each k within) (its.each k within) ∙ sym (get_or_default others k d false (omega (arith, its.size))))
+    get_or_default marks k d false below ∙ same_test (get_or marks k false) (get_or others k false) (P k)
+    (is.each k within) (its.each k within) ∙ sym (get_or_default others k d false (omega (arith, its.size))))
 
 pub one_list_of_marks : OneListOfMarks
 one_list_of_marks bonds rings aromatics rings' aromatics' is its =
@@ -229,7 +242,8 @@ record HasMarksAt (rings aromatics : List Bool) (k : ℕ) (bond : GraphBond) : T
   ring : bond.ring ≡ get_or rings k false
   aromatic : bond.aromatic ≡ get_or aromatics k false
 
-graph_marks : (rings aromatics : List Bool) (k : ℕ) (drawn : List GraphBond) (b : ℕ) (bond : GraphBond) → slice_get (graph_bonds rings aromatics k drawn) b ≡ Some bond → HasMarksAt rings aromatics (k + b) bond
+graph_marks : (rings aromatics : List Bool) (k : ℕ) (drawn : List GraphBond) (b : ℕ) (bond : GraphBond)
+    → slice_get (graph_bonds rings aromatics k drawn) b ≡ Some bond → HasMarksAt rings aromatics (k + b) bond
 unfolding graph_bonds
 graph_marks rings aromatics k [] b bond at = absurd cc
 graph_marks rings aromatics k (first ∷ drawn) zero bond at =

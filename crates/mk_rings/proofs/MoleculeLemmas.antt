@@ -16,7 +16,9 @@ pub record HaveMarks (plain : List Edge) (rings aromatics : List Bool) (bonds : 
   pub each : (b : ℕ) (d : MolBond) → b < length bonds → ((get_or bonds b d).ring ≡ get_or rings b false) × ((get_or bonds b d).aromatic ≡ get_or aromatics b false)
 
 -- where the marks are those of the definitions, so are those of the bonds
-pub have_marks : (plain : List Edge) (rings aromatics : List Bool) (bonds : List MolBond) → HaveMarks plain rings aromatics bonds → Marks (IsRingBond plain) plain rings → Marks (IsAromatic plain) plain aromatics
+pub have_marks : (plain : List Edge) (rings aromatics : List Bool) (bonds : List MolBond)
+    → HaveMarks plain rings aromatics bonds → Marks (IsRingBond plain) plain rings
+    → Marks (IsAromatic plain) plain aromatics
     → (b : ℕ) (bond : MolBond) → slice_get bonds b ≡ Some bond → HasMarks plain b bond
 have_marks plain rings aromatics bonds are by_ring by_aromatic b bond at =
     let is : get_or bonds b bond ≡ bond = place_is bonds b bond bond at in

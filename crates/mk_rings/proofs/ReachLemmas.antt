@@ -18,7 +18,8 @@ use Rattle.mk_rings.proofs.GrowLemmas.{touches_joined}
 -- ---- the bonds of an atom, one after another
 
 -- what holds of each number in the list of an atom holds of each bond of the atom
-pub each_bond : (P : ℕ → Type 0) (bonds : List Edge) (x : ℕ) (numbers : List ℕ) (n : ℕ) → numbers ≡ numbers_at bonds x → length numbers ≤ n → ((i : ℕ) → i < n → P (get_or numbers i 0 - 1)) → (b y : ℕ) → Joins bonds b x y → P b
+pub each_bond : (P : ℕ → Type 0) (bonds : List Edge) (x : ℕ) (numbers : List ℕ) (n : ℕ) → numbers ≡ numbers_at bonds x
+    → length numbers ≤ n → ((i : ℕ) → i < n → P (get_or numbers i 0 - 1)) → (b y : ℕ) → Joins bonds b x y → P b
 each_bond P bonds x numbers n are all each b y joined =
     let d : Edge = record { first = 0; second = 0; kind = 0 } in
     let there = numbers_at-all bonds x b d (joins_within bonds b x y joined) (touches_joined bonds b x y d joined) in
@@ -46,7 +47,9 @@ module _ (bonds : List Edge) (set' : ℕ → Bool) (x label : ℕ) (numbers : Li
       (cases_lt i n)
 
   -- one bond more, to an atom of which it holds
-  pub EachTo-more : (n b y : ℕ) (Q Q' : ℕ → Type 0) → b ≡ get_or numbers n 0 - 1 → Joins bonds b x y → ((z : ℕ) → Q z → Q' z) → Q' y → EachTo bonds set' x label numbers n Q → EachTo bonds set' x label numbers (n + 1) Q'
+  pub EachTo-more : (n b y : ℕ) (Q Q' : ℕ → Type 0) → b ≡ get_or numbers n 0 - 1 → Joins bonds b x y
+      → ((z : ℕ) → Q z → Q' z) → Q' y → EachTo bonds set' x label numbers n Q
+      → EachTo bonds set' x label numbers (n + 1) Q'
   EachTo-more n b y Q Q' is joined more holds each = λ i below z there takes.
       ⊎_elim
       (λ earlier. more z (each i earlier z there takes))
@@ -95,7 +98,9 @@ Further-none bonds s label two three stamp some below z is =
     absurd (⊎_elim (λ inside. omega (arith, below z inside, is)) (λ past. omega (arith, is, get_or_past two z 0 past)) (cases_lt z (length two)))
 
 -- an atom more that leads to stamped ones
-pub Further-more : (bonds : List Edge) (s : ℕ → Bool) (label : ℕ) (two old new : List ℕ) (stamp z : ℕ) → KeepsStamps stamp old new → LeadsToStamped bonds s label new stamp z → Further bonds s label two old stamp → Further bonds s label (set two z stamp) new stamp
+pub Further-more : (bonds : List Edge) (s : ℕ → Bool) (label : ℕ) (two old new : List ℕ) (stamp z : ℕ)
+    → KeepsStamps stamp old new → LeadsToStamped bonds s label new stamp z → Further bonds s label two old stamp
+    → Further bonds s label (set two z stamp) new stamp
 Further-more bonds s label two old new stamp z kept led further y is =
     ⊎_elim
     (λ same. let P : ℕ → Type 0 = λ k. LeadsToStamped bonds s label new stamp k in subst P (sym same) led)
@@ -103,13 +108,16 @@ Further-more bonds s label two old new stamp z kept led further y is =
     (cases_eq y z)
 
 -- more stamps in `three` do no harm
-pub Further-kept : (bonds : List Edge) (s : ℕ → Bool) (label : ℕ) (two old new : List ℕ) (stamp : ℕ) → KeepsStamps stamp old new → Further bonds s label two old stamp → Further bonds s label two new stamp
+pub Further-kept : (bonds : List Edge) (s : ℕ → Bool) (label : ℕ) (two old new : List ℕ) (stamp : ℕ)
+    → KeepsStamps stamp old new → Further bonds s label two old stamp → Further bonds s label two new stamp
 Further-kept bonds s label two old new stamp kept further y is b w joined takes = kept w (further y is b w joined takes)
 
 -- ---- what the stamps tell
 
 -- the stamps of a search tell which paths can't be closed
-pub MaySkip-reached : (bonds : List Edge) (s : ℕ → Bool) (start label : ℕ) (two three : List ℕ) (stamp : ℕ) → (label ≡ 1) ⊎ (label ≡ 2) → IsReached bonds s start label two three stamp → MaySkip bonds s start two three stamp label 4
+pub MaySkip-reached : (bonds : List Edge) (s : ℕ → Bool) (start label : ℕ) (two three : List ℕ) (stamp : ℕ)
+    → (label ≡ 1) ⊎ (label ≡ 2) → IsReached bonds s start label two three stamp
+    → MaySkip bonds s start two three stamp label 4
 MaySkip-reached bonds s start label two three stamp one_or_two r = (
   λ path x can. let P : ℕ → Type 0 = λ l. Tells bonds s start l 2 three stamp in subst P (sym once) at_three path x can,
   λ path x can. let P : ℕ → Type 0 = λ l. Tells bonds s start l 1 two stamp in subst P (ap (λ l. 3 - l) (sym once)) at_two path x can,
@@ -132,14 +140,20 @@ MaySkip-reached bonds s start label two three stamp one_or_two r = (
         r.further over.0 two_is can.0 x (joins_back over.1) over.2
 
 -- what is known for a path is known for one that is an atom longer
-pub MaySkip-less : (bonds : List Edge) (s : ℕ → Bool) (start : ℕ) (two three : List ℕ) (stamp label left : ℕ) → left ≢ 0 → MaySkip bonds s start two three stamp label left → MaySkip bonds s start two three stamp (3 - label) (left - 1)
+pub MaySkip-less : (bonds : List Edge) (s : ℕ → Bool) (start : ℕ) (two three : List ℕ) (stamp label left : ℕ) → left ≢ 0
+    → MaySkip bonds s start two three stamp label left → MaySkip bonds s start two three stamp (3 - label) (left - 1)
 MaySkip-less bonds s start two three stamp label zero some skip = absurd (some refl)
 MaySkip-less bonds s start two three stamp label (suc zero) some skip = let none : suc zero - 1 ≡ 0 = omega arith in subst (λ n. MaySkip bonds s start two three stamp (3 - label) n) (sym none) tt
-MaySkip-less bonds s start two three stamp label (suc (suc zero)) some skip = let one : suc (suc zero) - 1 ≡ 1 = omega arith in subst (λ n. MaySkip bonds s start two three stamp (3 - label) n) (sym one) skip.1
-MaySkip-less bonds s start two three stamp label (suc (suc (suc left))) some skip = let less : suc (suc (suc left)) - 1 ≡ suc (suc left) = omega arith in subst (λ n. MaySkip bonds s start two three stamp (3 - label) n) (sym less) skip
+MaySkip-less bonds s start two three stamp label (suc (suc zero)) some skip = let one : suc (suc zero) - 1 ≡ 1 =
+    omega arith in subst (λ n. MaySkip bonds s start two three stamp (3 - label) n) (sym one) skip.1
+MaySkip-less bonds s start two three stamp label (suc (suc (suc left))) some skip =
+    let less : suc (suc (suc left)) - 1 ≡ suc (suc left) = omega arith in
+    subst (λ n. MaySkip bonds s start two three stamp (3 - label) n) (sym less) skip
 
 -- a path that the stamps rule out can't be closed
-pub stamped_out : (bonds : List Edge) (s : ℕ → Bool) (start : ℕ) (two three : List ℕ) (stamp label left at : ℕ) (path : List ℕ) → MaySkip bonds s start two three stamp label left → ((left ≡ 1) × (get_or two at 0 ≢ stamp)) ⊎ ((left ≡ 2) × (get_or three at 0 ≢ stamp)) → CanClose bonds s start path at label left → ⊥
+pub stamped_out : (bonds : List Edge) (s : ℕ → Bool) (start : ℕ) (two three : List ℕ) (stamp label left at : ℕ)
+    (path : List ℕ) → MaySkip bonds s start two three stamp label left → ((left ≡ 1) × (get_or two at 0 ≢ stamp))
+    ⊎ ((left ≡ 2) × (get_or three at 0 ≢ stamp)) → CanClose bonds s start path at label left → ⊥
 stamped_out bonds s start two three stamp label left at path skip out can =
     ⊎_elim
     (λ one.

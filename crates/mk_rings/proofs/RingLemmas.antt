@@ -75,7 +75,10 @@ IsMarkedUpTo-inside bonds nodes n x marks by m = record {
 }
 
 -- a bond by which none hangs is marked with the way between its ends
-pub IsMarkedUpTo-outside : (atoms : ℕ) (bonds : List Edge) (nodes : List Node) (n : ℕ) (marks later : List Bool) → AreBetween atoms bonds → IsForest atoms bonds nodes → n < length bonds → length marks ≡ length bonds → IsOutside nodes n → ((u v : ℕ) → Joins bonds n u v → MarksWay nodes u v (set marks n true) later) → IsMarkedUpTo bonds nodes n marks → IsMarkedUpTo bonds nodes (n + 1) later
+pub IsMarkedUpTo-outside : (atoms : ℕ) (bonds : List Edge) (nodes : List Node) (n : ℕ) (marks later : List Bool)
+    → AreBetween atoms bonds → IsForest atoms bonds nodes → n < length bonds → length marks ≡ length bonds
+    → IsOutside nodes n → ((u v : ℕ) → Joins bonds n u v → MarksWay nodes u v (set marks n true) later)
+    → IsMarkedUpTo bonds nodes n marks → IsMarkedUpTo bonds nodes (n + 1) later
 IsMarkedUpTo-outside atoms bonds nodes n marks later ends forest below size out ways m =
     let d : Edge = record { first = 0; second = 0; kind = 0 } in
     let edge = get_or bonds n d in
@@ -118,7 +121,9 @@ IsMarkedUpTo-outside atoms bonds nodes n marks later ends forest below size out 
     ring_here u v joined = ring-outside bonds nodes forest.grown n u v joined (end_reached atoms bonds nodes u v ends forest joined) (forest.one_tree n u v joined) out.none
 
 -- with every bond looked at, the marks are those of the ring bonds
-pub Marks-all : (atoms : ℕ) (bonds : List Edge) (nodes : List Node) (n : ℕ) (marks : List Bool) → IsForest atoms bonds nodes → length bonds ≤ n → length marks ≡ length bonds → IsMarkedUpTo bonds nodes n marks → Marks (IsRingBond bonds) bonds marks
+pub Marks-all : (atoms : ℕ) (bonds : List Edge) (nodes : List Node) (n : ℕ) (marks : List Bool)
+    → IsForest atoms bonds nodes → length bonds ≤ n → length marks ≡ length bonds → IsMarkedUpTo bonds nodes n marks
+    → Marks (IsRingBond bonds) bonds marks
 Marks-all atoms bonds nodes n marks forest all size m = record {
   size = size;
   each = λ b below. (λ marked. m.sound b marked, λ ring. marked_ring b below ring);

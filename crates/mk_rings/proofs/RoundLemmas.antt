@@ -16,7 +16,8 @@ use Rattle.mk_rings.proofs.WalkLemmas.{joins_within, get_or-from_get, slice_get-
 
 -- ---- a bond that closes a six-ring is in each closed set
 
-pub closed_ring : (atoms : ℕ) (bonds : List Edge) (marks : List Bool) (set' : ℕ → Bool) (b : ℕ) → AreBetween atoms bonds → IsClosed bonds set' → LieIn set' marks → ClosesRing bonds (set_of marks) b → IsTrue (set' b)
+pub closed_ring : (atoms : ℕ) (bonds : List Edge) (marks : List Bool) (set' : ℕ → Bool) (b : ℕ) → AreBetween atoms bonds
+    → IsClosed bonds set' → LieIn set' marks → ClosesRing bonds (set_of marks) b → IsTrue (set' b)
 closed_ring atoms bonds marks set' b ends closed lie c =
     let joined : Joins bonds b c.edge.first c.edge.second = record { edge = c.edge; at = c.at; ends = inl (refl, refl) } in
     let within = ends b c.edge (joins_within bonds b c.edge.first c.edge.second joined) in
@@ -40,7 +41,8 @@ unmarked-set marks n below is =
 -- ---- when a round adds nothing
 
 -- a cycle may be walked from its n-th bond on
-pub nth_round : (bonds : List Edge) (s : ℕ → Bool) (n l : ℕ) (x k : ℕ → ℕ) → (l ≡ 1) ⊎ (l ≡ 2) → IsRound bonds s l x k → (l' : ℕ) × (x' : ℕ → ℕ) × (k' : ℕ → ℕ) × ((l' ≡ 1) ⊎ (l' ≡ 2)) × IsRound bonds s l' x' k' × (k' 0 ≡ k (n % 6))
+pub nth_round : (bonds : List Edge) (s : ℕ → Bool) (n l : ℕ) (x k : ℕ → ℕ) → (l ≡ 1) ⊎ (l ≡ 2) → IsRound bonds s l x k
+    → (l' : ℕ) × (x' : ℕ → ℕ) × (k' : ℕ → ℕ) × ((l' ≡ 1) ⊎ (l' ≡ 2)) × IsRound bonds s l' x' k' × (k' 0 ≡ k (n % 6))
 nth_round bonds s zero l x k one_or_two r = (l, x, k, one_or_two, r, refl)
 nth_round bonds s (suc n) l x k one_or_two r =
     let other : (3 - l ≡ 1) ⊎ (3 - l ≡ 2) = ⊎_elim (λ e. inr (omega (arith, e))) (λ e. inl (omega (arith, e))) one_or_two in
@@ -71,7 +73,9 @@ closes-round bonds s l x k one_or_two r kind = record {
 }
 
 -- marks to which a round adds nothing are closed
-pub IsClosed-done : (bonds : List Edge) (marks : List Bool) → ((b : ℕ) → HasKind bonds b 4 → IsMarked marks b) → ((b : ℕ) → b < length bonds → IsMarked marks b ⊎ (ClosesRing bonds (set_of marks) b → ⊥)) → IsClosed bonds (set_of marks)
+pub IsClosed-done : (bonds : List Edge) (marks : List Bool) → ((b : ℕ) → HasKind bonds b 4 → IsMarked marks b)
+    → ((b : ℕ) → b < length bonds → IsMarked marks b ⊎ (ClosesRing bonds (set_of marks) b → ⊥))
+    → IsClosed bonds (set_of marks)
 IsClosed-done bonds marks four done = record {
   type_four = four;
   six_rings = λ x k cycle labels i below.
@@ -94,7 +98,10 @@ IsClosed-done bonds marks four done = record {
     mod_small i h = omega arith
 
 -- and they are the least closed set
-pub Marks-done : (bonds : List Edge) (marks : List Bool) → length marks ≡ length bonds → ((b : ℕ) → HasKind bonds b 4 → IsMarked marks b) → ((s : ℕ → Bool) → IsClosed bonds s → LieIn s marks) → ((b : ℕ) → b < length bonds → IsMarked marks b ⊎ (ClosesRing bonds (set_of marks) b → ⊥)) → Marks (IsAromatic bonds) bonds marks
+pub Marks-done : (bonds : List Edge) (marks : List Bool) → length marks ≡ length bonds
+    → ((b : ℕ) → HasKind bonds b 4 → IsMarked marks b) → ((s : ℕ → Bool) → IsClosed bonds s → LieIn s marks)
+    → ((b : ℕ) → b < length bonds → IsMarked marks b ⊎ (ClosesRing bonds (set_of marks) b → ⊥))
+    → Marks (IsAromatic bonds) bonds marks
 Marks-done bonds marks size four within done = record {
   size = size;
   each = λ b below. (λ marked s closed. within s closed b marked, λ aromatic. aromatic (set_of marks) (IsClosed-done bonds marks four done));
@@ -103,7 +110,9 @@ Marks-done bonds marks size four within done = record {
 -- ---- the bonds of type 4
 
 -- marks that are those of type 4
-pub marks-four : (bonds : List Edge) (marks : List Bool) (n : ℕ) → length bonds ≤ n → ((k : ℕ) (d : Edge) → k < n → get_or marks k false ≡ eqb (get_or bonds k d).kind 4) → (b : ℕ) → b < length bonds → IsMarked marks b ↔ HasKind bonds b 4
+pub marks-four : (bonds : List Edge) (marks : List Bool) (n : ℕ) → length bonds ≤ n
+    → ((k : ℕ) (d : Edge) → k < n → get_or marks k false ≡ eqb (get_or bonds k d).kind 4) → (b : ℕ) → b < length bonds
+    → IsMarked marks b ↔ HasKind bonds b 4
 marks-four bonds marks n all each b below =
     let d : Edge = record { first = 0; second = 0; kind = 0 } in (
       λ marked. record { edge = get_or bonds b d; at = slice_get-at bonds b d below; is = eqb-true (get_or bonds b d).kind 4 (sym (each b d (omega arith)) ∙ marked) },
@@ -124,8 +133,12 @@ marked_within marks b marked =
 -- ---- the search from a bond
 
 -- where the stamps tell that no path from the bond can be closed it closes no six-ring
-pub closes_none : (bonds : List Edge) (s : ℕ → Bool) (b : ℕ) (edge d : Edge) (two three : List ℕ) (stamp : ℕ) → slice_get bonds b ≡ Some edge → 1 ≤ (get_or bonds b d).kind → (get_or bonds b d).kind ≤ 2 → IsReached bonds s edge.first (3 - edge.kind) two three stamp
-    → (MaySkip bonds s (get_or bonds b d).first two three stamp (3 - (get_or bonds b d).kind) 4 → CanClose bonds s (get_or bonds b d).first ((get_or bonds b d).second ∷ (get_or bonds b d).first ∷ []) (get_or bonds b d).second (3 - (get_or bonds b d).kind) 4 → ⊥) → ClosesRing bonds s b → ⊥
+pub closes_none : (bonds : List Edge) (s : ℕ → Bool) (b : ℕ) (edge d : Edge) (two three : List ℕ) (stamp : ℕ)
+    → slice_get bonds b ≡ Some edge → 1 ≤ (get_or bonds b d).kind → (get_or bonds b d).kind ≤ 2
+    → IsReached bonds s edge.first (3 - edge.kind) two three stamp
+    → (MaySkip bonds s (get_or bonds b d).first two three stamp (3 - (get_or bonds b d).kind) 4
+    → CanClose bonds s (get_or bonds b d).first ((get_or bonds b d).second ∷ (get_or bonds b d).first ∷ [])
+    (get_or bonds b d).second (3 - (get_or bonds b d).kind) 4 → ⊥) → ClosesRing bonds s b → ⊥
 closes_none bonds s b edge d two three stamp at least most reached opened c =
     let here : get_or bonds b d ≡ edge = get_or-from_get bonds b d edge at in
     let kind : edge.kind ≡ (get_or bonds b d).kind = ap (λ m. m.kind) (sym here) in
@@ -158,7 +171,9 @@ Spreads-on bonds a b c first second = record {
 }
 
 -- one mark more, of a bond that closes a six-ring
-pub Spreads-more : (atoms : ℕ) (bonds : List Edge) (old : List Bool) (n : ℕ) (marks : List Bool) → AreBetween atoms bonds → n < length marks → get_or marks n false ≡ false → ClosesRing bonds (set_of marks) n → Spreads bonds old marks → Spreads bonds old (set marks n true)
+pub Spreads-more : (atoms : ℕ) (bonds : List Edge) (old : List Bool) (n : ℕ) (marks : List Bool)
+    → AreBetween atoms bonds → n < length marks → get_or marks n false ≡ false → ClosesRing bonds (set_of marks) n
+    → Spreads bonds old marks → Spreads bonds old (set marks n true)
 Spreads-more atoms bonds old n marks ends below new closes before =
     let one : Spreads bonds marks (set marks n true) = record {
       kept = λ b marked. marked-kept marks n b below marked;
@@ -172,7 +187,9 @@ Spreads-more atoms bonds old n marks ends below new closes before =
     Spreads-on bonds old marks (set marks n true) before one
 
 -- one mark more, of a bond that follows from the old marks
-pub Spreads-follows : (bonds : List Edge) (old : List Bool) (n : ℕ) (marks : List Bool) → n < length marks → get_or marks n false ≡ false → Follows bonds old n → Spreads bonds old marks → Spreads bonds old (set marks n true)
+pub Spreads-follows : (bonds : List Edge) (old : List Bool) (n : ℕ) (marks : List Bool) → n < length marks
+    → get_or marks n false ≡ false → Follows bonds old n → Spreads bonds old marks
+    → Spreads bonds old (set marks n true)
 Spreads-follows bonds old n marks below new follows before = record {
   kept = λ b marked. marked-kept marks n b below (before.kept b marked);
   within = λ s closed lie b marked.
@@ -210,7 +227,9 @@ Grows-on bonds a b c f first second = record {
 }
 
 -- one mark more, of a bond that closes a six-ring
-pub Grows-more : (atoms : ℕ) (bonds : List Edge) (old : List Bool) (n : ℕ) (marks : List Bool) (f : Bool) → AreBetween atoms bonds → n < length marks → get_or marks n false ≡ false → ClosesRing bonds (set_of marks) n → Grows bonds old marks f → Grows bonds old (set marks n true) true
+pub Grows-more : (atoms : ℕ) (bonds : List Edge) (old : List Bool) (n : ℕ) (marks : List Bool) (f : Bool)
+    → AreBetween atoms bonds → n < length marks → get_or marks n false ≡ false → ClosesRing bonds (set_of marks) n
+    → Grows bonds old marks f → Grows bonds old (set marks n true) true
 Grows-more atoms bonds old n marks f ends below new closes before = record {
   spreads = Spreads-more atoms bonds old n marks ends below new closes before.spreads;
   more = λ t. omega (arith, unmarked-set marks n below new, before.spreads.no_more);
@@ -224,7 +243,8 @@ abbrev pub IsDoneFrom : List Edge → List Bool → ℕ → ℕ → ℕ → Type
 IsDoneFrom bonds marks start kind b = (edge : Edge) → slice_get bonds b ≡ Some edge → edge.first ≡ start → edge.kind ≡ kind → IsDone bonds marks b
 
 -- a bond that begins at the start is done where it is for both types, since one of another type closes no ring
-pub both_types : (bonds : List Edge) (marks : List Bool) (start b : ℕ) (edge : Edge) → slice_get bonds b ≡ Some edge → edge.first ≡ start → IsDoneFrom bonds marks start 1 b → IsDoneFrom bonds marks start 2 b → IsDone bonds marks b
+pub both_types : (bonds : List Edge) (marks : List Bool) (start b : ℕ) (edge : Edge) → slice_get bonds b ≡ Some edge
+    → edge.first ≡ start → IsDoneFrom bonds marks start 1 b → IsDoneFrom bonds marks start 2 b → IsDone bonds marks b
 both_types bonds marks start b edge at first one two =
     ⊎_elim (λ e. one edge at first e)
     (λ ne. ⊎_elim (λ e. two edge at first e)
@@ -243,7 +263,9 @@ abbrev pub AreDoneFrom : List Edge → List Bool → ℕ → ℕ → List ℕ �
 AreDoneFrom bonds marks start kind numbers n found = found ≡ false → (i : ℕ) → i < n → IsDoneFrom bonds marks start kind (get_or numbers i 0 - 1)
 
 -- one number more
-pub AreDoneFrom-more : (bonds : List Edge) (marks : List Bool) (start kind : ℕ) (numbers : List ℕ) (n b : ℕ) (found : Bool) → b ≡ get_or numbers n 0 - 1 → (found ≡ false → IsDoneFrom bonds marks start kind b) → AreDoneFrom bonds marks start kind numbers n found → AreDoneFrom bonds marks start kind numbers (n + 1) found
+pub AreDoneFrom-more : (bonds : List Edge) (marks : List Bool) (start kind : ℕ) (numbers : List ℕ) (n b : ℕ)
+    (found : Bool) → b ≡ get_or numbers n 0 - 1 → (found ≡ false → IsDoneFrom bonds marks start kind b)
+    → AreDoneFrom bonds marks start kind numbers n found → AreDoneFrom bonds marks start kind numbers (n + 1) found
 AreDoneFrom-more bonds marks start kind numbers n b found is done each = λ none i below.
     ⊎_elim
     (λ earlier. each none i earlier)
@@ -254,7 +276,9 @@ AreDoneFrom-more bonds marks start kind numbers n b found is done each = λ none
     (cases_lt i n)
 
 -- behind the last number all are done
-pub AreDoneFrom-all : (bonds : List Edge) (marks : List Bool) (start kind : ℕ) (numbers : List ℕ) (n : ℕ) → numbers ≡ numbers_at bonds start → length numbers ≤ n → AreDoneFrom bonds marks start kind numbers n false → (b : ℕ) → IsDoneFrom bonds marks start kind b
+pub AreDoneFrom-all : (bonds : List Edge) (marks : List Bool) (start kind : ℕ) (numbers : List ℕ) (n : ℕ)
+    → numbers ≡ numbers_at bonds start → length numbers ≤ n → AreDoneFrom bonds marks start kind numbers n false
+    → (b : ℕ) → IsDoneFrom bonds marks start kind b
 AreDoneFrom-all bonds marks start kind numbers n are all each b edge at first is =
     let joined : Joins bonds b start edge.second = record { edge = edge; at = at; ends = inl (first, refl) } in
     each_bond (λ k. IsDoneFrom bonds marks start kind k) bonds start numbers n are all (each refl) b edge.second joined edge at first is
@@ -266,7 +290,9 @@ abbrev pub AreDone : List Edge → List Bool → ℕ → Bool → Type 0
 AreDone bonds marks n found = found ≡ false → (b : ℕ) (edge : Edge) → slice_get bonds b ≡ Some edge → edge.first ≤ n → IsDone bonds marks b
 
 -- one atom more
-pub AreDone-more : (bonds : List Edge) (marks : List Bool) (n : ℕ) (found : Bool) → (found ≡ false → (b : ℕ) (edge : Edge) → slice_get bonds b ≡ Some edge → edge.first ≡ n + 1 → IsDone bonds marks b) → AreDone bonds marks n found → AreDone bonds marks (n + 1) found
+pub AreDone-more : (bonds : List Edge) (marks : List Bool) (n : ℕ) (found : Bool)
+    → (found ≡ false → (b : ℕ) (edge : Edge) → slice_get bonds b ≡ Some edge → edge.first ≡ n + 1
+    → IsDone bonds marks b) → AreDone bonds marks n found → AreDone bonds marks (n + 1) found
 AreDone-more bonds marks n found here each none b edge at most =
     ⊎_elim (λ same. here none b edge at same) (λ other. each none b edge at (omega (arith, other, most))) (cases_eq edge.first (n + 1))
 

@@ -63,7 +63,10 @@ pub path_rest : (path : List ℕ) (left : ℕ) → length path ≡ 6 → take (6
 path_rest path left size = let P : ℕ → Type 0 = λ n. take (n - left) (drop left path) ≡ drop left path in subst P size (take_rest path left)
 
 -- where no number of the atom closes the path it can't be closed
-pub none_closes : (bonds : List Edge) (s : ℕ → Bool) (start : ℕ) (path : List ℕ) (at label left : ℕ) (numbers : List ℕ) (n : ℕ) → numbers ≡ numbers_at bonds at → length numbers ≤ n → ((i : ℕ) → i < n → ClosesBy bonds s start path at label left (get_or numbers i 0 - 1) → ⊥) → CanClose bonds s start path at label left → ⊥
+pub none_closes : (bonds : List Edge) (s : ℕ → Bool) (start : ℕ) (path : List ℕ) (at label left : ℕ) (numbers : List ℕ)
+    (n : ℕ) → numbers ≡ numbers_at bonds at → length numbers ≤ n
+    → ((i : ℕ) → i < n → ClosesBy bonds s start path at label left (get_or numbers i 0 - 1) → ⊥)
+    → CanClose bonds s start path at label left → ⊥
 none_closes bonds s start path at label left numbers n are all none can =
     let b = can.0 in
     let within = by_within left b can.1 in

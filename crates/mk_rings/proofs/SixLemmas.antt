@@ -38,14 +38,16 @@ module _ (bonds : List Edge) (set : ℕ → Bool) where
   round_of_rule x k cycle labels = record {
     distinct = cycle.distinct;
     joined = cycle.joined;
-    labels = below_six (λ i. Takes bonds set (k i) (label 1 i)) (labels 0 (omega arith)) (labels 1 (omega arith)) (labels 2 (omega arith)) (labels 3 (omega arith)) (labels 4 (omega arith)) (labels 5 (omega arith));
+    labels = below_six (λ i. Takes bonds set (k i) (label 1 i)) (labels 0 (omega arith)) (labels 1 (omega arith))
+        (labels 2 (omega arith)) (labels 3 (omega arith)) (labels 4 (omega arith)) (labels 5 (omega arith));
   }
 
   -- and back
   pub rule_of_round : (x k : ℕ → ℕ) → IsRound bonds set 1 x k → IsSixCycle bonds x k × TakesLabels bonds set k
   rule_of_round x k r = (
     record { distinct = r.distinct; joined = r.joined },
-    below_six (λ i. Takes bonds set (k i) (1 + i % 2)) (r.labels 0 (omega arith)) (r.labels 1 (omega arith)) (r.labels 2 (omega arith)) (r.labels 3 (omega arith)) (r.labels 4 (omega arith)) (r.labels 5 (omega arith)),
+    below_six (λ i. Takes bonds set (k i) (1 + i % 2)) (r.labels 0 (omega arith)) (r.labels 1 (omega arith))
+        (r.labels 2 (omega arith)) (r.labels 3 (omega arith)) (r.labels 4 (omega arith)) (r.labels 5 (omega arith)),
   )
 
   -- places that are one further are distinct
@@ -56,8 +58,12 @@ module _ (bonds : List Edge) (set : ℕ → Bool) where
   pub turned : (l : ℕ) (x k : ℕ → ℕ) → (l ≡ 1) ⊎ (l ≡ 2) → IsRound bonds set l x k → IsRound bonds set (3 - l) (λ i. x ((i + 1) % 6)) (λ i. k ((i + 1) % 6))
   turned l x k one_or_two r = record {
     distinct = λ i j hi hj same. next_distinct i j hi hj (r.distinct ((i + 1) % 6) ((j + 1) % 6) (omega arith) (omega arith) same);
-    joined = below_six (λ i. Joins bonds (k ((i + 1) % 6)) (x ((i + 1) % 6)) (x (((i + 1) % 6 + 1) % 6))) (r.joined 1 (omega arith)) (r.joined 2 (omega arith)) (r.joined 3 (omega arith)) (r.joined 4 (omega arith)) (r.joined 5 (omega arith)) (r.joined 0 (omega arith));
-    labels = below_six (λ i. Takes bonds set (k ((i + 1) % 6)) (label (3 - l) i)) (r.labels 1 (omega arith)) (back 2 (r.labels 2 (omega arith))) (r.labels 3 (omega arith)) (back 4 (r.labels 4 (omega arith))) (r.labels 5 (omega arith)) (back 0 (r.labels 0 (omega arith)));
+    joined = below_six (λ i. Joins bonds (k ((i + 1) % 6)) (x ((i + 1) % 6)) (x (((i + 1) % 6 + 1) % 6)))
+        (r.joined 1 (omega arith)) (r.joined 2 (omega arith)) (r.joined 3 (omega arith)) (r.joined 4 (omega arith))
+        (r.joined 5 (omega arith)) (r.joined 0 (omega arith));
+    labels = below_six (λ i. Takes bonds set (k ((i + 1) % 6)) (label (3 - l) i)) (r.labels 1 (omega arith))
+        (back 2 (r.labels 2 (omega arith))) (r.labels 3 (omega arith)) (back 4 (r.labels 4 (omega arith)))
+        (r.labels 5 (omega arith)) (back 0 (r.labels 0 (omega arith)));
   }
     where
       back : (i : ℕ) → Takes bonds set (k i) l → Takes bonds set (k i) (3 - (3 - l))
@@ -68,8 +74,12 @@ module _ (bonds : List Edge) (set : ℕ → Bool) where
   reversed l x k r = record {
     distinct = λ i j hi hj same. back_distinct i j hi hj (r.distinct ((7 - i) % 6) ((7 - j) % 6) (omega arith) (omega arith) same);
     joined = below_six (λ i. Joins bonds (k ((6 - i) % 6)) (x ((7 - i) % 6)) (x ((7 - (i + 1) % 6) % 6)))
-        (joins_back (r.joined 0 (omega arith))) (joins_back (r.joined 5 (omega arith))) (joins_back (r.joined 4 (omega arith))) (joins_back (r.joined 3 (omega arith))) (joins_back (r.joined 2 (omega arith))) (joins_back (r.joined 1 (omega arith)));
-    labels = below_six (λ i. Takes bonds set (k ((6 - i) % 6)) (label l i)) (r.labels 0 (omega arith)) (r.labels 5 (omega arith)) (r.labels 4 (omega arith)) (r.labels 3 (omega arith)) (r.labels 2 (omega arith)) (r.labels 1 (omega arith));
+        (joins_back (r.joined 0 (omega arith))) (joins_back (r.joined 5 (omega arith)))
+        (joins_back (r.joined 4 (omega arith))) (joins_back (r.joined 3 (omega arith)))
+        (joins_back (r.joined 2 (omega arith))) (joins_back (r.joined 1 (omega arith)));
+    labels = below_six (λ i. Takes bonds set (k ((6 - i) % 6)) (label l i)) (r.labels 0 (omega arith))
+        (r.labels 5 (omega arith)) (r.labels 4 (omega arith)) (r.labels 3 (omega arith)) (r.labels 2 (omega arith))
+        (r.labels 1 (omega arith));
   }
     where
       back_distinct : (i j : ℕ) → i < 6 → j < 6 → (7 - i) % 6 ≡ (7 - j) % 6 → i ≡ j
@@ -165,7 +175,8 @@ module _ (bonds : List Edge) (set : ℕ → Bool) where
       new_five (suc (suc (suc (suc zero)))) h = differ 0 5 (omega arith) (omega arith) (λ e. omega arith)
       new_five (suc (suc (suc (suc (suc i))))) h = absurd (omega arith)
 
-module _ (bonds : List Edge) (set : ℕ → Bool) (b u v l : ℕ) (joined : Joins bonds b u v) (takes : Takes bonds set b l) (apart : u ≢ v) (one_or_two : (l ≡ 1) ⊎ (l ≡ 2)) (c1 : CanClose bonds set u (v ∷ u ∷ []) v (3 - l) 4) where
+module _ (bonds : List Edge) (set : ℕ → Bool) (b u v l : ℕ) (joined : Joins bonds b u v) (takes : Takes bonds set b l)
+    (apart : u ≢ v) (one_or_two : (l ≡ 1) ⊎ (l ≡ 2)) (c1 : CanClose bonds set u (v ∷ u ∷ []) v (3 - l) 4) where
   once : 3 - (3 - l) ≡ l
   once = ⊎_elim (λ e. omega (arith, e)) (λ e. omega (arith, e)) one_or_two
 
@@ -247,7 +258,9 @@ takes_more : (bonds : List Edge) (small large : ℕ → Bool) → ((b : ℕ) →
 takes_more bonds small large more b l t = ⊎_elim (λ marked. inl (more b marked)) (λ kind. inr kind) t
 
 -- a closed set holds the first bond of each round whose labels a part of it takes
-pub closed_round : (bonds : List Edge) (small large : ℕ → Bool) → ((b : ℕ) → IsTrue (small b) → IsTrue (large b)) → IsClosed bonds large → (l : ℕ) (x k : ℕ → ℕ) → (l ≡ 1) ⊎ (l ≡ 2) → IsRound bonds small l x k → IsTrue (large (k 0))
+pub closed_round : (bonds : List Edge) (small large : ℕ → Bool) → ((b : ℕ) → IsTrue (small b) → IsTrue (large b))
+    → IsClosed bonds large → (l : ℕ) (x k : ℕ → ℕ) → (l ≡ 1) ⊎ (l ≡ 2) → IsRound bonds small l x k
+    → IsTrue (large (k 0))
 closed_round bonds small large more closed l x k one_or_two r =
     ⊎_elim
     (λ one.

@@ -9,14 +9,14 @@ use Rattle.mk_model.specs.declared.edge.Edge.{Edge}
 use Rattle.mk_model.specs.Edges.{AreBetween, IsBetween}
 use Rattle.mk_rings.specs.declared.node.Node.{Node}
 use Rattle.mk_rings.specs.Forests.{node, nowhere, IsGrown, IsForest, unreached}
-use Rattle.mk_rings.specs.Growing.{IsDone, IsInTree, AllDone, IsReaching, StayReached}
+use Rattle.mk_rings.specs.Growing.{HasEndsInTree, IsInTree, AllDone, IsReaching, StayReached}
 use Rattle.mk_rings.proofs.WalkLemmas.{joins_within, get_or-from_get}
 use Rattle.mk_rings.proofs.GrowLemmas.{node-here, node-other, unreached-set, unreached_flat, StayReached-set, IsDone-set, IsGrown-set}
 
 -- ---- a tree is begun and done
 
 -- no bond ends at 0
-IsDone-zero : (bonds : List Edge) (nodes : List Node) → AreBetween (length nodes - 1) bonds → IsDone bonds nodes 0
+IsDone-zero : (bonds : List Edge) (nodes : List Node) → AreBetween (length nodes - 1) bonds → HasEndsInTree bonds nodes 0
 IsDone-zero bonds nodes ends = λ b y joined.
     let within = ends b joined.edge (joins_within bonds b 0 y joined) in
     let at : get_or bonds b joined.edge ≡ joined.edge = get_or-from_get bonds b joined.edge joined.edge joined.at in
@@ -24,7 +24,10 @@ IsDone-zero bonds nodes ends = λ b y joined.
     ⊎_elim (λ e. absurd (omega (arith, between.first, e.0))) (λ e. absurd (omega (arith, between.second, e.1))) joined.ends
 
 -- the top of a new tree stands on the stack alone
-pub IsReaching-top : (bonds : List Edge) (nodes : List Node) (top : ℕ) (n : Node) → IsGrown bonds nodes → AllDone bonds nodes → 1 ≤ top → top < length nodes → (node nodes top).root ≡ 0 → n.root ≡ top → n.depth ≡ (node nodes top).depth → IsReaching bonds (set nodes top n) (top ∷ []) top 0 × StayReached nodes (set nodes top n) × ((node (set nodes top n) top).root ≢ 0)
+pub IsReaching-top : (bonds : List Edge) (nodes : List Node) (top : ℕ) (n : Node) → IsGrown bonds nodes
+    → AllDone bonds nodes → 1 ≤ top → top < length nodes → (node nodes top).root ≡ 0 → n.root ≡ top
+    → n.depth ≡ (node nodes top).depth → IsReaching bonds (set nodes top n) (top ∷ []) top 0
+    × StayReached nodes (set nodes top n) × ((node (set nodes top n) top).root ≢ 0)
 IsReaching-top bonds nodes top n grown done least below new root_is depth_is = (
   record {
     grown = IsGrown-set bonds nodes top n below new root grown (λ high. absurd (omega (arith, flat))) (λ _. root_is) shallow;
@@ -51,7 +54,9 @@ IsReaching-top bonds nodes top n grown done least below new root_is depth_is = (
     shallow = omega (arith, flat, unreached-set nodes top n below new root, count_by-le-length (λ (m : Node). eqb m.root 0) nodes)
 
 -- an atom is taken from the stack
-pub IsReaching-pop : (bonds : List Edge) (nodes : List Node) (stack rest : List ℕ) (x top : ℕ) → stack ≡ rest ++ x ∷ [] → AreBetween (length nodes - 1) bonds → IsReaching bonds nodes stack top 0 → IsReaching bonds nodes rest top x × IsInTree nodes top x
+pub IsReaching-pop : (bonds : List Edge) (nodes : List Node) (stack rest : List ℕ) (x top : ℕ) → stack ≡ rest ++ x ∷ []
+    → AreBetween (length nodes - 1) bonds → IsReaching bonds nodes stack top 0 → IsReaching bonds nodes rest top x
+    × IsInTree nodes top x
 IsReaching-pop bonds nodes stack rest x top is ends r = (
   record {
     grown = r.grown;
@@ -63,7 +68,7 @@ IsReaching-pop bonds nodes stack rest x top is ends r = (
         (λ on_stack.
         let P : List ℕ → Type 0 = λ s. Contains s z in
         inr (⊎_elim (λ among. inl among) (λ last. inr (sym last)) (Contains-push_cases rest x z (subst P is on_stack))))
-        (λ none. let P : ℕ → Type 0 = λ k. IsDone bonds nodes k in inl (subst P (sym none) (IsDone-zero bonds nodes ends)))
+        (λ none. let P : ℕ → Type 0 = λ k. HasEndsInTree bonds nodes k in inl (subst P (sym none) (IsDone-zero bonds nodes ends)))
         others)
         (r.others z reached);
   },
@@ -80,7 +85,7 @@ AllDone-empty bonds nodes stack top empty ends r = λ z reached.
     (λ done. done)
     (λ others. ⊎_elim
     (λ on_stack. absurd (omega (arith, on_stack.1, ap length empty)))
-    (λ none. let P : ℕ → Type 0 = λ k. IsDone bonds nodes k in subst P (sym none) (IsDone-zero bonds nodes ends))
+    (λ none. let P : ℕ → Type 0 = λ k. HasEndsInTree bonds nodes k in subst P (sym none) (IsDone-zero bonds nodes ends))
     others)
     (r.others z reached)
 
@@ -104,7 +109,9 @@ IsGrown-none bonds n = (
 )
 
 -- with every atom reached the trees are a forest
-pub IsForest-all : (atoms : ℕ) (bonds : List Edge) (nodes : List Node) → AreBetween atoms bonds → length nodes ≡ atoms + 1 → IsGrown bonds nodes → AllDone bonds nodes → ((x : ℕ) → 1 ≤ x → x ≤ atoms → (node nodes x).root ≢ 0) → IsForest atoms bonds nodes
+pub IsForest-all : (atoms : ℕ) (bonds : List Edge) (nodes : List Node) → AreBetween atoms bonds
+    → length nodes ≡ atoms + 1 → IsGrown bonds nodes → AllDone bonds nodes
+    → ((x : ℕ) → 1 ≤ x → x ≤ atoms → (node nodes x).root ≢ 0) → IsForest atoms bonds nodes
 IsForest-all atoms bonds nodes ends size grown done reached = record {
   grown = grown;
   size = size;

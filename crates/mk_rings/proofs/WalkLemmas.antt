@@ -74,7 +74,8 @@ IsWalked-swap nodes u v a c old now w = record {
 }
 
 -- the deeper of two atoms that differ hangs
-pub deeper_hangs : (bonds : List Edge) (nodes : List Node) (u v a c : ℕ) (old now : List Bool) → IsGrown bonds nodes → IsWalked nodes u v a c old now → a ≢ c → (node nodes c).depth ≤ (node nodes a).depth → 0 < (node nodes a).depth
+pub deeper_hangs : (bonds : List Edge) (nodes : List Node) (u v a c : ℕ) (old now : List Bool) → IsGrown bonds nodes
+    → IsWalked nodes u v a c old now → a ≢ c → (node nodes c).depth ≤ (node nodes a).depth → 0 < (node nodes a).depth
 deeper_hangs bonds nodes u v a c old now grown w apart order =
     ⊎_elim
     (λ high. high)
@@ -85,7 +86,10 @@ deeper_hangs bonds nodes u v a c old now grown w apart order =
     (cases_lt 0 (node nodes a).depth)
 
 -- the deeper one goes up
-pub IsWalked-up : (bonds : List Edge) (nodes : List Node) (u v a c : ℕ) (old now : List Bool) → IsGrown bonds nodes → ((x b : ℕ) → HangsBy nodes x b → b < length now) → IsWalked nodes u v a c old now → a ≢ c → (node nodes c).depth ≤ (node nodes a).depth → IsWalked nodes u v (node nodes a).parent c old (set now (node nodes a).via true)
+pub IsWalked-up : (bonds : List Edge) (nodes : List Node) (u v a c : ℕ) (old now : List Bool) → IsGrown bonds nodes
+    → ((x b : ℕ) → HangsBy nodes x b → b < length now) → IsWalked nodes u v a c old now → a ≢ c
+    → (node nodes c).depth ≤ (node nodes a).depth → IsWalked nodes u v (node nodes a).parent c old
+    (set now (node nodes a).via true)
 IsWalked-up bonds nodes u v a c old now grown fits w apart order =
     let high = deeper_hangs bonds nodes u v a c old now grown w apart order in
     let h = grown.hang a high in
@@ -121,7 +125,10 @@ IsWalked-up bonds nodes u v a c old now grown fits w apart order =
     }
 
 -- as the loop has it: the deeper one is given first
-module _ (bonds : List Edge) (nodes : List Node) (u v a c deep other : ℕ) (old now : List Bool) (grown : IsGrown bonds nodes) (fits : (x b : ℕ) → HangsBy nodes x b → b < length now) (w : IsWalked nodes u v a c old now) (apart : a ≢ c) (order : (node nodes other).depth ≤ (node nodes deep).depth) (same : ((deep ≡ a) × (other ≡ c)) ⊎ ((deep ≡ c) × (other ≡ a))) where
+module _ (bonds : List Edge) (nodes : List Node) (u v a c deep other : ℕ) (old now : List Bool)
+    (grown : IsGrown bonds nodes) (fits : (x b : ℕ) → HangsBy nodes x b → b < length now)
+    (w : IsWalked nodes u v a c old now) (apart : a ≢ c) (order : (node nodes other).depth ≤ (node nodes deep).depth)
+    (same : ((deep ≡ a) × (other ≡ c)) ⊎ ((deep ≡ c) × (other ≡ a))) where
   pub turned : IsWalked nodes u v deep other old now
   turned =
       ⊎_elim

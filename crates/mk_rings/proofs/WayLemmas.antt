@@ -78,6 +78,8 @@ IsRingBond-linked {bonds} {b} {x} {y} j l =
     j.ends
 
 -- what no other bond changes is the same at both ends of a way
-pub same_along : (bonds : List Edge) (without : ℕ) (set : ℕ → Bool) → ((b x y : ℕ) → Joins bonds b x y → b ≢ without → set x ≡ set y) → (x y : ℕ) (way : List Step) → IsWay bonds without x way y → set x ≡ set y
+pub same_along : (bonds : List Edge) (without : ℕ) (set : ℕ → Bool)
+    → ((b x y : ℕ) → Joins bonds b x y → b ≢ without → set x ≡ set y) → (x y : ℕ) (way : List Step)
+    → IsWay bonds without x way y → set x ≡ set y
 same_along bonds without set stays x y [] p = ap set p
 same_along bonds without set stays x y (step ∷ way) p = stays step.bond x step.to p.0 p.1 ∙ same_along bonds without set stays step.to y way p.2

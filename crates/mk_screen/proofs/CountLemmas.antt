@@ -92,7 +92,9 @@ module _ {X : Type 0} (p : X → Bool) where
     passes = λ d. (let place : n - k ≡ suc (n - (k + 1)) = omega (arith, is.least) in rw place (is.passes d));
   }
 
-  each_by : (k : ℕ) (x : X) (xs : List X) (b : Bool) → p x ≡ b → All (IsNumberWhere (k + 1) xs) (numbers_where (k + 1) xs) → All (IsNumberWhere k (x ∷ xs)) (cond b (k ∷ numbers_where (k + 1) xs) (numbers_where (k + 1) xs))
+  each_by : (k : ℕ) (x : X) (xs : List X) (b : Bool) → p x ≡ b
+      → All (IsNumberWhere (k + 1) xs) (numbers_where (k + 1) xs)
+      → All (IsNumberWhere k (x ∷ xs)) (cond b (k ∷ numbers_where (k + 1) xs) (numbers_where (k + 1) xs))
   each_by k x xs true is later =
       all_cons (IsNumberWhere k (x ∷ xs)) k (numbers_where (k + 1) xs)
       (record { least = omega arith; most = omega arith; passes = λ d. (let place : k - k ≡ 0 = omega arith in rw place is) })
@@ -104,7 +106,8 @@ module _ {X : Type 0} (p : X → Bool) where
   each_where k (x ∷ xs) = each_by k x xs (p x) refl (each_where (k + 1) xs)
 
   -- no number stands twice
-  distinct_by : (k : ℕ) (x : X) (xs : List X) (b : Bool) → AllPairs (λ m n. m ≢ n) (numbers_where (k + 1) xs) → AllPairs (λ m n. m ≢ n) (cond b (k ∷ numbers_where (k + 1) xs) (numbers_where (k + 1) xs))
+  distinct_by : (k : ℕ) (x : X) (xs : List X) (b : Bool) → AllPairs (λ m n. m ≢ n) (numbers_where (k + 1) xs)
+      → AllPairs (λ m n. m ≢ n) (cond b (k ∷ numbers_where (k + 1) xs) (numbers_where (k + 1) xs))
   distinct_by k x xs true later =
       AllPairs-cons (λ (m n : ℕ). m ≢ n) k (numbers_where (k + 1) xs) (λ i d within. (let is = each_where (k + 1) xs i d within in omega (arith, is.least))) later
   distinct_by k x xs false later = later

@@ -63,8 +63,12 @@ module _ (graph : GraphView) (mol : Molecule) (hit : List ℕ) (is : IsHit graph
       let asked_is : get_or graph.atoms (x - 1) fits.asked ≡ fits.asked = place_is graph.atoms (x - 1) fits.asked fits.asked fits.asked_at in
       let atom_is : get_or mol.atoms (image hit x - 1) fits.atom ≡ fits.atom = place_is mol.atoms (image hit x - 1) fits.atom fits.atom fits.atom_at in
       let atom_below : image hit x - 1 < length mol.atoms = place_within mol.atoms (image hit x - 1) fits.atom fits.atom_at in
-      let asks : element_at drawn.elements x ≡ named_element fits.asked.test.kind = get_or-map (λ (atom : GraphAtom). named_element atom.test.kind) graph.atoms (x - 1) fits.asked 0 below ∙ ap (λ (a : GraphAtom). named_element a.test.kind) asked_is in
-      let has : element_at (shown_by_mol mol).elements (image hit x) ≡ fits.atom.element = get_or-map (λ (atom : Atom). atom.element) mol.atoms (image hit x - 1) fits.atom 0 atom_below ∙ ap (λ (a : Atom). a.element) atom_is in
+      let asks : element_at drawn.elements x ≡ named_element fits.asked.test.kind =
+      get_or-map (λ (atom : GraphAtom). named_element atom.test.kind) graph.atoms (x - 1) fits.asked 0 below
+      ∙ ap (λ (a : GraphAtom). named_element a.test.kind) asked_is in
+      let has : element_at (shown_by_mol mol).elements (image hit x) ≡ fits.atom.element =
+      get_or-map (λ (atom : Atom). atom.element) mol.atoms (image hit x - 1) fits.atom 0 atom_below
+      ∙ ap (λ (a : Atom). a.element) atom_is in
       let within : x - 1 < length hit = omega (arith, is.one_each) in
       let range = is.within (x - 1) 0 within in
       record {

@@ -21,8 +21,12 @@ pub covers_of_hit : (graph : GraphView) (mol : Molecule) (hit : List ℕ) (held 
 covers_of_hit graph mol hit held need is of_mol of_graph = record {
   counts = λ i below. (
       let z = get_or counted i 0 in
-      let asked : get_or need.counts i 0 ≡ capped_count (shown_by_graph graph).elements z = ap (λ (xs : List ℕ). get_or xs i 0) of_graph.counts ∙ get_or-map (capped_count (shown_by_graph graph).elements) counted i 0 0 below in
-      let there : get_or held.counts i 0 ≡ capped_count (shown_by_mol mol).elements z = ap (λ (xs : List ℕ). get_or xs i 0) of_mol.counts ∙ get_or-map (capped_count (shown_by_mol mol).elements) counted i 0 0 below in
+      let asked : get_or need.counts i 0 ≡ capped_count (shown_by_graph graph).elements z =
+      ap (λ (xs : List ℕ). get_or xs i 0) of_graph.counts
+      ∙ get_or-map (capped_count (shown_by_graph graph).elements) counted i 0 0 below in
+      let there : get_or held.counts i 0 ≡ capped_count (shown_by_mol mol).elements z =
+      ap (λ (xs : List ℕ). get_or xs i 0) of_mol.counts
+      ∙ get_or-map (capped_count (shown_by_mol mol).elements) counted i 0 0 below in
       omega (arith, asked, there, enough graph mol z (counted_named i below) hit is));
   bits = λ b below set. (of_mol.bits b below).1 (bit_of_image graph mol hit is b ((of_graph.bits b below).0 set));
 }

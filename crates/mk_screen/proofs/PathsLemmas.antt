@@ -132,7 +132,9 @@ module _ (shown : Shown) where
     some = omega arith;
     few = omega arith;
     named = each;
-    distinct = AllPairs-cons (λ (x y : ℕ). x ≢ y) a (b ∷ c ∷ []) (All-cons (λ (y : ℕ). a ≢ y) b (c ∷ []) ab (All-cons (λ (y : ℕ). a ≢ y) c [] ac (All-nil (λ (y : ℕ). a ≢ y)))) (path_2 b c named_b named_c bc joined_bc).distinct;
+    distinct = AllPairs-cons (λ (x y : ℕ). x ≢ y) a (b ∷ c ∷ [])
+        (All-cons (λ (y : ℕ). a ≢ y) b (c ∷ []) ab (All-cons (λ (y : ℕ). a ≢ y) c [] ac (All-nil (λ (y : ℕ). a ≢ y))))
+        (path_2 b c named_b named_c bc joined_bc).distinct;
     joined = next;
   }
     where
@@ -200,7 +202,9 @@ module _ (shown : Shown) where
           elim (in_cases p (path_bit shown (a ∷ b ∷ c ∷ d ∷ [])) (path_bit shown (d ∷ c ∷ b ∷ a ∷ []) ∷ []) is.1) [
             | inl here ↦ made (a ∷ b ∷ c ∷ d ∷ []) (path_4 a b c d named_a named_b named_c named_d ab ac (λ e. da (sym e)) bc (λ e. db (sym e)) (λ e. dc (sym e)) joined_ab joined_bc joined_cd) here
             | inr later ↦ elim (in_cases p (path_bit shown (d ∷ c ∷ b ∷ a ∷ [])) [] later) [
-              | inl here ↦ made (d ∷ c ∷ b ∷ a ∷ []) (path_4 d c b a named_d named_c named_b named_a dc db da cb (λ e. ac (sym e)) (λ e. ab (sym e)) (joined_back c d joined_cd) (joined_back b c joined_bc) (joined_back a b joined_ab)) here
+              | inl here ↦ made (d ∷ c ∷ b ∷ a ∷ []) (path_4 d c b a named_d named_c named_b named_a dc db da cb
+                  (λ e. ac (sym e)) (λ e. ab (sym e)) (joined_back c d joined_cd) (joined_back b c joined_bc)
+                  (joined_back a b joined_ab)) here
               | inr nothing ↦ absurd cc
             ]
           ]
@@ -332,7 +336,10 @@ module _ (shown : Shown) where
           rw pair_true
           (in_later p (path_bit shown (b ∷ c ∷ [])) (path_bit shown (c ∷ b ∷ []) ∷ (bits_all_before shown b c ++ bits_all_behind shown b c))
           (in_later p (path_bit shown (c ∷ b ∷ [])) (bits_all_before shown b c ++ bits_all_behind shown b c)
-          (elim either [ inl before ↦ in_left p (bits_all_before shown b c) (bits_all_behind shown b c) before | inr behind ↦ in_right p (bits_all_before shown b c) (bits_all_behind shown b c) behind ])))
+          (elim either [
+            | inl before ↦ in_left p (bits_all_before shown b c) (bits_all_behind shown b c) before
+            | inr behind ↦ in_right p (bits_all_before shown b c) (bits_all_behind shown b c) behind
+          ])))
 
       ends_in : (path_bit shown (b ∷ c ∷ []) ≡ bit) ⊎ (path_bit shown (c ∷ b ∷ []) ≡ bit) → In p (bits_of_bond shown b c)
       unfolding bits_of_bond
@@ -344,7 +351,9 @@ module _ (shown : Shown) where
                 (in_first p (path_bit shown (c ∷ b ∷ [])) (bits_all_before shown b c ++ bits_all_behind shown b c) (there (c ∷ b ∷ []) same))
           ])
 
-      behind_in : (d : ℕ) → IsNamed shown d → d ≢ b → d ≢ c → AreJoined shown.bonds c d → (path_bit shown (b ∷ c ∷ d ∷ []) ≡ bit) ⊎ (path_bit shown (d ∷ c ∷ b ∷ []) ≡ bit) → In p (bits_of_bond shown b c)
+      behind_in : (d : ℕ) → IsNamed shown d → d ≢ b → d ≢ c → AreJoined shown.bonds c d
+          → (path_bit shown (b ∷ c ∷ d ∷ []) ≡ bit) ⊎ (path_bit shown (d ∷ c ∷ b ∷ []) ≡ bit)
+          → In p (bits_of_bond shown b c)
       unfolding bits_behind bits_all_behind
       behind_in d named_d db dc joined either =
           in_bond (inr (by_end (bits_behind shown b c) c d joined
@@ -368,21 +377,29 @@ module _ (shown : Shown) where
             let f = λ (number : ℕ). bits_around shown a b c (end_at shown.bonds number c) in
             in_before (rw before_true (elim either [
               | inl same ↦ in_first p (path_bit shown (a ∷ b ∷ c ∷ [])) (path_bit shown (c ∷ b ∷ a ∷ []) ∷ flat_map f (numbers_at shown.bonds c)) (there (a ∷ b ∷ c ∷ []) same)
-              | inr same ↦ in_later p (path_bit shown (a ∷ b ∷ c ∷ [])) (path_bit shown (c ∷ b ∷ a ∷ []) ∷ flat_map f (numbers_at shown.bonds c)) (in_first p (path_bit shown (c ∷ b ∷ a ∷ [])) (flat_map f (numbers_at shown.bonds c)) (there (c ∷ b ∷ a ∷ []) same))
+              | inr same ↦ in_later p (path_bit shown (a ∷ b ∷ c ∷ []))
+                  (path_bit shown (c ∷ b ∷ a ∷ []) ∷ flat_map f (numbers_at shown.bonds c))
+                  (in_first p (path_bit shown (c ∷ b ∷ a ∷ [])) (flat_map f (numbers_at shown.bonds c))
+                  (there (c ∷ b ∷ a ∷ []) same))
             ]))
 
-        around_in : (d : ℕ) → IsNamed shown d → d ≢ a → d ≢ b → d ≢ c → AreJoined shown.bonds c d → (path_bit shown (a ∷ b ∷ c ∷ d ∷ []) ≡ bit) ⊎ (path_bit shown (d ∷ c ∷ b ∷ a ∷ []) ≡ bit) → In p (bits_of_bond shown b c)
+        around_in : (d : ℕ) → IsNamed shown d → d ≢ a → d ≢ b → d ≢ c → AreJoined shown.bonds c d
+            → (path_bit shown (a ∷ b ∷ c ∷ d ∷ []) ≡ bit) ⊎ (path_bit shown (d ∷ c ∷ b ∷ a ∷ []) ≡ bit)
+            → In p (bits_of_bond shown b c)
         unfolding bits_before bits_around
         around_in d named_d da db dc joined_cd either =
             let f = λ (number : ℕ). bits_around shown a b c (end_at shown.bonds number c) in
-            let test = and_from (is_named shown d) (differ d a && (differ d b && differ d c)) (named_true d named_d) (and_from (differ d a) (differ d b && differ d c) (differ_true d a da) (and_from (differ d b) (differ d c) (differ_true d b db) (differ_true d c dc))) in
+            let test = and_from (is_named shown d) (differ d a && (differ d b && differ d c)) (named_true d named_d)
+            (and_from (differ d a) (differ d b && differ d c) (differ_true d a da)
+            (and_from (differ d b) (differ d c) (differ_true d b db) (differ_true d c dc))) in
             in_before (rw before_true
             (in_later p (path_bit shown (a ∷ b ∷ c ∷ [])) (path_bit shown (c ∷ b ∷ a ∷ []) ∷ flat_map f (numbers_at shown.bonds c))
             (in_later p (path_bit shown (c ∷ b ∷ a ∷ [])) (flat_map f (numbers_at shown.bonds c))
             (by_end (bits_around shown a b c) c d joined_cd
             (rw test (elim either [
               | inl same ↦ in_first p (path_bit shown (a ∷ b ∷ c ∷ d ∷ [])) (path_bit shown (d ∷ c ∷ b ∷ a ∷ []) ∷ []) (there (a ∷ b ∷ c ∷ d ∷ []) same)
-              | inr same ↦ in_later p (path_bit shown (a ∷ b ∷ c ∷ d ∷ [])) (path_bit shown (d ∷ c ∷ b ∷ a ∷ []) ∷ []) (in_first p (path_bit shown (d ∷ c ∷ b ∷ a ∷ [])) [] (there (d ∷ c ∷ b ∷ a ∷ []) same))
+              | inr same ↦ in_later p (path_bit shown (a ∷ b ∷ c ∷ d ∷ [])) (path_bit shown (d ∷ c ∷ b ∷ a ∷ []) ∷ [])
+                  (in_first p (path_bit shown (d ∷ c ∷ b ∷ a ∷ [])) [] (there (d ∷ c ∷ b ∷ a ∷ []) same))
             ]))))))
 
     -- around the bond that joins two atoms, in either order of its ends
@@ -438,7 +455,8 @@ module _ (shown : Shown) where
         let ac = is.distinct 0 2 0 (omega arith) (omega arith) in
         let bc = is.distinct 1 2 0 (omega arith) (omega arith) in
         let back = joined_back a b (is.joined 0 (omega arith)) in
-        inr (by_bond b c (is.joined 1 (omega arith)) (before_in b c named_b named_c bc a named_a ab ac back (inl same)) (behind_in c b named_c named_b (λ e. bc (sym e)) a named_a ac ab back (inr same)))
+        inr (by_bond b c (is.joined 1 (omega arith)) (before_in b c named_b named_c bc a named_a ab ac back (inl same))
+        (behind_in c b named_c named_b (λ e. bc (sym e)) a named_a ac ab back (inr same)))
     has (a ∷ b ∷ c ∷ d ∷ []) is same =
         let named_a = is.named 0 (omega arith) in
         let named_b = is.named 1 (omega arith) in

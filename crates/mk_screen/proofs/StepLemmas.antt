@@ -35,14 +35,20 @@ module _ (shown : Shown) where
   bit_2 a b x y is_x is_y =
       ap (λ n. n % 512) (let e : 2 * 131 * 131 + x * 131 + y ≡ (2 * 131 + element_at shown.elements a) * 131 + element_at shown.elements b = omega arith in e)
 
-  bit_3 : (a b c x y z : ℕ) → x ≡ element_at shown.elements a → y ≡ element_at shown.elements b → z ≡ element_at shown.elements c → (3 * 131 * 131 * 131 + (x * 131 + y) * 131 + z) % 512 ≡ path_bit shown (a ∷ b ∷ c ∷ [])
+  bit_3 : (a b c x y z : ℕ) → x ≡ element_at shown.elements a → y ≡ element_at shown.elements b
+      → z ≡ element_at shown.elements c → (3 * 131 * 131 * 131 + (x * 131 + y) * 131 + z) % 512 ≡ path_bit shown
+      (a ∷ b ∷ c ∷ [])
   bit_3 a b c x y z is_x is_y is_z =
-      ap (λ n. n % 512) (let e : 3 * 131 * 131 * 131 + (x * 131 + y) * 131 + z ≡ ((3 * 131 + element_at shown.elements a) * 131 + element_at shown.elements b) * 131 + element_at shown.elements c = omega arith in e)
+      ap (λ n. n % 512) (let e : 3 * 131 * 131 * 131 + (x * 131 + y) * 131 + z ≡
+      ((3 * 131 + element_at shown.elements a) * 131 + element_at shown.elements b) * 131 + element_at
+      shown.elements c = omega arith in e)
 
   bit_4 : (a b c d x y z w : ℕ) → x ≡ element_at shown.elements a → y ≡ element_at shown.elements b → z ≡ element_at shown.elements c → w ≡ element_at shown.elements d
       → (4 * 131 * 131 * 131 * 131 + ((x * 131 + y) * 131 + z) * 131 + w) % 512 ≡ path_bit shown (a ∷ b ∷ c ∷ d ∷ [])
   bit_4 a b c d x y z w is_x is_y is_z is_w =
-      ap (λ n. n % 512) (let e : 4 * 131 * 131 * 131 * 131 + ((x * 131 + y) * 131 + z) * 131 + w ≡ (((4 * 131 + element_at shown.elements a) * 131 + element_at shown.elements b) * 131 + element_at shown.elements c) * 131 + element_at shown.elements d = omega arith in e)
+      ap (λ n. n % 512) (let e : 4 * 131 * 131 * 131 * 131 + ((x * 131 + y) * 131 + z) * 131 + w ≡
+      (((4 * 131 + element_at shown.elements a) * 131 + element_at shown.elements b) * 131 + element_at
+      shown.elements c) * 131 + element_at shown.elements d = omega arith in e)
 
   -- two bits, one after the other
   two : (p q p' q' : ℕ) (old mid new : List ℕ) → p ≡ p' → q ≡ q' → Adds (p ∷ []) old mid → Adds (q ∷ []) mid new → Adds (p' ∷ q' ∷ []) old new
@@ -81,14 +87,18 @@ module _ (shown : Shown) where
 
     pub around_second : (bits : List ℕ) → d ≡ b → Adds (bits_around shown a b c d) bits bits
     around_second bits same =
-        around_no (and_right (is_named shown d) (differ d a && (differ d b && differ d c)) (and_right (differ d a) (differ d b && differ d c) (and_left (differ d b) (differ d c) (not_apart d b same)))) bits
+        around_no (and_right (is_named shown d) (differ d a && (differ d b && differ d c))
+        (and_right (differ d a) (differ d b && differ d c)
+        (and_left (differ d b) (differ d c) (not_apart d b same)))) bits
 
     pub around_go : (x y z w : ℕ) (old mid new : List ℕ) → 1 ≤ d → d ≢ c → x ≡ element_at shown.elements a → IsPair shown b c y z → w ≡ element_at shown.elements d → 2 ≤ w → d ≢ a → d ≢ b
         → Adds ((4 * 131 * 131 * 131 * 131 + ((x * 131 + y) * 131 + z) * 131 + w) % 512 ∷ []) old mid → Adds ((4 * 131 * 131 * 131 * 131 + ((w * 131 + z) * 131 + y) * 131 + x) % 512 ∷ []) mid new
         → Adds (bits_around shown a b c d) old new
     unfolding bits_around
     around_go x y z w old mid new least dc is_x pair is_w some da db first second =
-        rw (and_from (is_named shown d) (differ d a && (differ d b && differ d c)) (named d least (omega arith)) (and_from (differ d a) (differ d b && differ d c) (apart d a da) (and_from (differ d b) (differ d c) (apart d b db) (apart d c dc))))
+        rw (and_from (is_named shown d) (differ d a && (differ d b && differ d c)) (named d least (omega arith))
+        (and_from (differ d a) (differ d b && differ d c) (apart d a da)
+        (and_from (differ d b) (differ d c) (apart d b db) (apart d c dc))))
         (two _ _ (path_bit shown (a ∷ b ∷ c ∷ d ∷ [])) (path_bit shown (d ∷ c ∷ b ∷ a ∷ [])) old mid new
         (bit_4 a b c d x y z w is_x pair.first pair.second is_w) (bit_4 d c b a w z y x is_w pair.second pair.first is_x) first second)
 
@@ -130,7 +140,9 @@ module _ (shown : Shown) where
     unfolding bits_before
     before_go x y z old mid next new least ab pair is_x some ac first second others =
         rw (and_from (is_named shown a) (differ a b && differ a c) (named a least (omega arith)) (and_from (differ a b) (differ a c) (apart a b ab) (apart a c ac)))
-        (adds_join (path_bit shown (a ∷ b ∷ c ∷ []) ∷ path_bit shown (c ∷ b ∷ a ∷ []) ∷ []) (flat_map (λ number. bits_around shown a b c (end_at shown.bonds number c)) (numbers_at shown.bonds c)) old next new
+        (adds_join (path_bit shown (a ∷ b ∷ c ∷ []) ∷ path_bit shown (c ∷ b ∷ a ∷ []) ∷ [])
+        (flat_map (λ number. bits_around shown a b c (end_at shown.bonds number c)) (numbers_at shown.bonds c)) old
+        next new
         (two _ _ (path_bit shown (a ∷ b ∷ c ∷ [])) (path_bit shown (c ∷ b ∷ a ∷ [])) old mid next
         (bit_3 a b c x y z is_x pair.first pair.second) (bit_3 c b a z y x pair.second pair.first is_x) first second) others)
 
@@ -167,7 +179,8 @@ module _ (shown : Shown) where
   unfolding bits_of_bonds
   bonds_none bits = adds_none bits
 
-  pub bonds_more : (n : ℕ) (edge : Edge) (old mid new : List ℕ) → slice_get shown.bonds (n + 1 - 1) ≡ Some edge → Adds (bits_of_bonds shown n) old mid → Adds (bits_of_bond shown edge.first edge.second) mid new
+  pub bonds_more : (n : ℕ) (edge : Edge) (old mid new : List ℕ) → slice_get shown.bonds (n + 1 - 1) ≡ Some edge
+      → Adds (bits_of_bonds shown n) old mid → Adds (bits_of_bond shown edge.first edge.second) mid new
       → Adds (bits_of_bonds shown (n + 1)) old new
   unfolding bits_of_bonds
   bonds_more n edge old mid new at first second =

@@ -29,7 +29,9 @@ around graph mol x m asked =
     && unsaturation_fits asked.test.unsaturated (is_unsaturated_at mol m)))
 
 -- tests that are all met make the atom fit
-pub fits_by : (graph : GraphView) (mol : Molecule) (x m : ℕ) (asked : GraphAtom) (atom : Atom) → slice_get graph.atoms (x - 1) ≡ Some asked → slice_get mol.atoms (m - 1) ≡ Some atom → alone asked atom ≡ true → around graph mol x m asked ≡ true → FitsAtom graph mol x m
+pub fits_by : (graph : GraphView) (mol : Molecule) (x m : ℕ) (asked : GraphAtom) (atom : Atom)
+    → slice_get graph.atoms (x - 1) ≡ Some asked → slice_get mol.atoms (m - 1) ≡ Some atom → alone asked atom ≡ true
+    → around graph mol x m asked ≡ true → FitsAtom graph mol x m
 fits_by graph mol x m asked atom asked_at atom_at by_itself by_bonds =
     let kind = and_parts _ _ by_itself in
     let charge = and_parts _ _ kind.1 in
@@ -60,14 +62,18 @@ meets_around graph mol x m asked asked_at fits =
 -- ---- a bond
 
 -- a bond of a graph lies on the one that joins the ends, where that one meets its test
-pub lies_by : (mol : Molecule) (drawn : Option GraphBond) (asked other : GraphBond) (a b : ℕ) (found : Option MolBond) (bond : MolBond) → drawn ≡ Some asked → drawn ≡ Some other → ((d : MolBond) → (found ≡ Some d) ↔ IsBondOf mol a b d) → found ≡ Some bond → meets asked bond ≡ true → LiesOn mol other a b
+pub lies_by : (mol : Molecule) (drawn : Option GraphBond) (asked other : GraphBond) (a b : ℕ) (found : Option MolBond)
+    (bond : MolBond) → drawn ≡ Some asked → drawn ≡ Some other → ((d : MolBond) → (found ≡ Some d) ↔ IsBondOf mol a b d)
+    → found ≡ Some bond → meets asked bond ≡ true → LiesOn mol other a b
 lies_by mol drawn asked other a b found bond is_asked is_other exact is_found met =
     let same : asked ≡ other = cc (is_asked, is_other) in
     let P : GraphBond → Type 0 = λ d. meets d bond ≡ true in
     record { bond = bond; joins = (exact bond).0 is_found; meets = subst P same met }
 
 -- and only there
-pub lies_only : (mol : Molecule) (drawn : Option GraphBond) (asked other : GraphBond) (a b : ℕ) (found : Option MolBond) (bond : MolBond) → drawn ≡ Some asked → drawn ≡ Some other → ((d : MolBond) → (found ≡ Some d) ↔ IsBondOf mol a b d) → found ≡ Some bond → LiesOn mol other a b → meets asked bond ≡ true
+pub lies_only : (mol : Molecule) (drawn : Option GraphBond) (asked other : GraphBond) (a b : ℕ) (found : Option MolBond)
+    (bond : MolBond) → drawn ≡ Some asked → drawn ≡ Some other → ((d : MolBond) → (found ≡ Some d) ↔ IsBondOf mol a b d)
+    → found ≡ Some bond → LiesOn mol other a b → meets asked bond ≡ true
 lies_only mol drawn asked other a b found bond is_asked is_other exact is_found lies =
     let same : other ≡ asked = cc (is_asked, is_other) in
     let joins : found ≡ Some lies.bond = (exact lies.bond).1 lies.joins in

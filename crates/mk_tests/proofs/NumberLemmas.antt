@@ -37,32 +37,43 @@ passes-here test all rest k b is =
 -- ---- counts
 
 -- how many pass, of the bonds from a place on
-count-from : {B : Type 0} (edge : B → Edge) (test : B → Bool) (all bonds : List B) (n k : ℕ) → drop k all ≡ bonds → count_by (λ number. passes_at test all number) (numbers_from (k + 1) (map edge bonds) n) ≡ count_by (λ bond. touches n (edge bond) && test bond) bonds
+count-from : {B : Type 0} (edge : B → Edge) (test : B → Bool) (all bonds : List B) (n k : ℕ) → drop k all ≡ bonds
+    → count_by (λ number. passes_at test all number) (numbers_from (k + 1) (map edge bonds) n) ≡ count_by
+    (λ bond. touches n (edge bond) && test bond) bonds
 count-from edge test all [] n k is = refl
 count-from edge test all (b ∷ rest) n k is =
     let later = count-from edge test all rest n (k + 1) (front-next all rest k b is) in
     let here : passes_at test all (k + 1) ≡ test b = passes-here test all rest k b is in
     rw (sum_by-cons (λ bond. cond (touches n (edge bond) && test bond) 1 0) b rest)
-    (elim (touches n (edge b)) as (λ t. count_by (λ number. passes_at test all number) (cond t ((k + 1) ∷ numbers_from (k + 1 + 1) (map edge rest) n) (numbers_from (k + 1 + 1) (map edge rest) n)) ≡ cond (t && test b) 1 0 + count_by (λ bond. touches n (edge bond) && test bond) rest) [
+    (elim (touches n (edge b)) as (λ t. count_by (λ number. passes_at test all number)
+    (cond t ((k + 1) ∷ numbers_from (k + 1 + 1) (map edge rest) n) (numbers_from (k + 1 + 1) (map edge rest) n))
+    ≡ cond (t && test b) 1 0 + count_by (λ bond. touches n (edge bond) && test bond) rest) [
       | true ↦ rw (sum_by-cons (λ number. cond (passes_at test all number) 1 0) (k + 1) (numbers_from (k + 1 + 1) (map edge rest) n), here, later) refl
       | false ↦ rw zero-add later
     ])
 
 -- how many of the numbered bonds of an atom pass
-pub count-numbers : {B : Type 0} (edge : B → Edge) (test : B → Bool) (bonds : List B) (n : ℕ) → count_by (λ number. passes_at test bonds number) (numbers_at (map edge bonds) n) ≡ count_at edge test bonds n
+pub count-numbers : {B : Type 0} (edge : B → Edge) (test : B → Bool) (bonds : List B) (n : ℕ)
+    → count_by (λ number. passes_at test bonds number) (numbers_at (map edge bonds) n) ≡ count_at edge test bonds n
 count-numbers edge test bonds n = count-from edge test bonds bonds n 0 refl
 
 -- whether some passes, of the bonds from a place on
-any-from : {B : Type 0} (edge : B → Edge) (test : B → Bool) (all bonds : List B) (n k : ℕ) → drop k all ≡ bonds → list_any (λ number. passes_at test all number) (numbers_from (k + 1) (map edge bonds) n) ≡ list_any (λ bond. touches n (edge bond) && test bond) bonds
+any-from : {B : Type 0} (edge : B → Edge) (test : B → Bool) (all bonds : List B) (n k : ℕ) → drop k all ≡ bonds
+    → list_any (λ number. passes_at test all number) (numbers_from (k + 1) (map edge bonds) n) ≡ list_any
+    (λ bond. touches n (edge bond) && test bond) bonds
 any-from edge test all [] n k is = refl
 any-from edge test all (b ∷ rest) n k is =
     let later = any-from edge test all rest n (k + 1) (front-next all rest k b is) in
     let here : passes_at test all (k + 1) ≡ test b = passes-here test all rest k b is in
-    elim (touches n (edge b)) as (λ t. list_any (λ number. passes_at test all number) (cond t ((k + 1) ∷ numbers_from (k + 1 + 1) (map edge rest) n) (numbers_from (k + 1 + 1) (map edge rest) n)) ≡ ((t && test b) || list_any (λ bond. touches n (edge bond) && test bond) rest))
+    elim (touches n (edge b)) as (λ t. list_any (λ number. passes_at test all number)
+    (cond t ((k + 1) ∷ numbers_from (k + 1 + 1) (map edge rest) n) (numbers_from (k + 1 + 1) (map edge rest) n)) ≡
+    ((t && test b) || list_any (λ bond. touches n (edge bond) && test bond) rest))
     [ true ↦ rw (here, later) refl | false ↦ later ]
 
 -- whether some of the numbered bonds of an atom passes
-pub any-numbers : {B : Type 0} (edge : B → Edge) (test : B → Bool) (bonds : List B) (n : ℕ) → list_any (λ number. passes_at test bonds number) (numbers_at (map edge bonds) n) ≡ list_any (λ bond. touches n (edge bond) && test bond) bonds
+pub any-numbers : {B : Type 0} (edge : B → Edge) (test : B → Bool) (bonds : List B) (n : ℕ)
+    → list_any (λ number. passes_at test bonds number) (numbers_at (map edge bonds) n) ≡ list_any
+    (λ bond. touches n (edge bond) && test bond) bonds
 any-numbers edge test bonds n = any-from edge test bonds bonds n 0 refl
 
 -- ---- one number

@@ -7,6 +7,7 @@
 //!
 //! Neither takes memory, and neither looks at more than the bonds of one atom on each side. Counts
 //! are made only where their column asks for them. Which atoms are tried is left to the matcher.
+//! The crate is named for these tests of a query, and not for tests of a program.
 #![tactic(auto)]
 
 mod atoms;

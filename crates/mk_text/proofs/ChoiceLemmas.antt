@@ -99,7 +99,9 @@ was_listed n (suc k) x h =
     subst (IsChoice n (suc k)) m.4 (record { count = ap suc c.count; within = ((m.2, omega (arith, m.3)), c.within) })
 
 -- by whether the first passes
-in_filter_by : (test : List ℕ → Bool) (y : List ℕ) (ys : List (List ℕ)) (x : List ℕ) (b : Bool) → test y ≡ b → (Holds (filter test ys) x → Holds ys x × (test x ≡ true)) → Holds (filter test (y ∷ ys)) x → Holds (y ∷ ys) x × (test x ≡ true)
+in_filter_by : (test : List ℕ → Bool) (y : List ℕ) (ys : List (List ℕ)) (x : List ℕ) (b : Bool) → test y ≡ b
+    → (Holds (filter test ys) x → Holds ys x × (test x ≡ true)) → Holds (filter test (y ∷ ys)) x → Holds (y ∷ ys) x
+    × (test x ≡ true)
 in_filter_by test y ys x true e f h = elim (rw e at h) [ inl g ↦ (inl g, ap test (sym g) ∙ e) | inr g ↦ (inr (f g).0, (f g).1) ]
 in_filter_by test y ys x false e f h = let g = f (rw e at h) in (inr g.0, g.1)
 
@@ -109,7 +111,8 @@ in_filter test [] x h = elim h [ ]
 in_filter test (y ∷ ys) x h = in_filter_by test y ys x _ refl (in_filter test ys x) h
 
 -- by whether the first passes
-member_filter_by : (test : List ℕ → Bool) (y : List ℕ) (ys : List (List ℕ)) (x : List ℕ) (b : Bool) → test y ≡ b → test x ≡ true → (Holds ys x → Holds (filter test ys) x) → Holds (y ∷ ys) x → Holds (filter test (y ∷ ys)) x
+member_filter_by : (test : List ℕ → Bool) (y : List ℕ) (ys : List (List ℕ)) (x : List ℕ) (b : Bool) → test y ≡ b
+    → test x ≡ true → (Holds ys x → Holds (filter test ys) x) → Holds (y ∷ ys) x → Holds (filter test (y ∷ ys)) x
 member_filter_by test y ys x true e t f (inl g) = rw e (inl g)
 member_filter_by test y ys x true e t f (inr g) = rw e (inr (f g))
 member_filter_by test y ys x false e t f (inl g) = absurd (let q : test y ≡ true = ap test g ∙ t in cc)

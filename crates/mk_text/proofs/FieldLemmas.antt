@@ -39,7 +39,9 @@ mapped f None y found = absurd cc
 mapped f (Some x) y found = (x, refl, cc)
 
 -- by the three tests of digits
-digits_by : (ds : List ℕ) (n : ℕ) (some few all : Bool) → leb 1 (length ds) ≡ some → leb (length ds) 9 ≡ few → list_all is_ascii_digit ds ≡ all → cond (some && (few && all)) (Some (digits_value 10 ds)) None ≡ Some n → AreDigits ds n
+digits_by : (ds : List ℕ) (n : ℕ) (some few all : Bool) → leb 1 (length ds) ≡ some → leb (length ds) 9 ≡ few
+    → list_all is_ascii_digit ds ≡ all → cond (some && (few && all)) (Some (digits_value 10 ds)) None ≡ Some n
+    → AreDigits ds n
 digits_by ds n true true true a b d found = record { some = leb-true _ _ a; few = leb-true _ _ b; digits = d; value = cc }
 digits_by ds n true true false a b d found = absurd cc
 digits_by ds n true false all a b d found = absurd cc
@@ -143,7 +145,9 @@ last_no_space : (s : Sign) (ds : List ℕ) → 1 ≤ length ds → list_all is_a
 last_no_space s ds some digits = ap is_space (last_digit s ds some) ∙ digit_no_space (get_or ds (length ds - 1) 0) (digit_at ds (length ds - 1) digits (omega arith)).0
 
 -- a sign or none and digits, between blanks
-pub number_given : (before after : List ℕ) (s : Sign) (ds : List ℕ) → are_blank before ≡ true → are_blank after ≡ true → 1 ≤ length ds → length ds ≤ 9 → list_all is_ascii_digit ds ≡ true → field_in (before ++ ((sign_text s ++ ds) ++ after)) ≡ Some (signed s (digits_value 10 ds))
+pub number_given : (before after : List ℕ) (s : Sign) (ds : List ℕ) → are_blank before ≡ true → are_blank after ≡ true
+    → 1 ≤ length ds → length ds ≤ 9 → list_all is_ascii_digit ds ≡ true
+    → field_in (before ++ ((sign_text s ++ ds) ++ after)) ≡ Some (signed s (digits_value 10 ds))
 number_given before after s ds blank_before blank_after some few digits =
     let core = sign_text s ++ ds in
     let any : 0 < length core = omega (arith, length-append (sign_text s) ds) in
@@ -201,7 +205,9 @@ field_end cells z (inr h) end =
     let core = sign_text h.sign ++ h.digits in
     let any : 0 < length core = omega (arith, length-append (sign_text h.sign) h.digits, h.some_digits) in
     let is : trimmed cells ≡ core =
-    ap trimmed h.whole ∙ trimmed_between h.before core h.after h.blank_before h.blank_after any (first_no_space h.sign h.digits h.some_digits h.are_digits) (last_no_space h.sign h.digits h.some_digits h.are_digits) in
+    ap trimmed h.whole ∙ trimmed_between h.before core h.after h.blank_before h.blank_after any
+    (first_no_space h.sign h.digits h.some_digits h.are_digits)
+    (last_no_space h.sign h.digits h.some_digits h.are_digits) in
     let P : List ℕ → Type 0 = EndsWith 13 in
     let last = (last_is core 13 (subst P is end)).1 in
     let digit = digit_at h.digits (length h.digits - 1) h.are_digits (omega (arith, h.some_digits)) in

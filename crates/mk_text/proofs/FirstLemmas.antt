@@ -148,7 +148,8 @@ all_below_behind place (xs ∷ ys ∷ lists) rises =
     (below_through xs ys (place_behind (ys ++ (0 ∷ [])) lists) rises.0.0 rest.0, rest)
 
 -- what isn't below the place behind a rising list isn't below the place before it
-pub not_below_before : (place : List ℕ) (lists : List (List ℕ)) (xs : List ℕ) → Rises lists → Each (λ ys. IsBelow ys place → ⊥) lists → (IsBelow xs (place_behind place lists) → ⊥) → IsBelow xs place → ⊥
+pub not_below_before : (place : List ℕ) (lists : List (List ℕ)) (xs : List ℕ) → Rises lists
+    → Each (λ ys. IsBelow ys place → ⊥) lists → (IsBelow xs (place_behind place lists) → ⊥) → IsBelow xs place → ⊥
 not_below_before place [] xs rises from not below = not below
 not_below_before place (ys ∷ lists) xs rises from not below =
     not (below_through xs ys (place_behind (ys ++ (0 ∷ [])) lists) (below_what_isnt xs ys place below from.0) (all_below_behind place (ys ∷ lists) rises).0)
@@ -159,7 +160,9 @@ not_below_behind place [] xs not above below = not below
 not_below_behind place (ys ∷ lists) xs not above below =
     not_below_behind (ys ++ (0 ∷ [])) lists xs (λ under. none_before_place_behind ys xs above.0 under) above.1 below
 
-pub first_and_others : (most : ℕ) (P : List ℕ → Type 0) (place : List ℕ) (lists others : List (List ℕ)) → AreFirst most (IsFrom P place) lists → IsRisingListOfAll (IsFrom P (place_behind place lists)) others → IsRisingListOfAll (IsFrom P place) (lists ++ others)
+pub first_and_others : (most : ℕ) (P : List ℕ → Type 0) (place : List ℕ) (lists others : List (List ℕ))
+    → AreFirst most (IsFrom P place) lists → IsRisingListOfAll (IsFrom P (place_behind place lists)) others
+    → IsRisingListOfAll (IsFrom P place) (lists ++ others)
 first_and_others most P place lists others h g = record {
   rises = rises_append lists others h.rises g.rises (each_from (λ xs. IsBelow xs behind) (λ xs. Each (λ ys. IsBelow xs ys) others) lists over (all_below_behind place lists h.rises));
   each = λ xs is. elim (holds_either lists others xs is) [
@@ -207,7 +210,9 @@ listed_more P from lists next h least = record {
     under xs is = below_what_isnt xs next from (h.each xs is).1 least.from
 
 -- the place moves up over what doesn't have P
-pub listed_moved : (P : List ℕ → Type 0) (from to : List ℕ) (lists : List (List ℕ)) → Listed P from lists → ((xs : List ℕ) → IsBelow xs from → IsBelow xs to) → ((xs : List ℕ) → P xs → (IsBelow xs from → ⊥) → IsBelow xs to → ⊥) → Listed P to lists
+pub listed_moved : (P : List ℕ → Type 0) (from to : List ℕ) (lists : List (List ℕ)) → Listed P from lists
+    → ((xs : List ℕ) → IsBelow xs from → IsBelow xs to)
+    → ((xs : List ℕ) → P xs → (IsBelow xs from → ⊥) → IsBelow xs to → ⊥) → Listed P to lists
 listed_moved P from to lists h up none = record {
   rises = h.rises;
   each = λ xs is. ((h.each xs is).0, up xs (h.each xs is).1);
@@ -230,7 +235,8 @@ first_listed P from lists h = record {
 }
 
 -- and where nothing is left they are, too
-pub first_when_all : (P : List ℕ → Type 0) (from : List ℕ) (most : ℕ) (lists : List (List ℕ)) → Listed P from lists → length lists ≤ most → ((xs : List ℕ) → P xs → (IsBelow xs from → ⊥) → ⊥) → AreFirst most P lists
+pub first_when_all : (P : List ℕ → Type 0) (from : List ℕ) (most : ℕ) (lists : List (List ℕ)) → Listed P from lists
+    → length lists ≤ most → ((xs : List ℕ) → P xs → (IsBelow xs from → ⊥) → ⊥) → AreFirst most P lists
 first_when_all P from most lists h few none = record {
   rises = h.rises;
   each = λ xs is. (h.each xs is).0;

@@ -39,7 +39,8 @@ items-more P xs k x is p before j below =
     (cases_lt j (k + 1))
 
 -- the first item that fails
-pub items-fail : {X : Type 0} (P : X → Type 0) (xs : List X) (k : ℕ) (x : X) → k < length xs → x ≡ get_or xs k x → (P x → ⊥) → ((j : ℕ) → j < k + 1 → OfItem P xs j) → IsLeastFailing (OfItem P xs) (k + 1)
+pub items-fail : {X : Type 0} (P : X → Type 0) (xs : List X) (k : ℕ) (x : X) → k < length xs → x ≡ get_or xs k x
+    → (P x → ⊥) → ((j : ℕ) → j < k + 1 → OfItem P xs j) → IsLeastFailing (OfItem P xs) (k + 1)
 items-fail P xs k x below is fails before = record {
   lower = before;
   fails = λ of. fails (of_item-at P xs k x below is of);

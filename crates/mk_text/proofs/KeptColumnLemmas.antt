@@ -66,7 +66,9 @@ standing_crs line a b =
     (t.0, ap (λ (l : List ℕ). standing l a b) w.1 ∙ ap (take (b - (a - 1))) d.1 ∙ t.1)
 
 -- what stands there without passes each test that it passes
-pub standing_all : (p : ℕ → Bool) (line : List ℕ) (a b : ℕ) → ((xs ys : List ℕ) → list_all p (xs ++ ys) ≡ true → list_all p xs ≡ true) → list_all p (standing line a b) ≡ true → list_all p (standing (without_crs line) a b) ≡ true
+pub standing_all : (p : ℕ → Bool) (line : List ℕ) (a b : ℕ)
+    → ((xs ys : List ℕ) → list_all p (xs ++ ys) ≡ true → list_all p xs ≡ true) → list_all p (standing line a b) ≡ true
+    → list_all p (standing (without_crs line) a b) ≡ true
 standing_all p line a b front all = let s = standing_crs line a b in front (standing (without_crs line) a b) (replicate s.0 13) (ap (list_all p) (sym s.1) ∙ all)
 
 -- some CR bytes, with the last one apart
@@ -115,7 +117,9 @@ columns_core line a b first order some = by_count (standing_crs line a b).0 (sta
         absurd (some blank)
 
 -- columns that hold a word
-pub word_left : (line : List ℕ) (a b : ℕ) (word : List ℕ) → 1 ≤ a → a ≤ b → eqb (get_or (trimmed word) (length (trimmed word) - 1) 0) 13 ≡ false → columns line a b ≡ word → columns (without_crs line) a b ≡ word
+pub word_left : (line : List ℕ) (a b : ℕ) (word : List ℕ) → 1 ≤ a → a ≤ b
+    → eqb (get_or (trimmed word) (length (trimmed word) - 1) 0) 13 ≡ false → columns line a b ≡ word
+    → columns (without_crs line) a b ≡ word
 word_left line a b word first order other is =
     let P : List ℕ → Type 0 = λ cells. EndsWith 13 (trimmed cells) in
     columns_left line a b first order (λ end. ends_not (trimmed word) 13 other (subst P is end)) ∙ is

@@ -199,7 +199,9 @@ kept-push lines line =
     ∙ ap (λ (end : List ℕ). kept_lines lines ++ end) (append-nil (ended (without_crs line)))
 
 -- those of the first so many parts and one more
-pub kept_more : (text : List ℕ) (spans : List Span) (k : ℕ) (d : Span) → k < length spans → kept_lines (parts text (take (k + 1) spans)) ≡ kept_lines (parts text (take k spans)) ++ ended (without_crs (slice_range text (get_or spans k d).from (get_or spans k d).to))
+pub kept_more : (text : List ℕ) (spans : List Span) (k : ℕ) (d : Span) → k < length spans
+    → kept_lines (parts text (take (k + 1) spans)) ≡ kept_lines (parts text (take k spans)) ++ ended
+    (without_crs (slice_range text (get_or spans k d).from (get_or spans k d).to))
 kept_more text spans k d below =
     let part : Span → List ℕ = λ (s : Span). slice_range text s.from s.to in
     ap kept_lines (map_more part spans k d below) ∙ kept-push (parts text (take k spans)) (part (get_or spans k d))
@@ -212,7 +214,9 @@ range_item_more {X} items from i d le lt =
     ap (λ (k : ℕ). take k (drop from items)) n ∙ take_more (drop from items) (i - from) d (omega (arith, length-drop from items)) ∙ ap (λ (x : X). take (i - from) (drop from items) ++ x ∷ []) there
 
 -- the kept lines from one line on up to another and one more
-pub kept_one_more : (lines : List (List ℕ)) (from i : ℕ) → from ≤ i → i < length lines → kept_lines (slice_range lines from (i + 1)) ≡ kept_lines (slice_range lines from i) ++ ended (without_crs (get_or lines i []))
+pub kept_one_more : (lines : List (List ℕ)) (from i : ℕ) → from ≤ i → i < length lines
+    → kept_lines (slice_range lines from (i + 1)) ≡ kept_lines (slice_range lines from i) ++ ended
+    (without_crs (get_or lines i []))
 kept_one_more lines from i le lt = ap kept_lines (range_item_more lines from i [] le lt) ∙ kept-push (slice_range lines from i) (get_or lines i [])
 
 -- and those of none

@@ -56,10 +56,14 @@ range_none text start end none k lt =
     ap (λ (b : ℕ). eqb b 10) (in_range text start end k short) ∙ none (start + k) (omega arith) (omega arith)
 
 -- the line that ends at an LF
-pub lines_at : (text : List ℕ) (start i : ℕ) → start ≤ i → i < length text → get_or text i 0 ≡ 10 → NoLfBetween text start i → lines_of (drop start text) ≡ without_cr (slice_range text start i) ∷ lines_of (drop (i + 1) text)
+pub lines_at : (text : List ℕ) (start i : ℕ) → start ≤ i → i < length text → get_or text i 0 ≡ 10
+    → NoLfBetween text start i → lines_of (drop start text) ≡ without_cr (slice_range text start i) ∷ lines_of
+    (drop (i + 1) text)
 unfolding lines_of
 lines_at text start i le lt is none =
-    let whole : drop start text ≡ slice_range text start i ++ 10 ∷ drop (i + 1) text = drop_split text start i le ∙ ap (λ (t : List ℕ). slice_range text start i ++ t) (drop_more text i 0 lt ∙ ap (λ (b : ℕ). b ∷ drop (i + 1) text) is) in
+    let whole : drop start text ≡ slice_range text start i ++ 10 ∷ drop (i + 1) text = drop_split text start i le
+    ∙ ap (λ (t : List ℕ). slice_range text start i ++ t)
+    (drop_more text i 0 lt ∙ ap (λ (b : ℕ). b ∷ drop (i + 1) text) is) in
     ap (λ (t : List ℕ). map without_cr (pieces t)) whole ∙ ap (map without_cr) (pieces_at (slice_range text start i) (drop (i + 1) text) (range_none text start i none))
 
 -- the last piece, where there is one
@@ -71,8 +75,14 @@ last_of (b ∷ p) lt h = pieces_last b p h
 pub lines_last : (text : List ℕ) (start : ℕ) → start < length text → NoLfBetween text start (length text) → lines_of (drop start text) ≡ without_cr (slice_range text start (length text)) ∷ []
 unfolding lines_of
 lines_last text start lt none =
-    let whole : drop start text ≡ slice_range text start (length text) = drop_split text start (length text) (omega arith) ∙ ap (λ (t : List ℕ). slice_range text start (length text) ++ t) (drop_all (length text) text (omega arith)) ∙ append-nil (slice_range text start (length text)) in
-    ap (λ (t : List ℕ). map without_cr (pieces t)) whole ∙ ap (map without_cr) (last_of (slice_range text start (length text)) (omega (arith, length-take (length text - start) (drop start text), length-drop start text)) (range_none text start (length text) none))
+    let whole : drop start text ≡ slice_range text start (length text) =
+    drop_split text start (length text) (omega arith)
+    ∙ ap (λ (t : List ℕ). slice_range text start (length text) ++ t) (drop_all (length text) text (omega arith))
+    ∙ append-nil (slice_range text start (length text)) in
+    ap (λ (t : List ℕ). map without_cr (pieces t)) whole
+    ∙ ap (map without_cr) (last_of (slice_range text start (length text))
+    (omega (arith, length-take (length text - start) (drop start text), length-drop start text))
+    (range_none text start (length text) none))
 
 -- no line stands after an LF at the end
 pub lines_none : (text : List ℕ) (start : ℕ) → length text ≤ start → lines_of (drop start text) ≡ []
@@ -80,10 +90,14 @@ unfolding lines_of
 lines_none text start le = ap (λ (t : List ℕ). map without_cr (pieces t)) (drop_all start text le)
 
 -- one line more, and what is left
-pub one_more : (text : List ℕ) (spans : List Span) (s : Span) (left rest total : List (List ℕ)) → parts text spans ++ left ≡ total → left ≡ slice_range text s.from s.to ∷ rest → parts text (spans ++ s ∷ []) ++ rest ≡ total
+pub one_more : (text : List ℕ) (spans : List Span) (s : Span) (left rest total : List (List ℕ))
+    → parts text spans ++ left ≡ total → left ≡ slice_range text s.from s.to ∷ rest
+    → parts text (spans ++ s ∷ []) ++ rest ≡ total
 one_more text spans s left rest total so_far e =
     let line = slice_range text s.from s.to in
-    ap (λ (ts : List (List ℕ)). ts ++ rest) (map_push (λ (s : Span). slice_range text s.from s.to) spans s) ∙ append_assoc (parts text spans) (line ∷ []) rest ∙ ap (λ (ts : List (List ℕ)). parts text spans ++ ts) (sym e) ∙ so_far
+    ap (λ (ts : List (List ℕ)). ts ++ rest) (map_push (λ (s : Span). slice_range text s.from s.to) spans s)
+    ∙ append_assoc (parts text spans) (line ∷ []) rest ∙ ap (λ (ts : List (List ℕ)). parts text spans ++ ts) (sym e)
+    ∙ so_far
 
 -- numbers that differ
 not_eqb : (a b : ℕ) → (a ≡ b → ⊥) → eqb a b ≡ false
@@ -115,12 +129,17 @@ has_some [] lt = absurd (omega arith)
 has_some (x ∷ xs) lt = refl
 
 -- the word that ends at a blank, where there is one
-pub words_at : (line : List ℕ) (start i : ℕ) → start < i → i < length line → get_or line i 0 ≡ 32 → NoBlankBetween line start i → words_of (drop start line) ≡ slice_range line start i ∷ words_of (drop (i + 1) line)
+pub words_at : (line : List ℕ) (start i : ℕ) → start < i → i < length line → get_or line i 0 ≡ 32
+    → NoBlankBetween line start i → words_of (drop start line) ≡ slice_range line start i ∷ words_of (drop (i + 1) line)
 unfolding words_of
 words_at line start i lt le is none =
-    let whole : drop start line ≡ slice_range line start i ++ 32 ∷ drop (i + 1) line = drop_split line start i (omega arith) ∙ ap (λ (t : List ℕ). slice_range line start i ++ t) (drop_more line i 0 le ∙ ap (λ (b : ℕ). b ∷ drop (i + 1) line) is) in
+    let whole : drop start line ≡ slice_range line start i ++ 32 ∷ drop (i + 1) line =
+    drop_split line start i (omega arith) ∙ ap (λ (t : List ℕ). slice_range line start i ++ t)
+    (drop_more line i 0 le ∙ ap (λ (b : ℕ). b ∷ drop (i + 1) line) is) in
     let some = has_some (slice_range line start i) (omega (arith, length-take (i - start) (drop start line), length-drop start line)) in
-    ap (λ (t : List ℕ). filter has_bytes (slice_split (λ b. eqb b 32) t)) whole ∙ ap (filter has_bytes) (slice_split_at (λ b. eqb b 32) (slice_range line start i) 32 (drop (i + 1) line) (run_none line start i none) refl) ∙ rw some refl
+    ap (λ (t : List ℕ). filter has_bytes (slice_split (λ b. eqb b 32) t)) whole
+    ∙ ap (filter has_bytes) (slice_split_at (λ b. eqb b 32) (slice_range line start i) 32 (drop (i + 1) line)
+    (run_none line start i none) refl) ∙ rw some refl
 
 -- a blank behind a blank ends no word
 pub words_skip : (line : List ℕ) (start i : ℕ) → start ≡ i → i < length line → get_or line i 0 ≡ 32 → words_of (drop start line) ≡ words_of (drop (i + 1) line)
@@ -133,9 +152,14 @@ words_skip line start i same le is =
 pub words_last : (line : List ℕ) (start : ℕ) → start < length line → NoBlankBetween line start (length line) → words_of (drop start line) ≡ slice_range line start (length line) ∷ []
 unfolding words_of
 words_last line start lt none =
-    let whole : drop start line ≡ slice_range line start (length line) = drop_split line start (length line) (omega arith) ∙ ap (λ (t : List ℕ). slice_range line start (length line) ++ t) (drop_all (length line) line (omega arith)) ∙ append-nil (slice_range line start (length line)) in
+    let whole : drop start line ≡ slice_range line start (length line) =
+    drop_split line start (length line) (omega arith)
+    ∙ ap (λ (t : List ℕ). slice_range line start (length line) ++ t) (drop_all (length line) line (omega arith))
+    ∙ append-nil (slice_range line start (length line)) in
     let some = has_some (slice_range line start (length line)) (omega (arith, length-take (length line - start) (drop start line), length-drop start line)) in
-    ap (λ (t : List ℕ). filter has_bytes (slice_split (λ b. eqb b 32) t)) whole ∙ ap (filter has_bytes) (slice_split_none (λ b. eqb b 32) (slice_range line start (length line)) (run_none line start (length line) none)) ∙ rw some refl
+    ap (λ (t : List ℕ). filter has_bytes (slice_split (λ b. eqb b 32) t)) whole
+    ∙ ap (filter has_bytes) (slice_split_none (λ b. eqb b 32) (slice_range line start (length line))
+    (run_none line start (length line) none)) ∙ rw some refl
 
 -- no word stands behind the end
 pub words_none : (line : List ℕ) (start : ℕ) → length line ≤ start → words_of (drop start line) ≡ []

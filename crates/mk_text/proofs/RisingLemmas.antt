@@ -113,7 +113,9 @@ same_first xs ys lists others r s (inr late) (inr later) =
     absurd (not_below_itself xs (below_through xs ys xs (each_holds (λ zs. IsBelow xs zs) lists ys r.0 later) (each_holds (λ zs. IsBelow ys zs) others xs s.0 late)))
 
 -- what else the first holds, the second holds behind its own first
-pub others_held : (xs : List ℕ) (lists others : List (List ℕ)) → Each (λ ys. IsBelow xs ys) lists → ((zs : List ℕ) → Holds (xs ∷ lists) zs → Holds (xs ∷ others) zs) → (zs : List ℕ) → Holds lists zs → Holds others zs
+pub others_held : (xs : List ℕ) (lists others : List (List ℕ)) → Each (λ ys. IsBelow xs ys) lists
+    → ((zs : List ℕ) → Holds (xs ∷ lists) zs → Holds (xs ∷ others) zs) → (zs : List ℕ) → Holds lists zs
+    → Holds others zs
 others_held xs lists others above held zs is =
     elim (held zs (inr is)) [
       | inl same ↦ absurd (not_below_itself xs (subst (λ (ys : List ℕ). IsBelow xs ys) (sym same) (each_holds (λ ys. IsBelow xs ys) lists zs above is)))

@@ -65,7 +65,9 @@ list_all_from p [] each = refl
 list_all_from p (x ∷ xs) each = rw (each 0 (omega arith), list_all_from p xs (λ k lt. each (suc k) (omega arith))) refl
 
 -- what stands between blanks, where it neither begins nor ends with one, is what is left without them
-pub trimmed_between : (before core after : List ℕ) → are_blank before ≡ true → are_blank after ≡ true → 0 < length core → is_space (get_or core 0 0) ≡ false → is_space (get_or core (length core - 1) 0) ≡ false → trimmed (before ++ (core ++ after)) ≡ core
+pub trimmed_between : (before core after : List ℕ) → are_blank before ≡ true → are_blank after ≡ true → 0 < length core
+    → is_space (get_or core 0 0) ≡ false → is_space (get_or core (length core - 1) 0) ≡ false
+    → trimmed (before ++ (core ++ after)) ≡ core
 trimmed_between before core after blank_before blank_after some first last =
     let whole = before ++ (core ++ after) in
     let rest = core ++ after in

@@ -10,7 +10,8 @@ loop-i-preserved c =
 pub returns-then-at-gt-MOST_BONDS : goal.returns-then-at-gt-MOST_BONDS
 returns-then-at-gt-MOST_BONDS c =
     let place : c.loop-i.i + 1 - 1 ≡ c.loop-i.i = omega arith in
-    items-fail_get (λ (numbers : List ℕ). length numbers ≤ 20) c.args.near.now c.loop-i.i _ (rw place at c.at.ensures) (λ few. absurd (omega (arith, few, c.if-at-gt-MOST_BONDS.true))) c.loop-i.invariant
+    items-fail_get (λ (numbers : List ℕ). length numbers ≤ 20) c.args.near.now c.loop-i.i _ (rw place at c.at.ensures)
+    (λ few. absurd (omega (arith, few, c.if-at-gt-MOST_BONDS.true))) c.loop-i.invariant
 
 pub returns : goal.returns
 returns c = items-all (λ (numbers : List ℕ). length numbers ≤ 20) c.args.near.now c.loop-i.i (omega arith) c.loop-i.invariant

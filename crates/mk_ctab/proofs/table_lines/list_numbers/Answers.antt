@@ -16,7 +16,9 @@ loop-i-preserved c =
     let each = entry c.args.line.now in
     let number = c.in-Some-field.number in
     let fits : SFits w32 number = search rules in
-    rw (c.in_ok-push.ensures.items, to_z-of_z w32 number fits) (entries_more each c.loop-i.numbers.items c.in-Some.count c.loop-i.i number (entries_of each c.in-Some.count 0) c.loop-i-test.true (sym c.in-Some-field.ensures.value) c.loop-i.invariant)
+    rw (c.in_ok-push.ensures.items, to_z-of_z w32 number fits)
+    (entries_more each c.loop-i.numbers.items c.in-Some.count c.loop-i.i number (entries_of each c.in-Some.count 0)
+    c.loop-i-test.true (sym c.in-Some-field.ensures.value) c.loop-i.invariant)
 
 pub returns-in_default-field : goal.returns-in_default-field
 unfolding list_numbers_of

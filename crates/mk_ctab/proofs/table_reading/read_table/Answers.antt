@@ -6,19 +6,29 @@ use Rattle.mk_ctab.proofs.TableLemmas.{exact-table}
 use Rattle.mk_ctab.proofs.table_reading.read_table.Goals as goal
 
 pub returns-clause-table : goal.returns-clause-table
-returns-clause-table c = part_by exact-table (lines_of c.args.text.now) c.args.at (line_there c.args.text.now c.args.lines.now c.args.at c.requires.lines c.requires.there) c.table_of_line.result c.table_of_line.ensures
+returns-clause-table c = part_by exact-table (lines_of c.args.text.now) c.args.at
+    (line_there c.args.text.now c.args.lines.now c.args.at c.requires.lines c.requires.there) c.table_of_line.result
+    c.table_of_line.ensures
 
 pub returns-clause-bad : goal.returns-clause-bad
-returns-clause-bad c = bad_from_by exact-table (lines_of c.args.text.now) c.args.at (line_there c.args.text.now c.args.lines.now c.args.at c.requires.lines c.requires.there) c.table_of_line.result c.table_of_line.ensures
+returns-clause-bad c = bad_from_by exact-table (lines_of c.args.text.now) c.args.at
+    (line_there c.args.text.now c.args.lines.now c.args.at c.requires.lines c.requires.there) c.table_of_line.result
+    c.table_of_line.ensures
 
 pub returns-clause-unnamed : goal.returns-clause-unnamed
-returns-clause-unnamed c = unnamed_from_by exact-table (lines_of c.args.text.now) c.args.at (line_there c.args.text.now c.args.lines.now c.args.at c.requires.lines c.requires.there) c.table_of_line.result c.table_of_line.ensures
+returns-clause-unnamed c = unnamed_from_by exact-table (lines_of c.args.text.now) c.args.at
+    (line_there c.args.text.now c.args.lines.now c.args.at c.requires.lines c.requires.there) c.table_of_line.result
+    c.table_of_line.ensures
 
 pub returns-clause-v3000 : goal.returns-clause-v3000
-returns-clause-v3000 c = v3000_from_by exact-table (lines_of c.args.text.now) c.args.at (line_there c.args.text.now c.args.lines.now c.args.at c.requires.lines c.requires.there) c.table_of_line.result c.table_of_line.ensures
+returns-clause-v3000 c = v3000_from_by exact-table (lines_of c.args.text.now) c.args.at
+    (line_there c.args.text.now c.args.lines.now c.args.at c.requires.lines c.requires.there) c.table_of_line.result
+    c.table_of_line.ensures
 
 pub returns-clause-named : goal.returns-clause-named
-returns-clause-named c = named_from_by exact-table (lines_of c.args.text.now) c.args.at (line_there c.args.text.now c.args.lines.now c.args.at c.requires.lines c.requires.there) c.table_of_line.result c.table_of_line.ensures
+returns-clause-named c = named_from_by exact-table (lines_of c.args.text.now) c.args.at
+    (line_there c.args.text.now c.args.lines.now c.args.at c.requires.lines c.requires.there) c.table_of_line.result
+    c.table_of_line.ensures
 
 pub returns-clause-keeps : goal.returns-clause-keeps
 returns-clause-keeps c =

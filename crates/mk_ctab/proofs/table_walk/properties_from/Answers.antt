@@ -11,7 +11,9 @@ loop-line-preserved-in-Passed c =
     let past = c.in_ok-at-in-Passed.ensures.value in
     record {
       start = past.start;
-      left = properties_passed lines c.args.from.line c.loop-line.props c.loop-line.at.line c.loop-line.invariant.left c.in-Some.ensures.there c.in-Passed.count c.in_ok-at-in-Passed.at.line is (rw c.in-Some.ensures.next at past.takes);
+      left = properties_passed lines c.args.from.line c.loop-line.props c.loop-line.at.line c.loop-line.invariant.left
+          c.in-Some.ensures.there c.in-Passed.count c.in_ok-at-in-Passed.at.line is
+          (rw c.in-Some.ensures.next at past.takes);
     }
 
 pub loop-line-preserved : goal.loop-line-preserved
@@ -21,5 +23,7 @@ loop-line-preserved c =
     let is = sym (ap property_of c.in-Some.ensures.line) ∙ c.in_ok-property.ensures in
     record {
       start = c.in-Some.ensures.start;
-      left = rw (c.in_ok-push-in_default-2.ensures.ok, c.in-Some.ensures.next) (properties_kept lines c.args.from.line c.loop-line.props c.loop-line.at.line c.loop-line.invariant.left c.in-Some.ensures.there property is (kept_by property c.in_default-2.not-Passed c.in_default-2.not-End));
+      left = rw (c.in_ok-push-in_default-2.ensures.ok, c.in-Some.ensures.next)
+          (properties_kept lines c.args.from.line c.loop-line.props c.loop-line.at.line c.loop-line.invariant.left
+          c.in-Some.ensures.there property is (kept_by property c.in_default-2.not-Passed c.in_default-2.not-End));
     }

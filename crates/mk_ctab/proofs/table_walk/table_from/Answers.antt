@@ -50,7 +50,9 @@ returns-in_err-next c =
     let bonds = c.in_ok-bonds in
     let lists = c.in_ok-lists in
     let fault = err_from_is_err_and c.from_residual-in_err-next.result c.from_residual-in_err-next.ensures.1 in
-    let left = stext_left lines c.args.at.line n c.in_ok-counts.ensures.takes atoms.atoms atoms.next.line atoms.ensures.takes bonds.bonds bonds.next.line bonds.ensures.takes lists.lists lists.next.line lists.ensures.takes in
+    let left = stext_left lines c.args.at.line n c.in_ok-counts.ensures.takes atoms.atoms atoms.next.line
+    atoms.ensures.takes bonds.bonds bonds.next.line bonds.ensures.takes lists.lists lists.next.line
+    lists.ensures.takes in
     rw (fault.1, fault.2) (block_fails (any_lines (2 * n.stext)) (λ _. after_stext atoms.atoms bonds.bonds lists.lists) lines lists.next.line left c.in_err-next.field-0.0 c.in_err-next.ensures.value)
 
 pub returns-in_err-props : goal.returns-in_err-props
@@ -61,7 +63,10 @@ returns-in_err-props c =
     let bonds = c.in_ok-bonds in
     let lists = c.in_ok-lists in
     let fault = err_from_is_err_and c.from_residual-in_err-props.result c.from_residual-in_err-props.ensures.1 in
-    rw (fault.1, fault.2) (properties_fail_table lines c.args.at.line n c.in_ok-counts.ensures.takes atoms.atoms atoms.next.line atoms.ensures.takes bonds.bonds bonds.next.line bonds.ensures.takes lists.lists lists.next.line lists.ensures.takes c.in_ok-next.next.line c.in_ok-next.ensures.value.takes c.in_err-props.field-0.0 c.in_err-props.ensures)
+    rw (fault.1, fault.2) (properties_fail_table lines c.args.at.line n c.in_ok-counts.ensures.takes atoms.atoms
+    atoms.next.line atoms.ensures.takes bonds.bonds bonds.next.line bonds.ensures.takes lists.lists lists.next.line
+    lists.ensures.takes c.in_ok-next.next.line c.in_ok-next.ensures.value.takes c.in_err-props.field-0.0
+    c.in_err-props.ensures)
 
 pub returns : goal.returns
 returns c =
@@ -71,6 +76,9 @@ returns c =
     let bonds = c.in_ok-bonds in
     let lists = c.in_ok-lists in
     record {
-      takes = table_read lines c.args.at.line n c.in_ok-counts.ensures.takes atoms.atoms atoms.next.line atoms.ensures.takes bonds.bonds bonds.next.line bonds.ensures.takes lists.lists lists.next.line lists.ensures.takes c.in_ok-next.next.line c.in_ok-next.ensures.value.takes c.in_ok-props.props c.in_ok-props.next.line c.in_ok-props.ensures.takes;
+      takes = table_read lines c.args.at.line n c.in_ok-counts.ensures.takes atoms.atoms atoms.next.line
+          atoms.ensures.takes bonds.bonds bonds.next.line bonds.ensures.takes lists.lists lists.next.line
+          lists.ensures.takes c.in_ok-next.next.line c.in_ok-next.ensures.value.takes c.in_ok-props.props
+          c.in_ok-props.next.line c.in_ok-props.ensures.takes;
       start = c.in_ok-props.ensures.start;
     }

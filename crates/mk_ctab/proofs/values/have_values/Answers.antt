@@ -33,6 +33,7 @@ returns c =
     let high : SFits w32 c.args.high = search rules in
     let least : to_z w32 (of_z w32 c.args.low) ≡ c.args.low = to_z-of_z w32 c.args.low low in
     let most : to_z w32 (of_z w32 c.args.high) ≡ c.args.high = to_z-of_z w32 c.args.high high in
-    let all : HaveValues (to_z w32 (of_z w32 c.args.low)) (to_z w32 (of_z w32 c.args.high)) c.args.pairs.now = rw (take_all c.loop-pair.pair-index c.args.pairs.now c.loop-pair-test.false) at c.loop-pair.invariant in
+    let all : HaveValues (to_z w32 (of_z w32 c.args.low)) (to_z w32 (of_z w32 c.args.high)) c.args.pairs.now =
+    rw (take_all c.loop-pair.pair-index c.args.pairs.now c.loop-pair-test.false) at c.loop-pair.invariant in
     let P : ℤ → ℤ → Type 0 = λ x y. HaveValues x y c.args.pairs.now in
     (λ t. subst (λ (x : ℤ). P x c.args.high) least (subst (λ (y : ℤ). P (to_z w32 (of_z w32 c.args.low)) y) most all), λ all. refl)

@@ -26,9 +26,15 @@ returns c =
     let properties = flat_map (λ (property : Property). ended (property_line property)) table.props in
     as_last c.extend_from_slice.result old last (counts ++ (atoms ++ (bonds ++ (lists ++ (properties ++ codes "M  END\n"))))) (spelling table) (sym (spelling_parts table))
     (table_last c.extend_from_slice.result old counted placed bound listed told last counts atoms bonds lists properties (codes "M  END\n") c.in_ok-put_counts.ensures
-    (as_text counted placed (flat_map (λ (atom : RawAtom). ended (atom_line atom)) c.as_slice.result.now) atoms (ap (λ (xs : List RawAtom). flat_map (λ (atom : RawAtom). ended (atom_line atom)) xs) c.as_slice.ensures) c.in_ok-put_atoms.ensures)
-    (as_text placed bound (flat_map (λ (bond : RawBond). ended (bond_line bond)) c.as_slice-2.result.now) bonds (ap (λ (xs : List RawBond). flat_map (λ (bond : RawBond). ended (bond_line bond)) xs) c.as_slice-2.ensures) c.in_ok-put_bonds.ensures)
-    (as_text bound listed (flat_map (λ (list : RawList). ended (numbers_line list)) c.as_slice-3.result.now) lists (ap (λ (xs : List RawList). flat_map (λ (list : RawList). ended (numbers_line list)) xs) c.as_slice-3.ensures) c.in_ok-put_lists.ensures)
+    (as_text counted placed (flat_map (λ (atom : RawAtom). ended (atom_line atom)) c.as_slice.result.now) atoms
+    (ap (λ (xs : List RawAtom). flat_map (λ (atom : RawAtom). ended (atom_line atom)) xs) c.as_slice.ensures)
+    c.in_ok-put_atoms.ensures)
+    (as_text placed bound (flat_map (λ (bond : RawBond). ended (bond_line bond)) c.as_slice-2.result.now) bonds
+    (ap (λ (xs : List RawBond). flat_map (λ (bond : RawBond). ended (bond_line bond)) xs) c.as_slice-2.ensures)
+    c.in_ok-put_bonds.ensures)
+    (as_text bound listed (flat_map (λ (list : RawList). ended (numbers_line list)) c.as_slice-3.result.now) lists
+    (ap (λ (xs : List RawList). flat_map (λ (list : RawList). ended (numbers_line list)) xs) c.as_slice-3.ensures)
+    c.in_ok-put_lists.ensures)
     (as_text listed told (flat_map (λ (property : Property). ended (property_line property)) c.as_slice-4.result.now) properties
     (ap (λ (xs : List Property). flat_map (λ (property : Property). ended (property_line property)) xs) c.as_slice-4.ensures) c.in_ok-put_properties.ensures)
     c.extend_from_slice.ensures.items)

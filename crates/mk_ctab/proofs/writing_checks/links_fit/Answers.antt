@@ -8,4 +8,7 @@ pub loop-link-preserved : goal.loop-link-preserved
 loop-link-preserved c = All-more LinkFits c.args.links.now c.loop-link.link-index _ c.loop-link-test.true c.loop-link.invariant (c.if-not-link_fits.ensures refl)
 
 pub returns : goal.returns
-returns c = λ is. record { count = record { some = search rules; no_more = search rules }; each = all_taken LinkFits c.args.links.now c.loop-link.link-index c.loop-link-test.false c.loop-link.invariant }
+returns c = λ is. record {
+  count = record { some = search rules; no_more = search rules };
+  each = all_taken LinkFits c.args.links.now c.loop-link.link-index c.loop-link-test.false c.loop-link.invariant;
+}

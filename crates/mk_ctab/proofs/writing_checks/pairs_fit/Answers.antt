@@ -8,4 +8,7 @@ pub loop-pair-preserved : goal.loop-pair-preserved
 loop-pair-preserved c = All-more PairFits c.args.pairs.now c.loop-pair.pair-index _ c.loop-pair-test.true c.loop-pair.invariant (c.if-not-pair_fits.ensures refl)
 
 pub returns : goal.returns
-returns c = λ is. record { count = record { some = search rules; no_more = search rules }; each = all_taken PairFits c.args.pairs.now c.loop-pair.pair-index c.loop-pair-test.false c.loop-pair.invariant }
+returns c = λ is. record {
+  count = record { some = search rules; no_more = search rules };
+  each = all_taken PairFits c.args.pairs.now c.loop-pair.pair-index c.loop-pair-test.false c.loop-pair.invariant;
+}

@@ -11,8 +11,8 @@ loop-i-preserved c =
     let symbol = c.symbol.result.now in
     let within : c.loop-i.i < length symbols = omega (arith, c.loop-i-test.true, c.count-i-end.ensures) in
     let is : symbol ≡ get_or symbols c.loop-i.i symbol = c.symbol.ensures ∙ get_or_default symbols c.loop-i.i [] symbol within in (
-      one_more (IsSymbol 4) symbols c.loop-i.i symbol c.loop-i.invariant.0 within is (c.if-not-is_symbol.ensures.fits refl),
-      one_more (λ (text : List ℕ). EndsWith 13 text → ⊥) symbols c.loop-i.i symbol c.loop-i.invariant.1 within is (c.if-not-is_symbol.ensures.no_cr refl),
+      one_more (IsSymbol 4) symbols c.loop-i.i symbol c.loop-i.invariant.0 within is (c.if-not-is_writable_symbol.ensures.fits refl),
+      one_more (λ (text : List ℕ). EndsWith 13 text → ⊥) symbols c.loop-i.i symbol c.loop-i.invariant.1 within is (c.if-not-is_writable_symbol.ensures.no_cr refl),
     )
 
 pub returns-clause-no_cr : goal.returns-clause-no_cr

@@ -27,5 +27,7 @@ returns c =
     (as_text placed named (at_left 3 c.as_slice.result.now) symbol (ap (at_left 3) c.as_slice.ensures) c.in_ok-put_left.ensures)
     c.in_ok-extend_from_slice-2.ensures.items
     (two_texts weighed charged last charge (codes "  0" ++ from_hydrogens) (as_three weighed charged c.args.atom.now.charge c.requires.charge c.in_ok-put_three.ensures)
-    (four_texts charged turned counted cared last (codes "  0") hydrogens (codes "  0") valence c.in_ok-extend_from_slice-3.ensures.items (as_three turned counted c.args.atom.now.hydrogens c.requires.hydrogens c.in_ok-put_three-2.ensures)
+    (four_texts charged turned counted cared last (codes "  0") hydrogens (codes "  0") valence
+    c.in_ok-extend_from_slice-3.ensures.items (as_three turned counted c.args.atom.now.hydrogens
+    c.requires.hydrogens c.in_ok-put_three-2.ensures)
     c.in_ok-extend_from_slice-4.ensures.items (as_three cared last c.args.atom.now.valence c.requires.valence c.in_ok-put_three-3.ensures))))

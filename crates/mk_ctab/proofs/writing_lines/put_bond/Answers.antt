@@ -19,5 +19,8 @@ returns c =
     let others = second ++ (kind ++ (codes "  0  0" ++ topology)) in
     ended_last c.extend_from_slice-2.result old last c.extend_from_slice-2.new.self.items (first ++ others) c.extend_from_slice-2.ensures.items
     (two_texts old one last first others (as_three old one c.args.bond.now.first c.requires.first c.in_ok-put_three.ensures)
-    (four_texts one two typed plain last second kind (codes "  0  0") topology (as_three one two c.args.bond.now.second c.requires.second c.in_ok-put_three-2.ensures) (as_three two typed c.args.bond.now.kind c.requires.kind c.in_ok-put_three-3.ensures) c.in_ok-extend_from_slice.ensures.items
+    (four_texts one two typed plain last second kind (codes "  0  0") topology
+    (as_three one two c.args.bond.now.second c.requires.second c.in_ok-put_three-2.ensures)
+    (as_three two typed c.args.bond.now.kind c.requires.kind c.in_ok-put_three-3.ensures)
+    c.in_ok-extend_from_slice.ensures.items
     (as_three plain last c.args.bond.now.topology c.requires.topology c.in_ok-put_three-4.ensures)))

@@ -22,7 +22,9 @@ returns c =
     let others = codes "    " ++ (decimal (length numbers) ++ flat_map spaced numbers) in
     let same = c.as_slice-numbers.ensures in
     ended_last c.extend_from_slice-3.result old last c.extend_from_slice-3.new.self.items (atom ++ (codes " " ++ (flag ++ others))) c.extend_from_slice-3.ensures.items
-    (four_texts old named parted flagged last atom (codes " ") flag others (as_three old named c.args.list.now.atom c.requires.atom c.in_ok-put_three.ensures) c.in_ok-extend_from_slice.ensures.items c.in_ok-put_flag.ensures
+    (four_texts old named parted flagged last atom (codes " ") flag others
+    (as_three old named c.args.list.now.atom c.requires.atom c.in_ok-put_three.ensures)
+    c.in_ok-extend_from_slice.ensures.items c.in_ok-put_flag.ensures
     (three_texts flagged spread counted last (codes "    ") (decimal (length numbers)) (flat_map spaced numbers) c.in_ok-extend_from_slice-2.ensures.items
     (as_text spread counted (decimal (length c.as_slice-numbers.result.now)) (decimal (length numbers)) (ap (λ (xs : List ℤ). decimal (length xs)) same) c.in_ok-put_number.ensures.ok)
     (as_text counted last (flat_map spaced c.as_slice-numbers.result.now) (flat_map spaced numbers) (ap (flat_map spaced) same) c.in_ok-put_numbers.ensures)))

@@ -18,4 +18,5 @@ returns g c =
     c.in_ok-library.ensures.held c.in_ok-remove_multiples.ensures
     (subst (λ (rows : List (Numbered Molecule)). IsPage (IsHeldIn rows) c.args.query.now [] 100 c.in_ok-first.first) c.shelf.ensures.rows c.in_ok-first.ensures.page) c.if-first.false
     (subst (λ (former : List (List ℕ)). AreOthers c.remove_multiples.new.library.rows c.args.query.now c.in_ok-first.first.place former c.put_others.new.hits.items) c.into_vec-hits.ensures
-    (subst (λ (rows : List (Numbered Molecule)). AreOthers rows c.args.query.now c.in_ok-first.first.place c.into_vec-hits.result.items c.put_others.new.hits.items) c.shelf-2.ensures.rows c.in_ok-put_others.ensures))
+    (subst (λ (rows : List (Numbered Molecule)). AreOthers rows c.args.query.now c.in_ok-first.first.place
+    c.into_vec-hits.result.items c.put_others.new.hits.items) c.shelf-2.ensures.rows c.in_ok-put_others.ensures))

@@ -24,4 +24,6 @@ returns c =
     let group = slice_get_read c.args.query.now.groups (length c.args.query.now.groups) c.args.i c.index-groups-i.result refl within here in
     let count = slice_get-get_or c.args.counts.now c.args.i none_counted (omega (arith, c.requires.within, c.requires.all)) in
     let holds = rw (list, sym here) at c.holds.ensures in
-    meets_asked c.args.query.now c.args.counts.now c.args.i c.index-groups-i.result (get_or c.args.counts.now c.args.i none_counted) c.holds.result group count (omega (arith, c.if-sites-eq0.false)) asked holds
+    meets_asked c.args.query.now c.args.counts.now c.args.i c.index-groups-i.result
+    (get_or c.args.counts.now c.args.i none_counted) c.holds.result group count
+    (omega (arith, c.if-sites-eq0.false)) asked holds

@@ -34,24 +34,29 @@ returns-in-None-clause-none c =
     none_is_range c.args.text.now None (sym (items_fail c.items.range c.items.rest.now (range_of c.args.text.now) none c.items.invariant))
 
 -- the last item
-last_read : (range new : List Interval) (rest : List ℕ) (place : ℕ) (item : Interval) (all : Option (List Interval)) → place ≡ position_or_len (λ b. eqb b 44) rest → Some item ≡ range_item (take place rest)
+last_read : (range new : List Interval) (rest : List ℕ) (place : ℕ) (item : Interval) (all : Option (List Interval))
+    → place ≡ position_or_len (λ b. eqb b 44) rest → Some item ≡ range_item (take place rest)
     → place ≡ length rest → new ≡ range ++ item ∷ [] → read_behind range (items_of (slice_split (λ b. eqb b 44) rest)) ≡ all → Some new ≡ all
 last_read range new rest place item all at is end pushed so_far =
     ap Some pushed ∙ sym (items_last range item rest all (omega (arith, at, end)) (part_is rest place (Some item) at is) so_far)
 
 pub returns-then-end-rest-clause-value : goal.returns-then-end-rest-clause-value
 returns-then-end-rest-clause-value c =
-    last_read c.items.range c.push-in-Some.new.self c.items.rest.now c.place_of-end.result c.in-Some.interval (range_of c.args.text.now) c.place_of-end.ensures.place c.in-Some.ensures c.if-end-rest.true
+    last_read c.items.range c.push-in-Some.new.self c.items.rest.now c.place_of-end.result c.in-Some.interval
+    (range_of c.args.text.now) c.place_of-end.ensures.place c.in-Some.ensures c.if-end-rest.true
     c.in_ok-push-in-Some.ensures.ok c.items.invariant
 
 pub returns-then-end-rest-clause-range : goal.returns-then-end-rest-clause-range
 returns-then-end-rest-clause-range c =
     found_is_range c.args.text.now (Some c.push-in-Some.new.self)
-    (last_read c.items.range c.push-in-Some.new.self c.items.rest.now c.place_of-end.result c.in-Some.interval (range_of c.args.text.now) c.place_of-end.ensures.place c.in-Some.ensures c.if-end-rest.true
+    (last_read c.items.range c.push-in-Some.new.self c.items.rest.now c.place_of-end.result c.in-Some.interval
+    (range_of c.args.text.now) c.place_of-end.ensures.place c.in-Some.ensures c.if-end-rest.true
     c.in_ok-push-in-Some.ensures.ok c.items.invariant)
 
 -- one more item
-more_read : (range new : List Interval) (rest left : List ℕ) (place : ℕ) (item : Interval) (all : Option (List Interval)) → place ≡ position_or_len (λ b. eqb b 44) rest → Some item ≡ range_item (take place rest)
+more_read : (range new : List Interval) (rest left : List ℕ) (place : ℕ) (item : Interval)
+    (all : Option (List Interval)) → place ≡ position_or_len (λ b. eqb b 44) rest
+    → Some item ≡ range_item (take place rest)
     → place < length rest → new ≡ range ++ item ∷ [] → left ≡ drop (place + 1) rest → read_behind range (items_of (slice_split (λ b. eqb b 44) rest)) ≡ all
     → read_behind new (items_of (slice_split (λ b. eqb b 44) left)) ≡ all
 more_read range new rest left place item all at is within pushed behind so_far =
@@ -60,5 +65,6 @@ more_read range new rest left place item all at is within pushed behind so_far =
 pub items-preserved : goal.items-preserved
 items-preserved c =
     let within : c.place_of-end.result < length c.items.rest.now = omega (arith, c.place_of-end.ensures.within, c.if-end-rest.false) in
-    more_read c.items.range c.push-in-Some.new.self c.items.rest.now c.behind-rest.result.now c.place_of-end.result c.in-Some.interval (range_of c.args.text.now) c.place_of-end.ensures.place c.in-Some.ensures within
+    more_read c.items.range c.push-in-Some.new.self c.items.rest.now c.behind-rest.result.now c.place_of-end.result
+    c.in-Some.interval (range_of c.args.text.now) c.place_of-end.ensures.place c.in-Some.ensures within
     c.in_ok-push-in-Some.ensures.ok c.behind-rest.ensures c.items.invariant

@@ -2,8 +2,8 @@ use Rattle.std.proofs.Common.{◌≡◌, ◌∙◌, ◌+◌, ◌++◌, ◌≤◌
 use Rattle.std.proofs.lemmas.List.{length-map}
 use Rattle.mk_model.specs.declared.edge.Edge.{Edge}
 use Rattle.mk_model.specs.Edges.{IsSimple, rows_of}
-use Rattle.mk_ctab.specs.Bonds.{edge_of}
-use Rattle.mk_mol.specs.Filled.{AreGains, hydrogen, hydrogen_bonds, owners}
+use Rattle.mk_ctab.specs.Bonds.{raw_edge}
+use Rattle.mk_mol.specs.Filled.{AreGains, hydrogen_atom, hydrogen_bonds, owners}
 use Rattle.mk_mol.proofs.FilledLemmas.{few_filled, filled_graph, molecule, is_filled}
 use Rattle.mk_mol.proofs.filling.fill.Goals as goal
 
@@ -22,9 +22,9 @@ of-requires-clause-few c =
     let are : AreGains c.args.table.now atoms gains = rw c.deref.ensures.value at c.in_ok-gains.ensures in
     let size : length gains ≡ length atoms = are.size ∙ sym c.in_ok-atoms.ensures.written.size in
     let graph : IsSimple (length atoms) old = rw c.in_ok-atoms.ensures.written.size c.requires.drawn.graph in
-    let filled : new ≡ atoms ++ replicate (length (owners 1 gains)) hydrogen = rw c.deref-2.ensures.value at c.in_ok-add_hydrogens.ensures.atoms in
+    let filled : new ≡ atoms ++ replicate (length (owners 1 gains)) hydrogen_atom = rw c.deref-2.ensures.value at c.in_ok-add_hydrogens.ensures.atoms in
     let bonded : plain ≡ old ++ hydrogen_bonds (length atoms + 1) (owners 1 gains) = rw c.deref-2.ensures.value at c.in_ok-add_hydrogens.ensures.edges in
-    let few : length old ≤ 999 = omega (arith, ap length c.requires.drawn.edges, length-map c.args.table.now.bonds edge_of, c.requires.few_bonds) in
+    let few : length old ≤ 999 = omega (arith, ap length c.requires.drawn.edges, length-map c.args.table.now.bonds raw_edge, c.requires.few_bonds) in
     rw c.deref-3.ensures.value (few_filled atoms new old plain gains few c.in_ok-add_hydrogens.ensures.few filled bonded)
 
 pub of-requires-clause-ends : goal.of-requires-clause-ends
@@ -37,7 +37,7 @@ of-requires-clause-ends c =
     let are : AreGains c.args.table.now atoms gains = rw c.deref.ensures.value at c.in_ok-gains.ensures in
     let size : length gains ≡ length atoms = are.size ∙ sym c.in_ok-atoms.ensures.written.size in
     let graph : IsSimple (length atoms) old = rw c.in_ok-atoms.ensures.written.size c.requires.drawn.graph in
-    let filled : new ≡ atoms ++ replicate (length (owners 1 gains)) hydrogen = rw c.deref-2.ensures.value at c.in_ok-add_hydrogens.ensures.atoms in
+    let filled : new ≡ atoms ++ replicate (length (owners 1 gains)) hydrogen_atom = rw c.deref-2.ensures.value at c.in_ok-add_hydrogens.ensures.atoms in
     let bonded : plain ≡ old ++ hydrogen_bonds (length atoms + 1) (owners 1 gains) = rw c.deref-2.ensures.value at c.in_ok-add_hydrogens.ensures.edges in
     let many : c.len-count.result ≡ length new = omega (arith, c.len-count.ensures, c.add_hydrogens.new.atoms.ok.0) in
     rw (many, c.deref-3.ensures.value) (filled_graph atoms new old plain gains size graph filled bonded).ends
@@ -52,7 +52,7 @@ marked_bonds-requires-clause-simple c =
     let are : AreGains c.args.table.now atoms gains = rw c.deref.ensures.value at c.in_ok-gains.ensures in
     let size : length gains ≡ length atoms = are.size ∙ sym c.in_ok-atoms.ensures.written.size in
     let graph : IsSimple (length atoms) old = rw c.in_ok-atoms.ensures.written.size c.requires.drawn.graph in
-    let filled : new ≡ atoms ++ replicate (length (owners 1 gains)) hydrogen = rw c.deref-2.ensures.value at c.in_ok-add_hydrogens.ensures.atoms in
+    let filled : new ≡ atoms ++ replicate (length (owners 1 gains)) hydrogen_atom = rw c.deref-2.ensures.value at c.in_ok-add_hydrogens.ensures.atoms in
     let bonded : plain ≡ old ++ hydrogen_bonds (length atoms + 1) (owners 1 gains) = rw c.deref-2.ensures.value at c.in_ok-add_hydrogens.ensures.edges in
     let many : c.len-count.result ≡ length new = omega (arith, c.len-count.ensures, c.add_hydrogens.new.atoms.ok.0) in
     rw (many, c.deref-4.ensures.value) (filled_graph atoms new old plain gains size graph filled bonded)
@@ -71,9 +71,9 @@ over-requires-clause-molecule c =
     let are : AreGains c.args.table.now atoms gains = rw c.deref.ensures.value at c.in_ok-gains.ensures in
     let size : length gains ≡ length atoms = are.size ∙ sym c.in_ok-atoms.ensures.written.size in
     let graph : IsSimple (length atoms) old = rw c.in_ok-atoms.ensures.written.size c.requires.drawn.graph in
-    let filled : new ≡ atoms ++ replicate (length (owners 1 gains)) hydrogen = rw c.deref-2.ensures.value at c.in_ok-add_hydrogens.ensures.atoms in
+    let filled : new ≡ atoms ++ replicate (length (owners 1 gains)) hydrogen_atom = rw c.deref-2.ensures.value at c.in_ok-add_hydrogens.ensures.atoms in
     let bonded : plain ≡ old ++ hydrogen_bonds (length atoms + 1) (owners 1 gains) = rw c.deref-2.ensures.value at c.in_ok-add_hydrogens.ensures.edges in
-    let few : length old ≤ 999 = omega (arith, ap length c.requires.drawn.edges, length-map c.args.table.now.bonds edge_of, c.requires.few_bonds) in
+    let few : length old ≤ 999 = omega (arith, ap length c.requires.drawn.edges, length-map c.args.table.now.bonds raw_edge, c.requires.few_bonds) in
     molecule atoms new old plain gains c.len-written.result c.in_ok-bonds.bonds.items
     (omega (arith, c.len-written.ensures, c.in_ok-atoms.atoms.ok.0)) size few c.in_ok-add_hydrogens.ensures.few c.in_ok-atoms.ensures.sound graph filled bonded
     (c.in_ok-bonds.ensures.edges ∙ c.deref-4.ensures.value) (rw c.deref-4.ensures.value at c.in_ok-bonds.ensures.marks)
@@ -94,7 +94,7 @@ returns c =
     let are : AreGains c.args.table.now atoms gains = rw c.deref.ensures.value at c.in_ok-gains.ensures in
     let size : length gains ≡ length atoms = are.size ∙ sym c.in_ok-atoms.ensures.written.size in
     let graph : IsSimple (length atoms) old = rw c.in_ok-atoms.ensures.written.size c.requires.drawn.graph in
-    let filled : new ≡ atoms ++ replicate (length (owners 1 gains)) hydrogen = rw c.deref-2.ensures.value at c.in_ok-add_hydrogens.ensures.atoms in
+    let filled : new ≡ atoms ++ replicate (length (owners 1 gains)) hydrogen_atom = rw c.deref-2.ensures.value at c.in_ok-add_hydrogens.ensures.atoms in
     let bonded : plain ≡ old ++ hydrogen_bonds (length atoms + 1) (owners 1 gains) = rw c.deref-2.ensures.value at c.in_ok-add_hydrogens.ensures.edges in
     is_filled c.args.table.now c.over.result atoms new old plain gains c.len-written.result c.in_ok-bonds.bonds.items
     (omega (arith, c.len-written.ensures, c.in_ok-atoms.atoms.ok.0)) c.in_ok-atoms.ensures.written are c.requires.drawn.edges filled bonded

@@ -1,11 +1,11 @@
 use Rattle.std.proofs.Common.{◌≡◌, ◌<◌, ap, length, get_or, refl, subst, sym, arith, List, ℕ}
 use Rattle.std.proofs.lemmas.List.Elements.{All-push}
 use Rattle.std.proofs.lemmas.Option.{slice_get_read}
-use Rattle.mk_elements.specs.Symbols.{Names}
+use Rattle.mk_elements.specs.Symbols.{NamesElement}
 use Rattle.mk_ctab.specs.declared.raw.RawAtom.{RawAtom}
 use Rattle.mk_ctab.specs.Values.{HasKnownValues, NamesAtoms}
 use Rattle.mk_text.proofs.ForCallers.{all_of}
-use Rattle.mk_mol.specs.Checks.{IsKnownAtom, IsNamed}
+use Rattle.mk_mol.specs.Checks.{IsKnownAtom, IsElementSymbol}
 use Rattle.mk_mol.specs.FirstFault.{known_atoms, known_values, named_atoms}
 use Rattle.mk_mol.specs.Putting.{IsSound}
 use Rattle.mk_mol.proofs.WrittenAtomsLemmas.{written-one, written-more, written-all}
@@ -30,10 +30,12 @@ loop-i-preserved c =
     let below : c.loop-i.i < length table.atoms = rw c.as_slice-lines.ensures at c.loop-i-test.true in
     let there = slice_get_read table.atoms (length table.atoms) c.loop-i.i seen refl below is in
     let within : c.loop-i.i < length c.in_ok-list.list.items = omega (arith, c.in_ok-list.ensures.are.size) in
-    let named : Names (get_or table.atoms c.loop-i.i seen).symbol c.atom_of.result.element = rw (c.as_slice.ensures, c.as_slice-lines.ensures) at c.atom_of.ensures.element in
-    let P : RawAtom → Type 0 = λ line. Names line.symbol c.atom_of.result.element in
-    let element : Names seen.symbol c.atom_of.result.element = subst P (sym is) named in
-    let made = written-one table c.in_ok-list.list.items c.loop-i.i seen c.index.result.now c.index.result.now c.atom_of.result c.in_ok-list.ensures.are there c.index.ensures within element c.atom_of.ensures.charge c.atom_of.ensures.radical in
+    let named : NamesElement (get_or table.atoms c.loop-i.i seen).symbol c.atom_of.result.element = rw (c.as_slice.ensures, c.as_slice-lines.ensures) at c.atom_of.ensures.element in
+    let P : RawAtom → Type 0 = λ line. NamesElement line.symbol c.atom_of.result.element in
+    let element : NamesElement seen.symbol c.atom_of.result.element = subst P (sym is) named in
+    let made = written-one table c.in_ok-list.list.items c.loop-i.i seen c.index.result.now c.index.result.now
+    c.atom_of.result c.in_ok-list.ensures.are there c.index.ensures within element c.atom_of.ensures.charge
+    c.atom_of.ensures.radical in
     rw c.in_ok-push.ensures.items (
       written-more table c.loop-i.i seen c.loop-i.atoms.items c.atom_of.result is made c.loop-i.invariant.0,
       All-push IsSound c.loop-i.atoms.items c.atom_of.result c.loop-i.invariant.1 c.atom_of.ensures.sound,

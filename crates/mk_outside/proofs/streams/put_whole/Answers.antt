@@ -6,7 +6,9 @@ use Rattle.mk_outside.proofs.streams.put_whole.Goals.{in-Ok, in-Err+in-Interrupt
 
 pub returns-in-Ok-eq0 : goal.returns-in-Ok-eq0
 returns-in-Ok-eq0 g c =
-    fails_behind _ _ _ _ c.args.piece.now (c.loop.done + c.in-Ok-eq0.field-0) (writes_more _ _ _ c.args.piece.now c.loop.done c.in-Ok-eq0.field-0 c.loop.invariant.appended c.in-Ok-eq0.ensures.bytes) (Keeps-refl _)
+    fails_behind _ _ _ _ c.args.piece.now (c.loop.done + c.in-Ok-eq0.field-0)
+    (writes_more _ _ _ c.args.piece.now c.loop.done c.in-Ok-eq0.field-0 c.loop.invariant.appended
+    c.in-Ok-eq0.ensures.bytes) (Keeps-refl _)
 
 pub returns-in_default : goal.returns-in_default
 returns-in_default g c = fails_behind _ _ _ _ c.args.piece.now c.loop.done c.loop.invariant.appended c.in-Err.ensures.bytes

@@ -11,7 +11,8 @@ entry line i = link_of line (10 + 16 * i)
 pub loop-i-preserved : goal.loop-i-preserved
 loop-i-preserved c =
     let each = entry c.args.line.now in
-    rw c.in_ok-push.ensures.ok (entries_more each c.loop-i.links c.in-Some.count c.loop-i.i c.in-Some-link_at.link (entries_of each c.in-Some.count 0) c.loop-i-test.true (sym c.in-Some-link_at.ensures) c.loop-i.invariant)
+    rw c.in_ok-push.ensures.ok (entries_more each c.loop-i.links c.in-Some.count c.loop-i.i c.in-Some-link_at.link
+    (entries_of each c.in-Some.count 0) c.loop-i-test.true (sym c.in-Some-link_at.ensures) c.loop-i.invariant)
 
 pub returns-in_default-link_at : goal.returns-in_default-link_at
 unfolding links_of

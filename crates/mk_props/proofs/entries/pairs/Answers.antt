@@ -11,7 +11,8 @@ entry line at i = pair_of line (at + 3 + 8 * i)
 pub loop-i-preserved : goal.loop-i-preserved
 loop-i-preserved c =
     let each = entry c.args.line.now c.args.at in
-    rw c.in_ok-push.ensures.ok (entries_more each c.loop-i.pairs c.in-Some.count c.loop-i.i c.in-Some-pair_at.pair (entries_of each c.in-Some.count 0) c.loop-i-test.true (sym c.in-Some-pair_at.ensures) c.loop-i.invariant)
+    rw c.in_ok-push.ensures.ok (entries_more each c.loop-i.pairs c.in-Some.count c.loop-i.i c.in-Some-pair_at.pair
+    (entries_of each c.in-Some.count 0) c.loop-i-test.true (sym c.in-Some-pair_at.ensures) c.loop-i.invariant)
 
 pub returns-in_default-pair_at : goal.returns-in_default-pair_at
 unfolding pairs_of

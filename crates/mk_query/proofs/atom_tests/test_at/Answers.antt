@@ -34,7 +34,8 @@ returns c =
     let ring_bonds : SFits w8 c.small.result = search rules in
     let substitution : SFits w8 c.small-2.result = search rules in
     each_line table c.args.i line _ at
-    (drawn_is table c.args.notes.now c.args.i line c.index.result.now c.index-electrons.result.now c.index-2.result.now c.index-3.result.now c.index-4.result.now _ c.requires.passed c.requires.notes at
+    (drawn_is table c.args.notes.now c.args.i line c.index.result.now c.index-electrons.result.now c.index-2.result.now
+    c.index-3.result.now c.index-4.result.now _ c.requires.passed c.requires.notes at
     (sym c.is_site.ensures ∙ c.if-is_site.false) c.index.ensures (rw c.as_slice-2.ensures at c.in_ok-kind.ensures) c.index-electrons.ensures
     (to_z-of_z w8 c.index-electrons.result.now.charge charge) refl c.hydrogens_of.ensures
     c.index-2.ensures (to_z-of_z w8 c.small.result ring_bonds ∙ c.small.ensures) c.index-3.ensures (to_z-of_z w8 c.small-2.result substitution ∙ c.small-2.ensures) c.index-4.ensures c.is_one.ensures)

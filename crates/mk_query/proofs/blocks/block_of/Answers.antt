@@ -38,4 +38,6 @@ loop-i-preserved c =
 
 pub returns-clause-block : goal.returns-clause-block
 returns-clause-block c =
-    whole_block c.args.bonds.now c.args.link c.loop-i.reached.items c.loop-i.queue.items c.loop-i.i (omega (arith, c.loop-i-test.false, c.len.ensures, c.loop-i.queue.ok.0)) c.loop-i.invariant.are c.loop-i.invariant.followed
+    whole_block c.args.bonds.now c.args.link c.loop-i.reached.items c.loop-i.queue.items c.loop-i.i
+    (omega (arith, c.loop-i-test.false, c.len.ensures, c.loop-i.queue.ok.0)) c.loop-i.invariant.are
+    c.loop-i.invariant.followed

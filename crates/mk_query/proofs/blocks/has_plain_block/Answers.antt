@@ -46,6 +46,8 @@ loop-i-preserved c =
 
 pub returns : goal.returns
 returns c = (
-  λ t. plain_block c.args.bonds.now c.args.standing.now c.args.link c.loop-i.reached.items c.loop-i.queue.items c.loop-i.i (omega (arith, c.loop-i-test.false, c.len.ensures, c.loop-i.queue.ok.0)) c.loop-i.invariant.are c.loop-i.invariant.done,
+  λ t. plain_block c.args.bonds.now c.args.standing.now c.args.link c.loop-i.reached.items c.loop-i.queue.items
+      c.loop-i.i (omega (arith, c.loop-i-test.false, c.len.ensures, c.loop-i.queue.ok.0)) c.loop-i.invariant.are
+      c.loop-i.invariant.done,
   λ plain. refl,
 )

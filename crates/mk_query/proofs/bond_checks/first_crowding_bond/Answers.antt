@@ -6,7 +6,8 @@ use Rattle.mk_query.proofs.bond_checks.first_crowding_bond.Goals as goal
 
 pub returns-then-not-has_room : goal.returns-then-not-has_room
 returns-then-not-has_room c =
-    let counts = counts_more c.args.bonds.now c.loop-i.i _ c.loop-i.counts.items c.count_bond.new.counts.items c.loop-i-test.true c.count_bond.ensures.size c.loop-i.invariant.counts c.count_bond.ensures.counted in
+    let counts = counts_more c.args.bonds.now c.loop-i.i _ c.loop-i.counts.items c.count_bond.new.counts.items
+    c.loop-i-test.true c.count_bond.ensures.size c.loop-i.invariant.counts c.count_bond.ensures.counted in
     record {
       lower = c.loop-i.invariant.before;
       fails =
@@ -16,7 +17,8 @@ returns-then-not-has_room c =
 
 pub returns-then-not-has_room-2 : goal.returns-then-not-has_room-2
 returns-then-not-has_room-2 c =
-    let counts = counts_more c.args.bonds.now c.loop-i.i _ c.loop-i.counts.items c.count_bond.new.counts.items c.loop-i-test.true c.count_bond.ensures.size c.loop-i.invariant.counts c.count_bond.ensures.counted in
+    let counts = counts_more c.args.bonds.now c.loop-i.i _ c.loop-i.counts.items c.count_bond.new.counts.items
+    c.loop-i-test.true c.count_bond.ensures.size c.loop-i.invariant.counts c.count_bond.ensures.counted in
     record {
       lower = c.loop-i.invariant.before;
       fails =
@@ -27,15 +29,18 @@ returns-then-not-has_room-2 c =
 pub loop-i-preserved : goal.loop-i-preserved
 loop-i-preserved c =
     let size = c.count_bond.ensures.size ∙ c.loop-i.invariant.size in
-    let counts = counts_more c.args.bonds.now c.loop-i.i _ c.loop-i.counts.items c.count_bond.new.counts.items c.loop-i-test.true c.count_bond.ensures.size c.loop-i.invariant.counts c.count_bond.ensures.counted in
+    let counts = counts_more c.args.bonds.now c.loop-i.i _ c.loop-i.counts.items c.count_bond.new.counts.items
+    c.loop-i-test.true c.count_bond.ensures.size c.loop-i.invariant.counts c.count_bond.ensures.counted in
     let first = rw (c.deref.ensures.value, c.first_end.ensures) at (c.has_room.ensures.0 c.if-not-has_room.false) in
     let second = rw (c.deref-in-loop-i.ensures.value, c.second_end.ensures) at (c.has_room-in-loop-i.ensures.0 c.if-not-has_room-2.false) in
-    let few = few_more_at c.args.bonds.now c.loop-i.i _ c.loop-i.counts.items c.count_bond.new.counts.items c.count_bond.ensures.size c.loop-i.invariant.few c.count_bond.ensures.counted first second in
+    let few = few_more_at c.args.bonds.now c.loop-i.i _ c.loop-i.counts.items c.count_bond.new.counts.items
+    c.count_bond.ensures.size c.loop-i.invariant.few c.count_bond.ensures.counted first second in
     record {
       size = size;
       counts = counts;
       few = few;
-      before = before_more (LeavesFewBonds c.args.atoms c.args.bonds.now) c.loop-i.i c.loop-i.invariant.before (leaves c.args.atoms c.args.bonds.now (c.loop-i.i + 1) c.count_bond.new.counts.items size counts few);
+      before = before_more (LeavesFewBonds c.args.atoms c.args.bonds.now) c.loop-i.i c.loop-i.invariant.before
+          (leaves c.args.atoms c.args.bonds.now (c.loop-i.i + 1) c.count_bond.new.counts.items size counts few);
     }
 
 pub returns : goal.returns

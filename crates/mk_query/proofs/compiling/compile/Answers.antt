@@ -2,7 +2,7 @@ use Rattle.std.proofs.Common.{◌≡◌, ◌+◌, ◌<◌, ◌∙◌, List, All,
 use Rattle.mk_model.specs.declared.group.Group.{Group}
 use Rattle.mk_model.specs.Templates.{TemplateView}
 use Rattle.mk_model.specs.QueryFits.{HasRisingSlots, QueryFits}
-use Rattle.mk_query.specs.Compiled.{AreTemplatesOf, tables_of}
+use Rattle.mk_query.specs.Compiled.{AreTemplatesOf, query_tables}
 use Rattle.mk_query.specs.CompileFaults.{IsAcross, IsFirstCompileFault, PassAcross, across_tables}
 use Rattle.mk_query.specs.OwnSizes.{IsSized}
 use Rattle.mk_query.specs.Recursion.{HasGroup}
@@ -21,24 +21,39 @@ groups_of-requires-clause-root c = record { groups = c.args.raw.now.groups; is_r
 
 pub first_across-requires-clause-few : goal.first_across-requires-clause-few
 first_across-requires-clause-few c =
-    omega (arith, c.requires.few_members, count_of c.args.raw.now c.requires.in_range (passed (goal.at.first_across-requires-clause-few c).In_default) c.in_ok-templates.templates.items c.in_ok-templates.ensures, ap length c.deref.ensures.value)
+    omega (
+      arith,
+      c.requires.few_members,
+      count_of c.args.raw.now c.requires.in_range
+          (passed (goal.at.first_across-requires-clause-few c).In_default) c.in_ok-templates.templates.items
+          c.in_ok-templates.ensures,
+      ap length c.deref.ensures.value,
+    )
 
 pub first_across-requires-clause-members : goal.first_across-requires-clause-members
 first_across-requires-clause-members c =
     rw (c.deref.ensures.value, c.deref-2.ensures.value)
-    (members_within c.args.raw.now c.requires.in_range (passed (goal.at.first_across-requires-clause-members c).In_default) c.in_ok-templates.templates.items c.in_ok-templates.ensures c.in_ok-groups.groups.items c.in_ok-groups.ensures)
+    (members_within c.args.raw.now c.requires.in_range (passed
+    (goal.at.first_across-requires-clause-members c).In_default) c.in_ok-templates.templates.items
+    c.in_ok-templates.ensures c.in_ok-groups.groups.items c.in_ok-groups.ensures)
 
 pub first_across-requires-clause-labels : goal.first_across-requires-clause-labels
 first_across-requires-clause-labels c =
-    rw c.deref.ensures.value (labels_in c.args.raw.now c.requires.in_range (passed (goal.at.first_across-requires-clause-labels c).In_default) c.in_ok-templates.templates.items c.in_ok-templates.ensures)
+    rw c.deref.ensures.value (labels_in c.args.raw.now c.requires.in_range
+    (passed (goal.at.first_across-requires-clause-labels c).In_default) c.in_ok-templates.templates.items
+    c.in_ok-templates.ensures)
 
 pub first_across-requires-clause-rising : goal.first_across-requires-clause-rising
 first_across-requires-clause-rising c =
-    rw c.deref.ensures.value (slots_rise_in c.args.raw.now c.requires.in_range (passed (goal.at.first_across-requires-clause-rising c).In_default) c.in_ok-templates.templates.items c.in_ok-templates.ensures)
+    rw c.deref.ensures.value (slots_rise_in c.args.raw.now c.requires.in_range
+    (passed (goal.at.first_across-requires-clause-rising c).In_default) c.in_ok-templates.templates.items
+    c.in_ok-templates.ensures)
 
 pub first_across-requires-clause-sized : goal.first_across-requires-clause-sized
 first_across-requires-clause-sized c =
-    rw c.deref.ensures.value (sized_in c.args.raw.now c.requires.in_range (passed (goal.at.first_across-requires-clause-sized c).In_default) c.in_ok-templates.templates.items c.in_ok-templates.ensures)
+    rw c.deref.ensures.value (sized_in c.args.raw.now c.requires.in_range
+    (passed (goal.at.first_across-requires-clause-sized c).In_default) c.in_ok-templates.templates.items
+    c.in_ok-templates.ensures)
 
 pub returns-in-Some-2-clause-fault : goal.returns-in-Some-2-clause-fault
 returns-in-Some-2-clause-fault c =

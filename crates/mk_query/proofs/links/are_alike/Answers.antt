@@ -10,7 +10,9 @@ pub returns : goal.returns
 returns c = (
   λ t. absurd (false≢true t),
   λ has. absurd (
-      none-all (λ (bond : QueryBond). IsTrue (joins c.args.link.atom c.args.link.from bond) × HasLike c.args.bonds.now c.args.link bond) c.args.bonds.now c.args.link.atom c.args.link.from c.args.numbers.now
+      none-all (λ (bond : QueryBond). IsTrue (joins c.args.link.atom c.args.link.from bond)
+      × HasLike c.args.bonds.now c.args.link bond) c.args.bonds.now c.args.link.atom c.args.link.from
+      c.args.numbers.now
       c.loop-number.number-index has.one c.requires c.loop-number-test.false c.loop-number.invariant has.at has.joined (has.joined, has.like)
       ),
 )

@@ -23,12 +23,15 @@ right c =
     let below : c.loop-i.i < length c.args.table.now.atoms = rw c.as_slice.ensures at c.loop-i-test.true in
     let by = rw (c.as_slice.ensures, c.deref-in-loop-i.ensures.value, c.in_ok-bonds.ensures, c.as_slice-2.ensures) at c.in_ok-right.ensures in
     let same =
-    right_links c.args.table.now c.in_ok-standing.standing (c.loop-i.i + 1) c.in_ok-standing.ensures (between (length c.args.table.now.atoms) c.args.table.now.bonds c.requires.bonds) (omega arith) (omega (arith, below)) in
+    right_links c.args.table.now c.in_ok-standing.standing (c.loop-i.i + 1) c.in_ok-standing.ensures
+    (between (length c.args.table.now.atoms) c.args.table.now.bonds c.requires.bonds) (omega arith)
+    (omega (arith, below)) in
     (λ t. same.0 (by.0 t), λ p. by.1 (same.1 p))
 
 pub loop-i-preserved : goal.loop-i-preserved
 loop-i-preserved c =
-    placed-more (λ (j : ℕ). AreRightLinks c.args.table.now j (links_at c.args.table.now j)) c.args.table.now.atoms c.loop-i.i ((right (goal.at.loop-i-preserved c).In_ok-right).0 c.if-not-right.false) c.loop-i.invariant
+    placed-more (λ (j : ℕ). AreRightLinks c.args.table.now j (links_at c.args.table.now j)) c.args.table.now.atoms
+    c.loop-i.i ((right (goal.at.loop-i-preserved c).In_ok-right).0 c.if-not-right.false) c.loop-i.invariant
 
 pub returns-then-not-right : goal.returns-then-not-right
 returns-then-not-right c =

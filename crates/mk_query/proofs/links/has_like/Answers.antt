@@ -8,7 +8,8 @@ pub returns : goal.returns
 returns c = (
   λ t. absurd (false≢true t),
   λ has. absurd (
-      none-all (λ (bond : QueryBond). IsLike c.args.link c.args.one bond) c.args.bonds.now c.args.link.atom c.args.link.to c.args.numbers.now c.loop-number.number-index has.other c.requires c.loop-number-test.false
+      none-all (λ (bond : QueryBond). IsLike c.args.link c.args.one bond) c.args.bonds.now c.args.link.atom
+      c.args.link.to c.args.numbers.now c.loop-number.number-index has.other c.requires c.loop-number-test.false
       c.loop-number.invariant has.at has.like.joined has.like
       ),
 )

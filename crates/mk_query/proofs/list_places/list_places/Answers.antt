@@ -31,7 +31,8 @@ loop-j-preserved c =
     let is = rw c.as_slice-props.ensures at c.index-props-j.is in
     record {
       size = c.put_property.ensures.size ∙ c.loop-j.invariant.size;
-      force = property_more c.args.table.now.lists c.args.table.now.props (map by_numbers c.args.table.now.lists) c.loop-j.j c.index-props-j.result c.loop-j.places.items c.put_property.new.places.items
+      force = property_more c.args.table.now.lists c.args.table.now.props (map by_numbers c.args.table.now.lists)
+          c.loop-j.j c.index-props-j.result c.loop-j.places.items c.put_property.new.places.items
           (rw c.as_slice-props.ensures at c.loop-j-test.true) is c.put_property.ensures.noted c.loop-j.invariant.force;
     }
 

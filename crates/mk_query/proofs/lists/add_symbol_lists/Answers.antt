@@ -8,7 +8,9 @@ loop-property-init c = more-none IsListMark c.args.marks.now.items
 
 pub loop-property-preserved : goal.loop-property-preserved
 loop-property-preserved c =
-    pass-more IsListMark symbol_lists_by symbols_told c.args.props.now c.loop-property.property-index c.property-item.result _ _ _ c.loop-property-test.true c.property-item.is c.loop-property.invariant c.add_property.ensures
+    pass-more IsListMark symbol_lists_by symbols_told c.args.props.now c.loop-property.property-index
+    c.property-item.result _ _ _ c.loop-property-test.true c.property-item.is c.loop-property.invariant
+    c.add_property.ensures
 
 pub returns : goal.returns
 returns c = pass-all IsListMark symbol_lists_by c.args.props.now c.loop-property.property-index _ _ c.loop-property-test.false c.loop-property.invariant

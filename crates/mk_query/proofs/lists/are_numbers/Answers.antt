@@ -7,7 +7,8 @@ use Rattle.mk_ctab.specs.Numbers.{IsWithin}
 use Rattle.mk_query.proofs.lists.are_numbers.Goals as goal
 
 pub loop-number-preserved : goal.loop-number-preserved
-loop-number-preserved c = All-more (IsWithin (pos 1) (pos 118)) c.args.numbers.now c.loop-number.number-index _ c.loop-number-test.true c.loop-number.invariant (c.is_number.ensures.0 c.if-not-is_number.false)
+loop-number-preserved c = All-more (IsWithin (pos 1) (pos 118)) c.args.numbers.now c.loop-number.number-index _
+    c.loop-number-test.true c.loop-number.invariant (c.is_number.ensures.0 c.if-not-is_number.false)
 
 pub returns-then-not-is_number : goal.returns-then-not-is_number
 returns-then-not-is_number c = (

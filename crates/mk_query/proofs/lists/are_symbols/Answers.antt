@@ -7,7 +7,8 @@ use Rattle.mk_query.proofs.lists.are_symbols.Goals as goal
 
 pub loop-i-preserved : goal.loop-i-preserved
 loop-i-preserved c =
-    All-more IsElementName c.args.symbols.now c.loop-i.i [] (rw c.count-i-end.ensures at c.loop-i-test.true) c.loop-i.invariant (rw c.symbol.ensures at (c.is_element_name.ensures.0 c.if-not-is_element_name.false))
+    All-more IsElementName c.args.symbols.now c.loop-i.i [] (rw c.count-i-end.ensures at c.loop-i-test.true)
+    c.loop-i.invariant (rw c.symbol.ensures at (c.is_element_name.ensures.0 c.if-not-is_element_name.false))
 
 pub returns-then-not-is_element_name : goal.returns-then-not-is_element_name
 returns-then-not-is_element_name c = (

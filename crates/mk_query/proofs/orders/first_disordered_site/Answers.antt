@@ -23,9 +23,15 @@ loop-i-preserved c =
     } in
     record {
       size = c.mark_property.ensures.size ∙ c.loop-i.invariant.size;
-      seen = seen_step c.args.table.now.props c.loop-i.i c.index-props-i-in-loop-i.result c.loop-i.seen.items c.mark_property.new.seen.items c.loop-i-test.true (rw c.as_slice-props.ensures at c.loop-i.auto.i) (rw c.as_slice-props.ensures at c.index-props-i-in-loop-i.is) c.mark_property.ensures c.loop-i.invariant.seen;
-      found = order_step c.args.table.now c.loop-i.i c.index-props-i.result c.in_ok-sites.sites.items c.in_ok-near.near.items c.loop-i.seen.items c.is_ordered-right.result c.loop-i.found c.found_or-found.result
-          c.loop-i-test.true (rw c.as_slice-props.ensures at c.loop-i.auto.i) (rw c.as_slice-props.ensures at c.index-props-i.is) known (rw (c.deref.ensures.value, c.deref-in-loop-i.ensures.value, c.deref-in-loop-i-2.ensures.value) at c.is_ordered-right.ensures) c.found_or-found.ensures c.loop-i.invariant.found;
+      seen = seen_step c.args.table.now.props c.loop-i.i c.index-props-i-in-loop-i.result c.loop-i.seen.items
+          c.mark_property.new.seen.items c.loop-i-test.true (rw c.as_slice-props.ensures at c.loop-i.auto.i)
+          (rw c.as_slice-props.ensures at c.index-props-i-in-loop-i.is) c.mark_property.ensures c.loop-i.invariant.seen;
+      found = order_step c.args.table.now c.loop-i.i c.index-props-i.result c.in_ok-sites.sites.items
+          c.in_ok-near.near.items c.loop-i.seen.items c.is_ordered-right.result c.loop-i.found c.found_or-found.result
+          c.loop-i-test.true (rw c.as_slice-props.ensures at c.loop-i.auto.i)
+          (rw c.as_slice-props.ensures at c.index-props-i.is) known
+          (rw (c.deref.ensures.value, c.deref-in-loop-i.ensures.value, c.deref-in-loop-i-2.ensures.value)
+          at c.is_ordered-right.ensures) c.found_or-found.ensures c.loop-i.invariant.found;
     }
 
 pub returns : goal.returns

@@ -14,5 +14,7 @@ loop-pair-preserved c =
 pub returns : goal.returns
 returns c = (
   λ t. absurd (false≢true t),
-  λ has. absurd (All-contains (λ (pair : Pair). pair.value ≡ pos c.args.k → ⊥) c.args.entries.now has.0 (rw (take_all c.loop-pair.pair-index c.args.entries.now c.loop-pair-test.false) at c.loop-pair.invariant) has.1 has.2),
+  λ has. absurd (All-contains (λ (pair : Pair). pair.value ≡ pos c.args.k → ⊥) c.args.entries.now has.0
+      (rw (take_all c.loop-pair.pair-index c.args.entries.now c.loop-pair-test.false) at c.loop-pair.invariant) has.1
+      has.2),
 )

@@ -14,7 +14,8 @@ right c =
     let first = rw c.as_slice-atoms.ensures at c.first_bearer-first.ensures in
     let second = rw c.as_slice-atoms.ensures at c.first_bearer-second.ensures in
     let same =
-    pointed_is c.args.is_root c.args.table.now c.in_ok-standing.standing c.first_bearer-first.result c.first_bearer-second.result (c.loop-i.i + 1) c.in_ok-standing.ensures (omega arith) (omega (arith, below))
+    pointed_is c.args.is_root c.args.table.now c.in_ok-standing.standing c.first_bearer-first.result
+    c.first_bearer-second.result (c.loop-i.i + 1) c.in_ok-standing.ensures (omega arith) (omega (arith, below))
     first second in
     (λ t. same.0 (c.is_pointed.ensures.0 t), λ p. c.is_pointed.ensures.1 (same.1 p))
 

@@ -8,7 +8,8 @@ use Rattle.mk_query.proofs.property_checks.are_links_of.Goals as goal
 
 pub loop-link-preserved : goal.loop-link-preserved
 loop-link-preserved c =
-    All-more (λ (link : LinkEntry). IsAtom c.args.atoms link.atom) c.args.links.now c.loop-link.link-index _ c.loop-link-test.true c.loop-link.invariant (c.is_link_of.ensures.0 c.if-not-is_link_of.false)
+    All-more (λ (link : LinkEntry). IsAtom c.args.atoms link.atom) c.args.links.now c.loop-link.link-index _
+    c.loop-link-test.true c.loop-link.invariant (c.is_link_of.ensures.0 c.if-not-is_link_of.false)
 
 pub returns-then-not-is_link_of : goal.returns-then-not-is_link_of
 returns-then-not-is_link_of c = (

@@ -8,7 +8,8 @@ use Rattle.mk_query.proofs.property_checks.are_ring_bond_counts.Goals as goal
 
 pub loop-pair-preserved : goal.loop-pair-preserved
 loop-pair-preserved c =
-    All-more (λ (pair : Pair). IsRingBondCount pair.value) c.args.pairs.now c.loop-pair.pair-index _ c.loop-pair-test.true c.loop-pair.invariant (c.is_ring_bond_count.ensures.0 c.if-not-is_ring_bond_count.false)
+    All-more (λ (pair : Pair). IsRingBondCount pair.value) c.args.pairs.now c.loop-pair.pair-index _
+    c.loop-pair-test.true c.loop-pair.invariant (c.is_ring_bond_count.ensures.0 c.if-not-is_ring_bond_count.false)
 
 pub returns-then-not-is_ring_bond_count : goal.returns-then-not-is_ring_bond_count
 returns-then-not-is_ring_bond_count c = (

@@ -5,7 +5,8 @@ use Rattle.mk_text.proofs.ForCallers.{items-more, items-fail, items-all}
 use Rattle.mk_query.proofs.property_checks.first_unknown_property.Goals as goal
 
 pub loop-i-preserved : goal.loop-i-preserved
-loop-i-preserved c = items-more (IsQueryProperty c.args.atoms) c.args.props.now c.loop-i.i c.index-props-i.result c.index-props-i.is (c.is_query_property.ensures.0 c.if-not-is_query_property.false) c.loop-i.invariant
+loop-i-preserved c = items-more (IsQueryProperty c.args.atoms) c.args.props.now c.loop-i.i c.index-props-i.result
+    c.index-props-i.is (c.is_query_property.ensures.0 c.if-not-is_query_property.false) c.loop-i.invariant
 
 pub returns-then-not-is_query_property : goal.returns-then-not-is_query_property
 returns-then-not-is_query_property c =

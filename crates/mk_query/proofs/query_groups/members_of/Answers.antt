@@ -7,6 +7,8 @@ loop-i-preserved c =
     let part = c.index-parts-i.result in
     rw c.as_slice.ensures
     (record {
-      members = part_more parts c.args.g c.loop-i.i c.loop-i.before part c.loop-i.members.items c.put_part.new.members.items c.loop-i-test.true c.index-parts-i.is c.in_ok-put_part.ensures c.loop-i.invariant.members;
+      members = part_more parts c.args.g c.loop-i.i c.loop-i.before part c.loop-i.members.items
+          c.put_part.new.members.items c.loop-i-test.true c.index-parts-i.is c.in_ok-put_part.ensures
+          c.loop-i.invariant.members;
       sum = count_more parts c.loop-i.i c.loop-i.before part c.loop-i-test.true c.index-parts-i.is c.loop-i.invariant.sum;
     })

@@ -8,4 +8,5 @@ loop-k-preserved c =
 
 pub returns : goal.returns
 returns c =
-    part_all c.args.members.now.items c.loop-k.members.items (c.args.before + 1) c.args.g c.loop-k.k c.args.part.now c.if-part-g.false (omega (arith, ap length c.as_slice-k-end.ensures)) c.loop-k.invariant
+    part_all c.args.members.now.items c.loop-k.members.items (c.args.before + 1) c.args.g c.loop-k.k c.args.part.now
+    c.if-part-g.false (omega (arith, ap length c.as_slice-k-end.ensures)) c.loop-k.invariant

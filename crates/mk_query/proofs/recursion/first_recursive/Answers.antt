@@ -12,8 +12,13 @@ loop-g-preserved c =
     let new = c.least_in_group-least.result in
     record {
       most = omega (arith, c.least_in_group-least.ensures.most, c.loop-g.invariant.most);
-      found = found_more T G 32 list c.loop-g.g (length T) c.loop-g.least new c.index-groups-g.result.members c.loop-g-test.true are c.least_in_group-least.ensures.most (rw (c.deref.ensures.value, c.as_slice.ensures, sym c.index-groups-g.is) at c.least_in_group-least.ensures.found) c.loop-g.invariant.found;
-      lowest = low_more T G 32 list c.loop-g.g c.loop-g.least new c.index-groups-g.result.members are c.least_in_group-least.ensures.most (rw (c.deref.ensures.value, c.as_slice.ensures, sym c.index-groups-g.is) at c.least_in_group-least.ensures.least) c.loop-g.invariant.lowest;
+      found = found_more T G 32 list c.loop-g.g (length T) c.loop-g.least new c.index-groups-g.result.members
+          c.loop-g-test.true are c.least_in_group-least.ensures.most
+          (rw (c.deref.ensures.value, c.as_slice.ensures, sym c.index-groups-g.is)
+          at c.least_in_group-least.ensures.found) c.loop-g.invariant.found;
+      lowest = low_more T G 32 list c.loop-g.g c.loop-g.least new c.index-groups-g.result.members are
+          c.least_in_group-least.ensures.most (rw (c.deref.ensures.value, c.as_slice.ensures, sym c.index-groups-g.is)
+          at c.least_in_group-least.ensures.least) c.loop-g.invariant.lowest;
     }
 
 pub returns-then-least-none : goal.returns-then-least-none

@@ -21,7 +21,9 @@ loop-group-preserved-then-is_empty c =
     let empty : length group.members ≡ 0 = ap (λ (l : List RawTable). length l) (sym c.as_slice.ensures) ∙ eqb-true (length c.as_slice.result.now) 0 (sym c.if-is_empty.ensures) in
     record {
       size = c.loop-group.invariant.size;
-      are = subst (λ (l : List RawGroup). AreServed l c.loop-group.served.items) (sym more) (served-skip (take c.loop-group.group-index groups) group c.loop-group.served.items empty c.loop-group.invariant.are);
+      are = subst (λ (l : List RawGroup). AreServed l c.loop-group.served.items) (sym more)
+          (served-skip (take c.loop-group.group-index groups) group c.loop-group.served.items empty
+          c.loop-group.invariant.are);
     }
 
 pub loop-group-preserved : goal.loop-group-preserved

@@ -53,7 +53,13 @@ loop-i-preserved c =
     let here : All (PassesAll groups false) c.index-groups-i.result.members = (rw (are past, c.in_default.is) at c.in_ok-fault.ensures) c.args.raw.now.groups c.requires.served in
     record {
       number =
-          omega (arith, c.loop-i.invariant.number, ap length (are past), ap (λ (l : List RawTable). length l) more, length-append (member_tables (take c.loop-i.i groups)) c.index-groups-i.result.members);
+          omega (
+            arith,
+            c.loop-i.invariant.number,
+            ap length (are past),
+            ap (λ (l : List RawTable). length l) more,
+            length-append (member_tables (take c.loop-i.i groups)) c.index-groups-i.result.members,
+          );
       passed = All-more (λ (group : RawGroup). All (PassesAll groups false) group.members) groups c.loop-i.i c.index-groups-i.result at.0 c.loop-i.invariant.passed
           (subst (λ (group : RawGroup). All (PassesAll groups false) group.members) (rw c.as_slice-groups.ensures at c.index-groups-i.is) here);
     }

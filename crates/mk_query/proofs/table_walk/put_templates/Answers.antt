@@ -21,5 +21,8 @@ loop-k-preserved c = λ tables are.
     take_more members c.loop-k.k c.index-members-k.result c.loop-k-test.true ∙ ap (λ (t : RawTable). take c.loop-k.k members ++ t ∷ []) (sym c.index-members-k.is) in
     let whole : tables ++ take (c.loop-k.k + 1) members ≡ (tables ++ take c.loop-k.k members) ++ c.index-members-k.result ∷ [] =
     ap (λ (l : List RawTable). tables ++ l) next ∙ sym (append_assoc tables (take c.loop-k.k members) (c.index-members-k.result ∷ [])) in
-    let more = templates_more (tables ++ take c.loop-k.k members) c.loop-k.templates.items c.index-members-k.result c.in_ok-template_of.field-0 c.in_ok-template_of.ensures (c.loop-k.invariant tables are) in
-    subst (λ (l : List RawTable). AreTemplatesOf l c.push.new.self.items) (sym whole) (subst (λ (l : List TemplateView). AreTemplatesOf ((tables ++ take c.loop-k.k members) ++ c.index-members-k.result ∷ []) l) (sym c.in_ok-push.ensures.items) more)
+    let more = templates_more (tables ++ take c.loop-k.k members) c.loop-k.templates.items c.index-members-k.result
+    c.in_ok-template_of.field-0 c.in_ok-template_of.ensures (c.loop-k.invariant tables are) in
+    subst (λ (l : List RawTable). AreTemplatesOf l c.push.new.self.items) (sym whole)
+    (subst (λ (l : List TemplateView). AreTemplatesOf
+    ((tables ++ take c.loop-k.k members) ++ c.index-members-k.result ∷ []) l) (sym c.in_ok-push.ensures.items) more)

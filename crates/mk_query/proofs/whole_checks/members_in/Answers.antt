@@ -18,7 +18,15 @@ size c = ap length (c.as_slice.ensures ∙ ap (λ (g : RawGroup). g.members) (sy
 pub returns-then-count-gt-MOST_MEMBERS-clause-many : goal.returns-then-count-gt-MOST_MEMBERS-clause-many
 returns-then-count-gt-MOST_MEMBERS-clause-many c = λ many.
     let past = (goal.at.returns-then-count-gt-MOST_MEMBERS-clause-many c).After-as_slice in
-    omega (arith, many, size past, few_before c.args.groups.now c.loop-i.i c.index-groups-i.result (there past), c.loop-i.invariant.is, members_count (take c.loop-i.i c.args.groups.now), members_count c.args.groups.now)
+    omega (
+      arith,
+      many,
+      size past,
+      few_before c.args.groups.now c.loop-i.i c.index-groups-i.result (there past),
+      c.loop-i.invariant.is,
+      members_count (take c.loop-i.i c.args.groups.now),
+      members_count c.args.groups.now,
+    )
 
 pub loop-i-preserved : goal.loop-i-preserved
 loop-i-preserved c =

@@ -9,7 +9,12 @@ loop-b-init c = put_none c.args.rings.now c.args.aromatics.now c.args.bonds.now.
 pub loop-b-preserved : goal.loop-b-preserved
 loop-b-preserved c =
     let below : c.loop-b.b < length c.loop-b.bonds.items = omega (arith, c.loop-b.invariant.size) in
-    put_more c.args.rings.now c.args.aromatics.now c.args.bonds.now.items c.loop-b.bonds.items c.loop-b.b c.with_marks.result c.index.result.now below (c.with_marks.ensures ∙ ap (λ (x : GraphBond). record x { ring = get_or c.args.rings.now c.loop-b.b false; aromatic = get_or c.args.aromatics.now c.loop-b.b false }) c.index.ensures) c.loop-b.invariant
+    put_more c.args.rings.now c.args.aromatics.now c.args.bonds.now.items c.loop-b.bonds.items c.loop-b.b
+    c.with_marks.result c.index.result.now below (c.with_marks.ensures
+    ∙ ap (λ (x : GraphBond). record x {
+      ring = get_or c.args.rings.now c.loop-b.b false;
+      aromatic = get_or c.args.aromatics.now c.loop-b.b false;
+    }) c.index.ensures) c.loop-b.invariant
 
 pub returns-clause-same : goal.returns-clause-same
 returns-clause-same c = c.loop-b.invariant.same

@@ -19,7 +19,9 @@ loop-b-preserved c =
     IsOutside-ends c.args.bonds.now c.args.nodes.now c.requires.forest.grown c.loop-b.b _ _ here
     (λ by. true≢false (sym (c.hangs_by.ensures.1 by) ∙ c.if-hangs_by.false))
     (λ by. true≢false (sym (c.hangs_by-in-loop-b.ensures.1 by) ∙ c.if-hangs_by-2.false)) in
-    IsMarkedUpTo-outside _ c.args.bonds.now c.args.nodes.now c.loop-b.b c.loop-b.marks c.mark_way.new.marks c.requires.ends c.requires.forest c.loop-b-test.true (omega (arith, c.loop-b.auto.marks, c.requires.size)) out c.mark_way.ensures c.loop-b.invariant
+    IsMarkedUpTo-outside _ c.args.bonds.now c.args.nodes.now c.loop-b.b c.loop-b.marks c.mark_way.new.marks
+    c.requires.ends c.requires.forest c.loop-b-test.true (omega (arith, c.loop-b.auto.marks, c.requires.size)) out
+    c.mark_way.ensures c.loop-b.invariant
 
 pub returns : goal.returns
 returns c = Marks-all _ c.args.bonds.now c.args.nodes.now c.loop-b.b c.loop-b.marks c.requires.forest c.loop-b-test.false (omega (arith, c.loop-b.auto.marks, c.requires.size)) c.loop-b.invariant

@@ -12,14 +12,18 @@ pub bounds-marks-here : goal.bounds-marks-here
 bounds-marks-here c =
     let fits : (x b : ℕ) → HangsBy c.args.nodes.now x b → b < length c.loop-a.marks =
     λ x b by. omega (arith, hangs_within c.args.bonds.now c.args.nodes.now x b c.requires.forest.grown by, c.loop-a.auto.marks, c.requires.size) in
-    let high = deep_hangs c.args.bonds.now c.args.nodes.now _ _ c.loop-a.a c.loop-a.c _ _ c.args.marks.now c.loop-a.marks c.requires.forest.grown fits c.loop-a.invariant c.loop-a-test.true c.deeper_first-deep.ensures.order c.deeper_first-deep.ensures.same in
+    let high = deep_hangs c.args.bonds.now c.args.nodes.now _ _ c.loop-a.a c.loop-a.c _ _ c.args.marks.now
+    c.loop-a.marks c.requires.forest.grown fits c.loop-a.invariant c.loop-a-test.true
+    c.deeper_first-deep.ensures.order c.deeper_first-deep.ensures.same in
     fits c.deeper_first-deep.result.0 _ (high, refl)
 
 pub loop-a-preserved : goal.loop-a-preserved
 loop-a-preserved c =
     let fits : (x b : ℕ) → HangsBy c.args.nodes.now x b → b < length c.loop-a.marks =
     λ x b by. omega (arith, hangs_within c.args.bonds.now c.args.nodes.now x b c.requires.forest.grown by, c.loop-a.auto.marks, c.requires.size) in
-    IsWalked-more c.args.bonds.now c.args.nodes.now _ _ c.loop-a.a c.loop-a.c _ _ c.args.marks.now c.loop-a.marks c.requires.forest.grown fits c.loop-a.invariant c.loop-a-test.true c.deeper_first-deep.ensures.order c.deeper_first-deep.ensures.same
+    IsWalked-more c.args.bonds.now c.args.nodes.now _ _ c.loop-a.a c.loop-a.c _ _ c.args.marks.now c.loop-a.marks
+    c.requires.forest.grown fits c.loop-a.invariant c.loop-a-test.true c.deeper_first-deep.ensures.order
+    c.deeper_first-deep.ensures.same
 
 pub returns : goal.returns
 returns c = λ u v joined.

@@ -13,7 +13,9 @@ twice label one_or_two = ⊎_elim (λ e. omega (arith, e)) (λ e. omega (arith, 
 
 pub loop-i-init : goal.loop-i-init
 loop-i-init c = record {
-  ends = EachTo-none c.args.bonds.now (set_of c.args.marks.now) c.args.start c.args.label c.numbers_of-numbers.result.now (LeadsToStamped c.args.bonds.now (set_of c.args.marks.now) (3 - c.args.label) c.args.two.now c.args.stamp);
+  ends = EachTo-none c.args.bonds.now (set_of c.args.marks.now) c.args.start c.args.label
+      c.numbers_of-numbers.result.now (LeadsToStamped c.args.bonds.now (set_of c.args.marks.now) (3 - c.args.label)
+      c.args.two.now c.args.stamp);
   further = Further-none c.args.bonds.now (set_of c.args.marks.now) c.args.label c.args.two.now c.args.three.now c.args.stamp c.requires.new.0 c.requires.new.1;
   below_two = λ i inside. omega (arith, c.requires.new.1 i inside);
   below_three = λ was. was;
@@ -21,7 +23,11 @@ loop-i-init c = record {
 
 pub loop-i-preserved-then-not-takes : goal.loop-i-preserved-then-not-takes
 loop-i-preserved-then-not-takes c = record {
-  ends = EachTo-skip c.args.bonds.now (set_of c.args.marks.now) c.args.start c.args.label c.numbers_of-numbers.result.now c.loop-i.i c.step_over-over.result.bond (LeadsToStamped c.args.bonds.now (set_of c.args.marks.now) (3 - c.args.label) c.loop-i.two c.args.stamp) c.step_over-over.ensures.number (λ t. true≢false (sym (c.takes.ensures.1 t) ∙ c.if-not-takes.true)) c.loop-i.invariant.ends;
+  ends = EachTo-skip c.args.bonds.now (set_of c.args.marks.now) c.args.start c.args.label
+      c.numbers_of-numbers.result.now c.loop-i.i c.step_over-over.result.bond
+      (LeadsToStamped c.args.bonds.now (set_of c.args.marks.now) (3 - c.args.label) c.loop-i.two c.args.stamp)
+      c.step_over-over.ensures.number (λ t. true≢false (sym (c.takes.ensures.1 t) ∙ c.if-not-takes.true))
+      c.loop-i.invariant.ends;
   further = c.loop-i.invariant.further;
   below_two = c.loop-i.invariant.below_two;
   below_three = c.loop-i.invariant.below_three;
@@ -41,7 +47,9 @@ loop-i-preserved c =
     record {
       ends =
           EachTo-more c.args.bonds.now (set_of c.args.marks.now) c.args.start c.args.label c.numbers_of-numbers.result.now c.loop-i.i c.step_over-over.result.bond c.step_over-over.result.to
-          (LeadsToStamped c.args.bonds.now (set_of c.args.marks.now) (3 - c.args.label) c.loop-i.two c.args.stamp) (LeadsToStamped c.args.bonds.now (set_of c.args.marks.now) (3 - c.args.label) c.reach_two.new.two c.args.stamp)
+          (LeadsToStamped c.args.bonds.now (set_of c.args.marks.now) (3 - c.args.label) c.loop-i.two c.args.stamp)
+          (LeadsToStamped c.args.bonds.now (set_of c.args.marks.now) (3 - c.args.label) c.reach_two.new.two
+          c.args.stamp)
           c.step_over-over.ensures.number c.step_over-over.ensures.joined (λ y led b w joined takes. c.reach_two.ensures.kept w (led b w joined takes)) c.reach_two.ensures.led c.loop-i.invariant.ends;
       further = subst P (twice c.args.label c.requires.label) c.reach_two.ensures.further;
       below_two = c.reach_two.ensures.below_two c.loop-i.invariant.below_two;
@@ -50,6 +58,8 @@ loop-i-preserved c =
 
 pub returns-clause-reached : goal.returns-clause-reached
 returns-clause-reached c = record {
-  ends = EachTo-all c.args.bonds.now (set_of c.args.marks.now) c.args.start c.args.label c.numbers_of-numbers.result.now c.loop-i.i (LeadsToStamped c.args.bonds.now (set_of c.args.marks.now) (3 - c.args.label) c.loop-i.two c.args.stamp) c.numbers_of-numbers.ensures c.loop-i-test.false c.loop-i.invariant.ends;
+  ends = EachTo-all c.args.bonds.now (set_of c.args.marks.now) c.args.start c.args.label c.numbers_of-numbers.result.now
+      c.loop-i.i (LeadsToStamped c.args.bonds.now (set_of c.args.marks.now) (3 - c.args.label) c.loop-i.two
+      c.args.stamp) c.numbers_of-numbers.ensures c.loop-i-test.false c.loop-i.invariant.ends;
   further = c.loop-i.invariant.further;
 }

@@ -7,7 +7,10 @@ use Rattle.mk_rings.proofs.reach.reach_three.Goals as goal
 
 pub loop-i-preserved-then-not-takes : goal.loop-i-preserved-then-not-takes
 loop-i-preserved-then-not-takes c = record {
-  led = EachTo-skip c.args.bonds.now (set_of c.args.marks.now) c.args.z c.args.label c.numbers_of-numbers.result.now c.loop-i.i c.step_over-over.result.bond (λ w. get_or c.loop-i.three w 0 ≡ c.args.stamp) c.step_over-over.ensures.number (λ t. true≢false (sym (c.takes.ensures.1 t) ∙ c.if-not-takes.true)) c.loop-i.invariant.led;
+  led = EachTo-skip c.args.bonds.now (set_of c.args.marks.now) c.args.z c.args.label c.numbers_of-numbers.result.now
+      c.loop-i.i c.step_over-over.result.bond (λ w. get_or c.loop-i.three w 0 ≡ c.args.stamp)
+      c.step_over-over.ensures.number (λ t. true≢false (sym (c.takes.ensures.1 t) ∙ c.if-not-takes.true))
+      c.loop-i.invariant.led;
   kept = c.loop-i.invariant.kept;
   below = c.loop-i.invariant.below;
 }
@@ -33,4 +36,6 @@ loop-i-preserved c =
 
 pub returns-clause-led : goal.returns-clause-led
 returns-clause-led c =
-    EachTo-all c.args.bonds.now (set_of c.args.marks.now) c.args.z c.args.label c.numbers_of-numbers.result.now c.loop-i.i (λ w. get_or c.loop-i.three w 0 ≡ c.args.stamp) c.numbers_of-numbers.ensures c.loop-i-test.false c.loop-i.invariant.led
+    EachTo-all c.args.bonds.now (set_of c.args.marks.now) c.args.z c.args.label c.numbers_of-numbers.result.now
+    c.loop-i.i (λ w. get_or c.loop-i.three w 0 ≡ c.args.stamp) c.numbers_of-numbers.ensures c.loop-i-test.false
+    c.loop-i.invariant.led

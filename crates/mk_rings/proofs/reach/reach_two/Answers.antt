@@ -7,7 +7,10 @@ use Rattle.mk_rings.proofs.reach.reach_two.Goals as goal
 
 pub loop-i-preserved-then-not-takes : goal.loop-i-preserved-then-not-takes
 loop-i-preserved-then-not-takes c = record {
-  led = EachTo-skip c.args.bonds.now (set_of c.args.marks.now) c.args.y c.args.label c.numbers_of-numbers.result.now c.loop-i.i c.step_over-over.result.bond (λ z. get_or c.loop-i.two z 0 ≡ c.args.stamp) c.step_over-over.ensures.number (λ t. true≢false (sym (c.takes.ensures.1 t) ∙ c.if-not-takes.true)) c.loop-i.invariant.led;
+  led = EachTo-skip c.args.bonds.now (set_of c.args.marks.now) c.args.y c.args.label c.numbers_of-numbers.result.now
+      c.loop-i.i c.step_over-over.result.bond (λ z. get_or c.loop-i.two z 0 ≡ c.args.stamp)
+      c.step_over-over.ensures.number (λ t. true≢false (sym (c.takes.ensures.1 t) ∙ c.if-not-takes.true))
+      c.loop-i.invariant.led;
   kept = c.loop-i.invariant.kept;
   further = c.loop-i.invariant.further;
   below_two = c.loop-i.invariant.below_two;
@@ -50,11 +53,15 @@ loop-i-preserved c =
           (λ z. get_or c.loop-i.two z 0 ≡ c.args.stamp) (λ z. get_or (set c.loop-i.two c.step_over-over.result.to c.args.stamp) z 0 ≡ c.args.stamp)
           c.step_over-over.ensures.number c.step_over-over.ensures.joined kept (stamp-here c.loop-i.two c.step_over-over.result.to c.args.stamp inside) c.loop-i.invariant.led;
       kept = λ z was. kept z (c.loop-i.invariant.kept z was);
-      further = Further-more c.args.bonds.now (set_of c.args.marks.now) (3 - c.args.label) c.loop-i.two c.loop-i.three c.reach_three.new.three c.args.stamp c.step_over-over.result.to c.reach_three.ensures.kept c.reach_three.ensures.led c.loop-i.invariant.further;
+      further = Further-more c.args.bonds.now (set_of c.args.marks.now) (3 - c.args.label) c.loop-i.two c.loop-i.three
+          c.reach_three.new.three c.args.stamp c.step_over-over.result.to c.reach_three.ensures.kept
+          c.reach_three.ensures.led c.loop-i.invariant.further;
       below_two = λ was. below-set c.loop-i.two c.step_over-over.result.to c.args.stamp _ (omega arith) (c.loop-i.invariant.below_two was);
       below_three = λ was. c.reach_three.ensures.below (c.loop-i.invariant.below_three was);
     }
 
 pub returns-clause-led : goal.returns-clause-led
 returns-clause-led c =
-    EachTo-all c.args.bonds.now (set_of c.args.marks.now) c.args.y c.args.label c.numbers_of-numbers.result.now c.loop-i.i (λ z. get_or c.loop-i.two z 0 ≡ c.args.stamp) c.numbers_of-numbers.ensures c.loop-i-test.false c.loop-i.invariant.led
+    EachTo-all c.args.bonds.now (set_of c.args.marks.now) c.args.y c.args.label c.numbers_of-numbers.result.now
+    c.loop-i.i (λ z. get_or c.loop-i.two z 0 ≡ c.args.stamp) c.numbers_of-numbers.ensures c.loop-i-test.false
+    c.loop-i.invariant.led

@@ -6,11 +6,14 @@ use Rattle.mk_rings.proofs.six_rings.+search.Goals as goal
 
 pub can_close-returns-then-is_stamped_out-clause-open : goal.can_close-returns-then-is_stamped_out-clause-open
 can_close-returns-then-is_stamped_out-clause-open t c = λ skip no can.
-    stamped_out c.args.bonds.now (set_of c.args.marks.now) c.args.start c.args.two.now c.args.three.now c.args.stamp c.args.label c.args.left c.args.at _ skip (c.is_stamped_out.ensures c.if-is_stamped_out.true) can
+    stamped_out c.args.bonds.now (set_of c.args.marks.now) c.args.start c.args.two.now c.args.three.now c.args.stamp
+    c.args.label c.args.left c.args.at _ skip (c.is_stamped_out.ensures c.if-is_stamped_out.true) can
 
 pub can_close-returns-clause-open : goal.can_close-returns-clause-open
 can_close-returns-clause-open t c = λ skip no can.
-    none_closes c.args.bonds.now (set_of c.args.marks.now) c.args.start _ c.args.at c.args.label c.args.left c.numbers_of-numbers.result.now c.loop-i.i c.numbers_of-numbers.ensures c.loop-i-test.false (c.loop-i.invariant skip) can
+    none_closes c.args.bonds.now (set_of c.args.marks.now) c.args.start _ c.args.at c.args.label c.args.left
+    c.numbers_of-numbers.result.now c.loop-i.i c.numbers_of-numbers.ensures c.loop-i-test.false
+    (c.loop-i.invariant skip) can
 
 pub closes_over-returns-clause-open : goal.closes_over-returns-clause-open
 closes_over-returns-clause-open t c = λ skip no by.
@@ -18,5 +21,7 @@ closes_over-returns-clause-open t c = λ skip no by.
     let longer = path_longer c.args.path c.args.left c.args.over.to c.if-left-eq0.false (omega (arith, c.requires.path, c.requires.left)) in
     let new = rw (path_rest c.args.path c.args.left c.requires.path) at c.if-is_among.ensures.cases in
     let P : List ℕ → Type 0 = λ path. CanClose c.args.bonds.now (set_of c.args.marks.now) c.args.start path c.args.over.to (3 - c.args.label) (c.args.left - 1) in
-    let further = on_from_new c.args.bonds.now (set_of c.args.marks.now) c.args.start _ c.args.at c.args.label c.args.over.bond c.args.over.to c.requires.joined c.args.left c.if-left-eq0.false (c.if-not-takes.ensures.0 refl) new in
+    let further = on_from_new c.args.bonds.now (set_of c.args.marks.now) c.args.start _ c.args.at c.args.label
+    c.args.over.bond c.args.over.to c.requires.joined c.args.left c.if-left-eq0.false
+    (c.if-not-takes.ensures.0 refl) new in
     c.can_close.ensures.open less no (subst P (sym longer) (further.1 by))

@@ -11,4 +11,6 @@ decreases-closes_over l = 2 * l.left
 
 abbrev pub invariant-can_close-loop-i : goal.invariant-can_close-loop-i
 invariant-can_close-loop-i l =
-    MaySkip l.bonds (set_of l.marks) l.start l.two l.three l.stamp l.label l.left → (i : ℕ) → i < l.i → ClosesBy l.bonds (set_of l.marks) l.start (drop l.left l.path) l.at l.label l.left (get_or l.numbers i 0 - 1) → ⊥
+    MaySkip l.bonds (set_of l.marks) l.start l.two l.three l.stamp l.label l.left → (i : ℕ) → i < l.i
+    → ClosesBy l.bonds (set_of l.marks) l.start (drop l.left l.path) l.at l.label l.left (get_or l.numbers i 0 - 1)
+    → ⊥

@@ -14,6 +14,10 @@ mark_all-requires-clause-follow c = λ i below.
     Follows-round c.args.bonds.now c.args.marks.now c.args.label x k c.requires.label
     (record {
       distinct = c.are_distinct.ensures c.if-not-are_distinct.false;
-      joined = below_six (λ j. Joins c.args.bonds.now (k j) (x j) (x ((j + 1) % 6))) c.in-Some.ensures.joined c.in-Some-bond_over.ensures.joined c.in-Some-bond_over-2.ensures.joined c.in-Some-bond_over-3.ensures.joined c.in-Some-bond_over-4.ensures.joined c.in-Some-bond_over-5.ensures.joined;
-      labels = below_six (λ j. Takes c.args.bonds.now (set_of c.args.marks.now) (k j) (label c.args.label j)) c.in-Some.ensures.takes c.in-Some-bond_over.ensures.takes c.in-Some-bond_over-2.ensures.takes c.in-Some-bond_over-3.ensures.takes c.in-Some-bond_over-4.ensures.takes c.in-Some-bond_over-5.ensures.takes;
+      joined = below_six (λ j. Joins c.args.bonds.now (k j) (x j) (x ((j + 1) % 6))) c.in-Some.ensures.joined
+          c.in-Some-bond_over.ensures.joined c.in-Some-bond_over-2.ensures.joined c.in-Some-bond_over-3.ensures.joined
+          c.in-Some-bond_over-4.ensures.joined c.in-Some-bond_over-5.ensures.joined;
+      labels = below_six (λ j. Takes c.args.bonds.now (set_of c.args.marks.now) (k j) (label c.args.label j))
+          c.in-Some.ensures.takes c.in-Some-bond_over.ensures.takes c.in-Some-bond_over-2.ensures.takes
+          c.in-Some-bond_over-3.ensures.takes c.in-Some-bond_over-4.ensures.takes c.in-Some-bond_over-5.ensures.takes;
     }) i below

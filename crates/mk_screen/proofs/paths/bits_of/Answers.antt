@@ -12,7 +12,9 @@ returns g c b below =
     let shown = g.D.Drawn.shown c.args.drawn.now in
     let all = bits_of_atoms shown (length shown.elements) ++ bits_of_bonds shown (length shown.bonds) in
     let zeros : List ℕ = 0 ∷ 0 ∷ 0 ∷ 0 ∷ 0 ∷ 0 ∷ 0 ∷ 0 ∷ [] in
-    let put : Adds all zeros c.put_bonds.new.bits = adds_join (bits_of_atoms shown (length shown.elements)) (bits_of_bonds shown (length shown.bonds)) zeros c.put_atoms.new.bits c.put_bonds.new.bits c.put_atoms.ensures.put c.put_bonds.ensures.put in
+    let put : Adds all zeros c.put_bonds.new.bits = adds_join (bits_of_atoms shown (length shown.elements))
+    (bits_of_bonds shown (length shown.bonds)) zeros c.put_atoms.new.bits c.put_bonds.new.bits
+    c.put_atoms.ensures.put c.put_bonds.ensures.put in
     let is : has_bit c.put_bonds.new.bits b ≡ list_any (λ d. eqb d b) all = set_nowhere all c.put_bonds.new.bits put b below in
     let bits = are_bits shown b in (
       (λ set. bits.0 (sym is ∙ set)),

@@ -7,5 +7,6 @@ use Rattle.mk_tests.proofs.counts.count_drawn_hydrogens.Goals as goal
 
 pub returns : goal.returns
 returns c =
-    c.count_passing.ensures (λ number. passes_at (λ bond. is_drawn_hydrogen c.args.graph.now.atoms (other_end c.args.x (graph_edge bond))) c.args.graph.now.bonds number) (λ number yes is. search rules)
+    c.count_passing.ensures (λ number. passes_at (λ bond. is_drawn_hydrogen c.args.graph.now.atoms
+    (other_end c.args.x (graph_edge bond))) c.args.graph.now.bonds number) (λ number yes is. search rules)
     ∙ rw c.bonds_at.ensures.numbers (count-numbers graph_edge (λ bond. is_drawn_hydrogen c.args.graph.now.atoms (other_end c.args.x (graph_edge bond))) c.args.graph.now.bonds c.args.x)

@@ -7,4 +7,6 @@ use Rattle.mk_tests.proofs.NumberLemmas.{fails-at}
 use Rattle.mk_tests.proofs.counts.leads_to_other.Goals as goal
 
 pub returns : goal.returns
-returns c = ap not c.leads_to_hydrogen.ensures ∙ sym (fails-at (λ bond. is_hydrogen c.args.mol.now.atoms (other_end c.args.m (edge_of bond))) c.args.mol.now.bonds c.args.number c.requires.least c.requires.most)
+returns c = ap not c.leads_to_hydrogen.ensures ∙ sym (fails-at
+    (λ bond. is_hydrogen c.args.mol.now.atoms (other_end c.args.m (edge_of bond))) c.args.mol.now.bonds c.args.number
+    c.requires.least c.requires.most)

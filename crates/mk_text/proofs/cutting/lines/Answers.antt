@@ -27,7 +27,9 @@ loop-i-preserved c =
             within = rw (w.spans-is, w.in_ok-push.ensures.items) (grind (arith, common_steps));
             apart = rw (w.spans-is, w.in_ok-push.ensures.items) (apart_more c.loop-i.spans.items s inv.apart inv.before);
             before = rw (w.spans-is, w.from-is, w.in_ok-push.ensures.items) (before_more c.loop-i.spans.items s (c.loop-i.i + 1) inv.before (omega arith) (omega arith));
-            begin = rw (w.spans-is, w.in_ok-push.ensures.items) (begin_more text c.loop-i.spans.items s inv.begin (starts_here text c.loop-i.spans.items c.loop-i.from inv.so_far (omega arith) inv.few));
+            begin = rw (w.spans-is, w.in_ok-push.ensures.items)
+                (begin_more text c.loop-i.spans.items s inv.begin
+                (starts_here text c.loop-i.spans.items c.loop-i.from inv.so_far (omega arith) inv.few));
             few = rw (w.spans-is, w.from-is, w.in_ok-push.ensures.items) (omega (arith, length_push c.loop-i.spans.items s, inv.few));
           }
       | else-byte-eq10 w ↦
@@ -56,7 +58,9 @@ returns-clause-lines c =
           let more = one_more text c.loop-i.spans.items s (lines_of (drop c.loop-i.from text)) [] (lines_of text) inv.so_far line in
           rw (w.spans-is, w.in_ok-push-2.ensures.items) (sym (append-nil (parts text (c.loop-i.spans.items ++ s ∷ []))) ∙ more)
       | else-from-text w ↦
-          rw w.spans-is (sym (append-nil (parts text c.loop-i.spans.items)) ∙ ap (λ (ts : List (List ℕ)). parts text c.loop-i.spans.items ++ ts) (sym (lines_none text c.loop-i.from (omega arith))) ∙ inv.so_far)
+          rw w.spans-is (sym (append-nil (parts text c.loop-i.spans.items))
+          ∙ ap (λ (ts : List (List ℕ)). parts text c.loop-i.spans.items ++ ts)
+          (sym (lines_none text c.loop-i.from (omega arith))) ∙ inv.so_far)
     ]
 
 pub returns-clause-apart : goal.returns-clause-apart
@@ -75,6 +79,8 @@ returns-clause-starts c =
     elim c.if-from-text.branch [
       | then-from-text+in_ok-push-2 w ↦
           let s : Span = record { from = c.loop-i.from; to = w.end_of_line-to-then-from-text.result } in
-          rw (w.spans-is, w.in_ok-push-2.ensures.items) (begin_more c.args.text.now c.loop-i.spans.items s inv.begin (starts_here c.args.text.now c.loop-i.spans.items c.loop-i.from inv.so_far (omega arith) inv.few))
+          rw (w.spans-is, w.in_ok-push-2.ensures.items)
+          (begin_more c.args.text.now c.loop-i.spans.items s inv.begin
+          (starts_here c.args.text.now c.loop-i.spans.items c.loop-i.from inv.so_far (omega arith) inv.few))
       | else-from-text w ↦ rw w.spans-is inv.begin
     ]

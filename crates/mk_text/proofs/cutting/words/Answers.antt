@@ -61,7 +61,9 @@ returns-clause-words c =
           let more = one_more line c.loop-i.spans.items s (words_of (drop c.loop-i.from line)) [] (words_of line) inv.so_far at in
           rw (w.spans-is, w.in_ok-push-2.ensures.items) (sym (append-nil (parts line (c.loop-i.spans.items ++ s ∷ []))) ∙ more)
       | else-from-line w ↦
-          rw w.spans-is (sym (append-nil (parts line c.loop-i.spans.items)) ∙ ap (λ (ts : List (List ℕ)). parts line c.loop-i.spans.items ++ ts) (sym (words_none line c.loop-i.from (omega arith))) ∙ inv.so_far)
+          rw w.spans-is (sym (append-nil (parts line c.loop-i.spans.items))
+          ∙ ap (λ (ts : List (List ℕ)). parts line c.loop-i.spans.items ++ ts)
+          (sym (words_none line c.loop-i.from (omega arith))) ∙ inv.so_far)
     ]
 
 pub returns-clause-apart : goal.returns-clause-apart

@@ -12,7 +12,13 @@ pub overflow_add-number : goal.overflow_add-number
 overflow_add-number c =
     let ds = c.args.digits.now in
     let all = c.if-not-are_digits.ensures in
-    omega (arith, value_more ds c.loop-digit.digit-index c.loop-digit.number (sym all) (omega arith) c.loop-digit.invariant, value_small ds (c.loop-digit.digit-index + 1) (sym all) (omega arith), c.from.ensures)
+    omega (
+      arith,
+      value_more ds c.loop-digit.digit-index c.loop-digit.number (sym all) (omega arith)
+          c.loop-digit.invariant,
+      value_small ds (c.loop-digit.digit-index + 1) (sym all) (omega arith),
+      c.from.ensures,
+    )
 
 pub loop-digit-preserved : goal.loop-digit-preserved
 loop-digit-preserved c =

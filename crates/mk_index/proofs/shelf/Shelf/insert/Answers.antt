@@ -23,7 +23,9 @@ invariant_of-self c =
     let row : Numbered Molecule = record { number = c.args.number; item = c.args.mol } in
     let new : holds c.args.number rows ≡ false = ap (λ m. holds c.args.number m.rows) c.self.view_is ∙ c.requires.new in
     record {
-      beside = rw (c.insert.ensures.rows, c.put_screen.ensures.screens, c.place-at.ensures.place) (beside_put row c.screen_of-screen.result c.screen_of-screen.ensures rows c.self.inside.screens.items c.self.invariant.beside new);
+      beside = rw (c.insert.ensures.rows, c.put_screen.ensures.screens, c.place-at.ensures.place)
+          (beside_put row c.screen_of-screen.result c.screen_of-screen.ensures rows c.self.inside.screens.items
+          c.self.invariant.beside new);
       bits = c.put_screen.ensures.columns;
     }
 
@@ -34,7 +36,18 @@ returns-clause-kept c =
     let size = beside_size rows screens c.self.invariant.beside in
     let within : c.place-at.result ≤ length screens = omega (arith, c.place-at.ensures.within, size) in
     let is : IsKept c.insert.new.self.rows c.put_screen.new.screens.items c.put_screen.new.columns.items = invariant_of-self c in
-    let more : length c.insert.new.self.rows ≡ length rows + 1 = omega (arith, beside_size c.insert.new.self.rows c.put_screen.new.screens.items is.beside, size, ap length c.put_screen.ensures.screens, length-insert screens c.place-at.result c.screen_of-screen.result within) in
-    subst (λ (n : ℕ). n ≤ spare_of c.insert.new.self.spare (vec_capacity c.put_screen.new.screens) (vec_capacity c.put_screen.new.columns) (length c.insert.new.self.rows) + 1) (ap (λ m. m.spare) c.self.view_is)
-    (spare_put c.self.inside.rows.spare c.insert.new.self.spare (vec_capacity c.self.inside.screens) (vec_capacity c.put_screen.new.screens) (vec_capacity c.self.inside.columns) (vec_capacity c.put_screen.new.columns) (length rows) (length c.insert.new.self.rows)
+    let more : length c.insert.new.self.rows ≡ length rows + 1 =
+    omega (
+      arith,
+      beside_size c.insert.new.self.rows c.put_screen.new.screens.items is.beside,
+      size,
+      ap length c.put_screen.ensures.screens,
+      length-insert screens c.place-at.result c.screen_of-screen.result
+          within,
+    ) in
+    subst (λ (n : ℕ). n ≤ spare_of c.insert.new.self.spare (vec_capacity c.put_screen.new.screens)
+    (vec_capacity c.put_screen.new.columns) (length c.insert.new.self.rows) + 1) (ap (λ m. m.spare) c.self.view_is)
+    (spare_put c.self.inside.rows.spare c.insert.new.self.spare (vec_capacity c.self.inside.screens)
+    (vec_capacity c.put_screen.new.screens) (vec_capacity c.self.inside.columns)
+    (vec_capacity c.put_screen.new.columns) (length rows) (length c.insert.new.self.rows)
     c.insert.ensures.kept c.put_screen.ensures.kept c.put_screen.ensures.columns_kept more)

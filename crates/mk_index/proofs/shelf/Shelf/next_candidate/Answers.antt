@@ -17,7 +17,8 @@ number_at-requires g c =
 pub returns-in-Some-clause-some : goal.returns-in-Some-clause-some
 returns-in-Some-clause-some g c =
     let rows = c.self.inside.rows.rows in
-    let first : IsFirstFrom c.self.inside.screens.items c.args.need.now (place_of c.args.from rows) c.in-Some.place = rw (c.as_slice.ensures.value, c.place-at.ensures.place) at c.in-Some.ensures.some in
+    let first : IsFirstFrom c.self.inside.screens.items c.args.need.now (place_of c.args.from rows) c.in-Some.place =
+    rw (c.as_slice.ensures.value, c.place-at.ensures.place) at c.in-Some.ensures.some in
     let is = next_found rows c.self.inside.screens.items c.args.need.now c.args.from c.place-at.ensures.rising c.self.invariant.beside c.in-Some.place first in
     subst (λ (m : Rows Molecule). IsNextCandidate m.rows c.args.need.now c.args.from c.number_at.result) c.self.view_is
     (subst (IsNextCandidate rows c.args.need.now c.args.from) (sym c.number_at.ensures.number) is)
@@ -25,23 +26,32 @@ returns-in-Some-clause-some g c =
 pub returns-in-Some-clause-looks : goal.returns-in-Some-clause-looks
 returns-in-Some-clause-looks g c =
     let rows = c.self.inside.rows.rows in
-    let first : IsFirstFrom c.self.inside.screens.items c.args.need.now (place_of c.args.from rows) c.in-Some.place = rw (c.as_slice.ensures.value, c.place-at.ensures.place) at c.in-Some.ensures.some in
-    let looks : LooksTo c.self.inside.screens.items c.args.need.now (place_of c.args.from rows) (c.in-Some.place + 1) c.args.looks.now c.next_place-found.new.looks = rw (c.as_slice.ensures.value, c.place-at.ensures.place) at c.in-Some.ensures.looks in
-    let is = looks_found rows c.self.inside.screens.items c.args.need.now c.args.from c.place-at.ensures.rising c.self.invariant.beside c.in-Some.place c.args.looks.now c.next_place-found.new.looks first looks c.in-Some.ensures.least in
+    let first : IsFirstFrom c.self.inside.screens.items c.args.need.now (place_of c.args.from rows) c.in-Some.place =
+    rw (c.as_slice.ensures.value, c.place-at.ensures.place) at c.in-Some.ensures.some in
+    let looks : LooksTo c.self.inside.screens.items c.args.need.now (place_of c.args.from rows) (c.in-Some.place + 1)
+    c.args.looks.now c.next_place-found.new.looks =
+    rw (c.as_slice.ensures.value, c.place-at.ensures.place) at c.in-Some.ensures.looks in
+    let is = looks_found rows c.self.inside.screens.items c.args.need.now c.args.from c.place-at.ensures.rising
+    c.self.invariant.beside c.in-Some.place c.args.looks.now c.next_place-found.new.looks first looks
+    c.in-Some.ensures.least in
     subst (λ (m : Rows Molecule). LooksFor m.rows c.args.need.now c.args.from (Some c.number_at.result) c.args.looks.now c.next_place-found.new.looks) c.self.view_is
     (subst (λ (n : ℕ). LooksFor rows c.args.need.now c.args.from (Some n) c.args.looks.now c.next_place-found.new.looks) (sym c.number_at.ensures.number) is)
 
 pub returns-in-None-clause-none : goal.returns-in-None-clause-none
 returns-in-None-clause-none g c =
     let rows = c.self.inside.rows.rows in
-    let none : NoneCovers c.self.inside.screens.items c.args.need.now (place_of c.args.from rows) (length c.self.inside.screens.items) = rw (c.as_slice.ensures.value, c.place-at.ensures.place) at c.in-None.ensures.none in
+    let none : NoneCovers c.self.inside.screens.items c.args.need.now (place_of c.args.from rows)
+    (length c.self.inside.screens.items) = rw (c.as_slice.ensures.value, c.place-at.ensures.place)
+    at c.in-None.ensures.none in
     subst (λ (m : Rows Molecule). NoCandidate m.rows c.args.need.now c.args.from) c.self.view_is
     (none_found rows c.self.inside.screens.items c.args.need.now c.args.from c.place-at.ensures.rising c.self.invariant.beside none)
 
 pub returns-in-None-clause-looks : goal.returns-in-None-clause-looks
 returns-in-None-clause-looks g c =
     let rows = c.self.inside.rows.rows in
-    let looks : LooksTo c.self.inside.screens.items c.args.need.now (place_of c.args.from rows) (length c.self.inside.screens.items) c.args.looks.now c.next_place-found.new.looks = rw (c.as_slice.ensures.value, c.place-at.ensures.place) at c.in-None.ensures.looks in
+    let looks : LooksTo c.self.inside.screens.items c.args.need.now (place_of c.args.from rows)
+    (length c.self.inside.screens.items) c.args.looks.now c.next_place-found.new.looks =
+    rw (c.as_slice.ensures.value, c.place-at.ensures.place) at c.in-None.ensures.looks in
     subst (λ (m : Rows Molecule). LooksFor m.rows c.args.need.now c.args.from None c.args.looks.now c.next_place-found.new.looks) c.self.view_is
     (looks_none rows c.self.inside.screens.items c.args.need.now c.args.from c.place-at.ensures.rising c.self.invariant.beside c.args.looks.now c.next_place-found.new.looks looks)
 

@@ -21,7 +21,14 @@ returns-then-not-holds-clause-rows c =
 
 pub take_screen-requires-clause-within : goal.take_screen-requires-clause-within
 take_screen-requires-clause-within c =
-    omega (arith, c.place-at.ensures.place, held_within c.args.number c.self.inside.rows.rows (sym c.holds.ensures ∙ c.if-not-holds.false), beside_size c.self.inside.rows.rows c.self.inside.screens.items c.self.invariant.beside)
+    omega (
+      arith,
+      c.place-at.ensures.place,
+      held_within c.args.number c.self.inside.rows.rows
+          (sym c.holds.ensures ∙ c.if-not-holds.false),
+      beside_size c.self.inside.rows.rows c.self.inside.screens.items
+          c.self.invariant.beside,
+    )
 
 pub invariant_of-self : goal.invariant_of-self
 invariant_of-self c = record {
@@ -37,13 +44,29 @@ returns-clause-freed c =
     let size = beside_size rows screens c.self.invariant.beside in
     let within : c.place-at.result < length screens = omega (arith, c.place-at.ensures.place, held_within c.args.number rows (sym c.holds.ensures ∙ c.if-not-holds.false), size) in
     let is : IsKept c.remove.new.self.rows c.take_screen.new.screens.items c.take_screen.new.columns.items = invariant_of-self c in
-    let less : length c.remove.new.self.rows + 1 ≡ length rows = omega (arith, beside_size c.remove.new.self.rows c.take_screen.new.screens.items is.beside, size, ap length c.take_screen.ensures.screens, length-remove screens c.place-at.result within) in
+    let less : length c.remove.new.self.rows + 1 ≡ length rows =
+    omega (
+      arith,
+      beside_size c.remove.new.self.rows c.take_screen.new.screens.items is.beside,
+      size,
+      ap length c.take_screen.ensures.screens,
+      length-remove screens c.place-at.result within,
+    ) in
     let in_screens : length rows ≤ vec_capacity c.self.inside.screens = omega (arith, size, c.self.inside.screens.ok.0, c.self.inside.screens.ok.1) in
-    let in_columns : length rows ≤ 64 * (vec_capacity c.self.inside.columns / 512) = omega (arith, size, room_within screens c.self.inside.columns.items (vec_capacity c.self.inside.columns) c.self.invariant.bits (omega (arith, c.self.inside.columns.ok.0, c.self.inside.columns.ok.1))) in
+    let in_columns : length rows ≤ 64 * (vec_capacity c.self.inside.columns / 512) =
+    omega (
+      arith,
+      size,
+      room_within screens c.self.inside.columns.items (vec_capacity c.self.inside.columns)
+          c.self.invariant.bits (omega (arith, c.self.inside.columns.ok.0, c.self.inside.columns.ok.1)),
+    ) in
     IfSome_then c.remove.result c.remove.ensures.freed
     (λ mol freed.
-    subst (λ (n : ℕ). n + 1 ≤ spare_of c.remove.new.self.spare (vec_capacity c.take_screen.new.screens) (vec_capacity c.take_screen.new.columns) (length c.remove.new.self.rows)) (ap (λ m. m.spare) c.self.view_is)
-    (spare_taken c.self.inside.rows.spare c.remove.new.self.spare (vec_capacity c.self.inside.screens) (vec_capacity c.take_screen.new.screens) (vec_capacity c.self.inside.columns) (vec_capacity c.take_screen.new.columns) (length rows) (length c.remove.new.self.rows)
+    subst (λ (n : ℕ). n + 1 ≤ spare_of c.remove.new.self.spare (vec_capacity c.take_screen.new.screens)
+    (vec_capacity c.take_screen.new.columns) (length c.remove.new.self.rows)) (ap (λ m. m.spare) c.self.view_is)
+    (spare_taken c.self.inside.rows.spare c.remove.new.self.spare (vec_capacity c.self.inside.screens)
+    (vec_capacity c.take_screen.new.screens) (vec_capacity c.self.inside.columns)
+    (vec_capacity c.take_screen.new.columns) (length rows) (length c.remove.new.self.rows)
     freed c.take_screen.ensures.kept c.take_screen.ensures.columns_kept less in_screens in_columns))
 
 pub returns-clause-kept : goal.returns-clause-kept

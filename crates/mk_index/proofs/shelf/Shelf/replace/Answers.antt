@@ -29,6 +29,15 @@ returns-clause-kept c =
     let rows = c.self.inside.rows.rows in
     let screens = c.self.inside.screens.items in
     let is : IsKept c.replace-former.new.self.rows c.change_screen.new.screens.items c.change_screen.new.columns.items = invariant_of-self c in
-    let same : length c.replace-former.new.self.rows ≡ length rows = omega (arith, beside_size c.replace-former.new.self.rows c.change_screen.new.screens.items is.beside, beside_size rows screens c.self.invariant.beside, ap length c.change_screen.ensures.screens, length-set screens c.place-at.result c.screen_of-screen.result) in
-    spare_same c.self.inside.rows.spare c.replace-former.new.self.spare (vec_capacity c.self.inside.screens) (vec_capacity c.change_screen.new.screens) (vec_capacity c.self.inside.columns) (vec_capacity c.change_screen.new.columns) (length rows) (length c.replace-former.new.self.rows)
+    let same : length c.replace-former.new.self.rows ≡ length rows =
+    omega (
+      arith,
+      beside_size c.replace-former.new.self.rows c.change_screen.new.screens.items is.beside,
+      beside_size rows screens c.self.invariant.beside,
+      ap length c.change_screen.ensures.screens,
+      length-set screens c.place-at.result c.screen_of-screen.result,
+    ) in
+    spare_same c.self.inside.rows.spare c.replace-former.new.self.spare (vec_capacity c.self.inside.screens)
+    (vec_capacity c.change_screen.new.screens) (vec_capacity c.self.inside.columns)
+    (vec_capacity c.change_screen.new.columns) (length rows) (length c.replace-former.new.self.rows)
     c.replace-former.ensures.kept c.change_screen.ensures.kept c.change_screen.ensures.columns_kept same ∙ ap (λ m. m.spare) c.self.view_is

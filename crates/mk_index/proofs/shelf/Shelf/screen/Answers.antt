@@ -10,7 +10,13 @@ use Rattle.mk_index.proofs.shelf.Shelf.screen.Goals as goal
 pub index-requires : goal.index-requires
 index-requires c =
     let held : holds c.args.number c.self.inside.rows.rows ≡ true = ap (λ m. holds c.args.number m.rows) c.self.view_is ∙ c.requires in
-    omega (arith, c.place.ensures.place, held_within c.args.number c.self.inside.rows.rows held, beside_size c.self.inside.rows.rows c.self.inside.screens.items c.self.invariant.beside, c.self.inside.screens.ok.0)
+    omega (
+      arith,
+      c.place.ensures.place,
+      held_within c.args.number c.self.inside.rows.rows held,
+      beside_size c.self.inside.rows.rows c.self.inside.screens.items c.self.invariant.beside,
+      c.self.inside.screens.ok.0,
+    )
 
 pub returns : goal.returns
 returns c =

@@ -13,4 +13,5 @@ returns-clause-place g c =
     subst (λ (xs : List (Numbered g.row.T.Denot)). c.partition_point.result ≡ place_of c.args.number xs) shown
     (place_found c.args.number c.deref.result.now c.partition_point.result c.partition_point.ensures.bound
     (IsPartitionPoint-from_clause (λ (row : Numbered g.row.T.Denot). nat_lt row.number c.args.number) c.deref.result.now c.partition_point.result c.partition_point.ensures.partitioned
-    (IsPartitionedBy-ltb (λ (row : Numbered g.row.T.Denot). row.number) c.deref.result.now c.args.number (rising_order c.deref.result.now (rw c.deref.ensures.value c.self.invariant))) (λ a r f' k. search rules)))
+    (IsPartitionedBy-ltb (λ (row : Numbered g.row.T.Denot). row.number) c.deref.result.now c.args.number
+    (rising_order c.deref.result.now (rw c.deref.ensures.value c.self.invariant))) (λ a r f' k. search rules)))

@@ -1,6 +1,6 @@
 use Rattle.std.proofs.Common.{◌<◌, ◌∙◌, ap, arith, length}
 use Rattle.mk_query.proofs.SlotMarkLemmas.{slot_noted, slots_all, slots_more}
-use Rattle.mk_query.proofs.template_slots.slots_of.Goals as goal
+use Rattle.mk_query.proofs.template_slots.table_slots.Goals as goal
 
 pub loop-i-preserved : goal.loop-i-preserved
 loop-i-preserved c =
