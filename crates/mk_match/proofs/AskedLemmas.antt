@@ -1,5 +1,5 @@
 -- Counts of a graph and of a molecule, taken atom by atom.
---     tallied_none, tallied_more     the atoms of each element, up to an atom
+--     tallied_none                   the atoms of each element, up to an atom
 --     asked_more                     what is asked for, with one element more
 --     none_held, few_held            where there are too few atoms, or too few of an element, there is no hit
 use Rattle.std.proofs.Common.{◌≡◌, ℕ, ◌+◌, ◌-◌, ◌<◌, ◌≤◌, ◌≢◌, inl, inr, true, false, List, [], ◌∷◌, ◌++◌, length, get_or, set, take, replicate, refl, sym, ap, subst, ◌∙◌, arith, All, Contains}
@@ -20,7 +20,7 @@ use Rattle.mk_match.specs.declared.asked.Counts.{Counts}
 use Rattle.mk_match.specs.declared.asked.ElementCount.{ElementCount}
 use Rattle.mk_match.specs.Asked.{AreAsked, AreThere, IsAsked}
 use Rattle.mk_match.specs.Counts.{HasNoHit, asks_for, is_of}
-use Rattle.mk_match.proofs.BondCountLemmas.{fits_in}
+use Rattle.mk_text.proofs.PickedLemmas.{fits_in}
 use Rattle.mk_match.proofs.CountLemmas.{enough}
 
 -- ---- the atoms of each element
@@ -32,24 +32,6 @@ pub record Tallied (atoms : List Atom) (elements : List ℕ) : Type 0 where
 
 pub tallied_none : Tallied [] (replicate 119 0)
 tallied_none = record { all = refl; each = λ z known. get_or-replicate 119 z 0 0 (omega arith) }
-
-pub tallied_more : (atoms : List Atom) (i : ℕ) (atom : Atom) (elements : List ℕ) → i < length atoms → get_or atoms i atom ≡ atom → atom.element ≤ 118 → Tallied (take i atoms) elements
-    → Tallied (take (i + 1) atoms) (set elements atom.element (get_or elements atom.element 0 + 1))
-tallied_more atoms i atom elements below is known tallied = record {
-  all = length-set elements atom.element (get_or elements atom.element 0 + 1) ∙ tallied.all;
-  each = λ z known'. elim (cases_eq z atom.element) [ inl same ↦ here z same | inr other ↦ there z known' other ];
-}
-  where
-    here : (z : ℕ) → z ≡ atom.element → get_or (set elements atom.element (get_or elements atom.element 0 + 1)) z 0 ≡ count_by (is_of z) (take (i + 1) atoms)
-    here z same =
-        let counts = count_by_more_yes (is_of atom.element) atoms i atom below (let at : is_of atom.element (get_or atoms i atom) ≡ true = rw is (grind (arith, nat_tests)) in at) in
-        rw same (get_or-set_same elements atom.element (get_or elements atom.element 0 + 1) 0
-        (omega (arith, tallied.all, known)) ∙ ap (λ (n : ℕ). n + 1) (tallied.each atom.element known) ∙ sym counts)
-
-    there : (z : ℕ) → z ≤ 118 → (z ≡ atom.element → ⊥) → get_or (set elements atom.element (get_or elements atom.element 0 + 1)) z 0 ≡ count_by (is_of z) (take (i + 1) atoms)
-    there z known' other =
-        let counts = count_by_more_no (is_of z) atoms i atom below (let at : is_of z (get_or atoms i atom) ≡ false = rw is (grind (arith, nat_tests)) in at) in
-        get_or-set_other elements atom.element z (get_or elements atom.element 0 + 1) 0 other ∙ tallied.each z known' ∙ sym counts
 
 -- ---- what is asked for
 

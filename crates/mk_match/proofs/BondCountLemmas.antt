@@ -1,5 +1,4 @@
 -- The bonds of an atom and those of its image: there are at least as many.
---     fits_in      distinct numbers that all stand in another list are no more than that has
 --     may_lie      an atom of the graph may lie on its image in a hit
 use Rattle.std.proofs.Common.{◌≡◌, ◌≢◌, ℕ, ◌+◌, ◌<◌, ◌≤◌, ◌-◌, inl, inr, true, false, cond, eqb, eq-eqb, List, [], ◌∷◌, length, get_or, map, refl, sym, subst, ◌∙◌, arith, All, AllPairs, Contains}
 use Rattle.std.specs.Cmp.{IsEquivalence}
@@ -9,6 +8,7 @@ use Rattle.std.proofs.lemmas.List.{get_or-map, length-map}
 use Rattle.std.proofs.lemmas.List.Kept.{AllPairs-cons}
 use Rattle.std.proofs.lemmas.Map.Made.{IsDistinct-from_AllPairs, length-le_from_is_member}
 use Rattle.std.proofs.lemmas.Bool.{cases_lt}
+use Rattle.mk_text.proofs.PickedLemmas.{fits_in}
 use Rattle.mk_model.specs.declared.edge.Edge.{Edge}
 use Rattle.mk_model.specs.declared.graph.GraphBond.{GraphBond}
 use Rattle.mk_model.specs.Edges.{HasEnds, IsBetween, Joins, numbers_at, numbers_from, touches}
@@ -21,28 +21,7 @@ use Rattle.mk_model.proofs.ForCallers.{IsNumberOf, at_place, numbers_at-each}
 use Rattle.mk_match.specs.Candidates.{AreBonded, end_numbered}
 use Rattle.mk_match.specs.Table.{MayLie}
 use Rattle.mk_match.proofs.CandidateLemmas.{bonded_end, ends_by}
-use Rattle.mk_match.proofs.ListTestLemmas.{all_cons, any_found, any_given}
-
--- ---- more or fewer
-
--- numbers that are equal are one
-nat_equivalence : IsEquivalence eqb
-nat_equivalence = record {
-  refl = λ x. eq-eqb x x refl;
-  symm = λ x y. grind (arith, nat_tests);
-  congr = λ x y z same. grind (arith, nat_tests);
-}
-
--- distinct numbers that all stand in another list are no more than that has
-pub fits_in : (xs ys : List ℕ) → AllPairs (λ a b. a ≢ b) xs → All (Contains ys) xs → length xs ≤ length ys
-fits_in xs ys distinct all = length-le_from_is_member nat_equivalence xs ys (IsDistinct-from_AllPairs Decides-eqb xs distinct) member
-  where
-    member : (q : ℕ) → is_member eqb xs q ≡ true → is_member eqb ys q ≡ true
-    member q is =
-        let found = any_found (eqb q) xs is in
-        let same : q ≡ found.x = (Decides-eqb q found.x).0 found.passes in
-        let here = subst (Contains ys) found.at.2 (all found.at.0 found.x found.at.1) in
-        any_given (eqb q) ys found.x here.0 here.1 here.2 found.passes
+use Rattle.mk_match.proofs.ListTestLemmas.{all_cons}
 
 -- ---- the numbers of an atom's bonds are distinct
 

@@ -7,6 +7,7 @@ use Rattle.std.proofs.lemmas.Bool.Decides.{nat_tests}
 use Rattle.std.proofs.lemmas.List.{get_or-map, length-map}
 use Rattle.std.proofs.lemmas.List.Kept.{AllPairs-cons}
 use Rattle.std.proofs.lemmas.List.Sums.{sum_by-cons}
+use Rattle.mk_text.proofs.PickedLemmas.{IsNumberWhere, distinct_where, each_where, fits_in, has_where, length-numbers_where, numbers_where}
 use Rattle.mk_model.specs.declared.atom_test.Kind.{Kind}
 use Rattle.mk_model.specs.declared.atom_test.Kind.TheVariants.{Element, OneOf, NoneOf, NotHydrogen, Hetero, Anything}
 use Rattle.mk_model.specs.declared.graph.GraphAtom.{GraphAtom}
@@ -17,80 +18,6 @@ use Rattle.mk_model.specs.Tests.{accepts}
 use Rattle.mk_model.specs.Hits.{image, IsHit}
 use Rattle.mk_model.proofs.ForCallers.{place_is, place_within}
 use Rattle.mk_match.specs.Counts.{asks_for, is_of, names}
-use Rattle.mk_match.proofs.BondCountLemmas.{fits_in}
-use Rattle.mk_match.proofs.ListTestLemmas.{all_cons}
-
--- ---- the numbers of the items that pass a test
-
-module _ {X : Type 0} (p : X → Bool) where
-  -- the numbers of those that pass, where the first item has the number k
-  abbrev numbers_where : ℕ → List X → List ℕ
-  numbers_where k [] = []
-  numbers_where k (x ∷ xs) =
-      let later = numbers_where (k + 1) xs in
-      cond (p x) (k ∷ later) later
-
-  length-numbers_where : (k : ℕ) (xs : List X) → length (numbers_where k xs) ≡ count_by p xs
-  length-numbers_where k [] = refl
-  length-numbers_where k (x ∷ xs) =
-      let later = length-numbers_where (k + 1) xs in
-      (elim (p x) as (λ b. length (cond b (k ∷ numbers_where (k + 1) xs) (numbers_where (k + 1) xs)) ≡ cond b 1 0 + count_by p xs) [
-        | true ↦ omega arith
-        | false ↦ omega arith
-      ]) ∙ sym (sum_by-cons (λ y. cond (p y) 1 0) x xs)
-
-  -- the number of an item that passes
-  record IsNumberWhere (k : ℕ) (xs : List X) (n : ℕ) : Type 0 where
-    least : k ≤ n
-    most : n < k + length xs
-    passes : (d : X) → p (get_or xs (n - k) d) ≡ true
-
-  one_more : (k n : ℕ) (x : X) (xs : List X) → IsNumberWhere (k + 1) xs n → IsNumberWhere k (x ∷ xs) n
-  one_more k n x xs is = record {
-    least = omega (arith, is.least);
-    most = omega (arith, is.most);
-    passes = λ d. (let place : n - k ≡ suc (n - (k + 1)) = omega (arith, is.least) in rw place (is.passes d));
-  }
-
-  each_by : (k : ℕ) (x : X) (xs : List X) (b : Bool) → p x ≡ b
-      → All (IsNumberWhere (k + 1) xs) (numbers_where (k + 1) xs)
-      → All (IsNumberWhere k (x ∷ xs)) (cond b (k ∷ numbers_where (k + 1) xs) (numbers_where (k + 1) xs))
-  each_by k x xs true is later =
-      all_cons (IsNumberWhere k (x ∷ xs)) k (numbers_where (k + 1) xs)
-      (record { least = omega arith; most = omega arith; passes = λ d. (let place : k - k ≡ 0 = omega arith in rw place is) })
-      (λ i d within. one_more k (get_or (numbers_where (k + 1) xs) i d) x xs (later i d within))
-  each_by k x xs false is later = λ i d within. one_more k (get_or (numbers_where (k + 1) xs) i d) x xs (later i d within)
-
-  each_where : (k : ℕ) (xs : List X) → All (IsNumberWhere k xs) (numbers_where k xs)
-  each_where k [] = λ i d within. absurd (omega arith)
-  each_where k (x ∷ xs) = each_by k x xs (p x) refl (each_where (k + 1) xs)
-
-  -- no number stands twice
-  distinct_by : (k : ℕ) (x : X) (xs : List X) (b : Bool) → AllPairs (λ m n. m ≢ n) (numbers_where (k + 1) xs)
-      → AllPairs (λ m n. m ≢ n) (cond b (k ∷ numbers_where (k + 1) xs) (numbers_where (k + 1) xs))
-  distinct_by k x xs true later =
-      AllPairs-cons (λ (m n : ℕ). m ≢ n) k (numbers_where (k + 1) xs) (λ i d within. (let is = each_where (k + 1) xs i d within in omega (arith, is.least))) later
-  distinct_by k x xs false later = later
-
-  distinct_where : (k : ℕ) (xs : List X) → AllPairs (λ m n. m ≢ n) (numbers_where k xs)
-  distinct_where k [] = λ i j d order within. absurd (omega arith)
-  distinct_where k (x ∷ xs) = distinct_by k x xs (p x) (distinct_where (k + 1) xs)
-
-  -- each item that passes has its number there
-  behind_by : (k n : ℕ) (x : X) (xs : List X) (b : Bool) → Contains (numbers_where (k + 1) xs) n → Contains (cond b (k ∷ numbers_where (k + 1) xs) (numbers_where (k + 1) xs)) n
-  behind_by k n x xs true has = (suc has.0, (let within = has.1 in omega arith), has.2)
-  behind_by k n x xs false has = has
-
-  first_by : (k : ℕ) (x : X) (xs : List X) (b : Bool) → p x ≡ b → p x ≡ true → Contains (cond b (k ∷ numbers_where (k + 1) xs) (numbers_where (k + 1) xs)) (k + 0)
-  first_by k x xs true is passes = (0, omega arith, omega arith)
-  first_by k x xs false is passes = absurd cc
-
-  has_where : (k : ℕ) (xs : List X) (b : ℕ) (d : X) → b < length xs → p (get_or xs b d) ≡ true → Contains (numbers_where k xs) (k + b)
-  has_where k [] b d below passes = absurd (omega arith)
-  has_where k (x ∷ xs) zero d below passes = first_by k x xs (p x) refl passes
-  has_where k (x ∷ xs) (suc b) d below passes =
-      let place : k + 1 + b ≡ k + suc b = omega arith in
-      behind_by k (k + suc b) x xs (p x) (subst (Contains (numbers_where (k + 1) xs)) place (has_where (k + 1) xs b d (omega arith) passes))
 
 -- ---- what asks for an element lies on one
 

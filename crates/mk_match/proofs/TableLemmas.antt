@@ -1,6 +1,5 @@
 -- The table of the atoms of a graph and those of a molecule.
 --     row_starts, row_goes_on, row_ends      a row that is put behind the others
---     no_rows                                the table before its first row
 use Rattle.std.proofs.Common.{◌≡◌, ℕ, ◌+◌, ◌*◌, ◌-◌, ◌<◌, ◌≤◌, ◌↔◌, inl, inr, Bool, false, IsTrue, List, [], ◌∷◌, ◌++◌, length, get_or, sym, subst, arith, length-append}
 use Rattle.std.proofs.Math.ListN.{get_or-append}
 use Rattle.std.proofs.Math.Nat.{mul-le-mul_right}
@@ -56,7 +55,3 @@ module _ (graph : GraphView) (mol : Molecule) (x : ℕ) where
           | inr last ↦ (let same : x ≡ y = omega arith in subst (λ (k : ℕ). IsTrue (get_or fits (cell mol k n) false) ↔ MayLie graph mol k n) same (row.row n from most))
         ];
   }
-
--- the table before its first row
-pub no_rows : (graph : GraphView) (mol : Molecule) → AreRows graph mol 0 []
-no_rows graph mol = record { size = omega arith; says = λ y n some up from most. absurd (omega arith) }

@@ -368,12 +368,6 @@ module _ (graph : GraphView) (mol : Molecule) (drawing : IsGraph graph) (molecul
         let same : take depth images ≡ front = seeking.begins ∙ take_all i front all in
         rw same (not_below_front front ((above + 1) ∷ []))
 
--- nothing of a front stands yet
-pub seek_starts : (graph : GraphView) (mol : Molecule) (front images levels : List ℕ) (depth above : ℕ)
-    → IsWalk graph mol images levels depth → depth ≡ 0 → above ≡ 0
-    → IsSeeking graph mol front 0 images levels depth above
-seek_starts graph mol front images levels depth above walk none first = record { walk = walk; at = none; first = first; begins = ap (λ (n : ℕ). take n images) none }
-
 -- ---- a graph without atoms
 
 -- no atom is a hit of a graph that has none

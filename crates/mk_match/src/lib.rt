@@ -23,8 +23,6 @@ mod order;
 mod outlook;
 mod search;
 mod table;
-#[cfg(test)]
-mod tests;
 mod walk;
 
 pub use asked::{Asked, Counts, ElementCount, cannot_hold, counts_asked, counts_there};

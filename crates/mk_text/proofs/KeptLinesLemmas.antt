@@ -218,7 +218,3 @@ pub kept_one_more : (lines : List (List ℕ)) (from i : ℕ) → from ≤ i → 
     → kept_lines (slice_range lines from (i + 1)) ≡ kept_lines (slice_range lines from i) ++ ended
     (without_crs (get_or lines i []))
 kept_one_more lines from i le lt = ap kept_lines (range_item_more lines from i [] le lt) ∙ kept-push (slice_range lines from i) (get_or lines i [])
-
--- and those of none
-pub kept_none : (lines : List (List ℕ)) (from : ℕ) → kept_lines (slice_range lines from from) ≡ []
-kept_none lines from = ap (λ (k : ℕ). kept_lines (take k (drop from lines))) (let k : from - from ≡ 0 = omega arith in k)

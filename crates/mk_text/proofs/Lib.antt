@@ -16,3 +16,4 @@ pub mod JoinedLemmas
 pub mod ChoiceLemmas
 pub mod ForCallers
 pub mod LineStartLemmas
+pub mod PickedLemmas

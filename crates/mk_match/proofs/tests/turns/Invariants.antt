@@ -1,4 +1,0 @@
-use Rattle.mk_match.proofs.tests.turns.Given as goal
-
-abbrev pub ghosts-turns_from : goal.ghosts-turns_from
-ghosts-turns_from g a = record { name = a.blank.name; parts = a.blank.parts }
