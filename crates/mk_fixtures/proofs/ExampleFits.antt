@@ -1,6 +1,6 @@
 -- The query of the example keeps what every query keeps: `[C R# R# | 1-2 1-3]` with the groups 1 and 2, `[F | ]` and `[Cl | ]`, of
 -- which group 1 may be filled once or not, and then asks that group 2 is filled.
-use Rattle.std.proofs.Common.{◌≡◌, ◌≢◌, ℕ, zero, suc, ◌-◌, ◌<◌, ◌≤◌, ◌⊎◌, inl, inr, true, List, [], ◌∷◌, length, replicate, Option, Some, None, refl, sym, ap, subst, ◌∙◌, arith, rules, All}
+use Rattle.std.proofs.Common.{◌≡◌, ◌≢◌, ℕ, zero, suc, ◌-◌, ◌<◌, ◌≤◌, ◌⊎◌, inl, inr, List, [], ◌∷◌, length, replicate, Option, Some, None, refl, sym, ap, subst, ◌∙◌, arith, rules, All}
 use Rattle.std.specs.Prelude.{◌==◌, AllPairs, Contains, slice_get, IsTrue, if◌then◌else◌}
 use Rattle.std.proofs.lemmas.Bool.Decides.{nat_tests}
 use Rattle.std.proofs.lemmas.List.Elements.{All-cons, All-nil}
@@ -12,7 +12,8 @@ use Rattle.mk_model.specs.Tests.{IsBondInRange, IsTestInRange}
 use Rattle.mk_model.specs.Templates.{TemplateView, joins, slot_atom}
 use Rattle.mk_model.specs.Queries.{members_of}
 use Rattle.mk_model.specs.Sizes.{IsSizing, size_by}
-use Rattle.mk_model.specs.QueryFits.{AreApart, AreNeighbours, FitsPoints, HasClosedBlocks, HasFittingPoints, HasFreePoints, HasPairsOnce, HasRisingSlots, HasSitesApart, IsAtomOf, HoldsItsBlock, IsInRange, IsSlotOf, NamesItsNeighbours, NamesNeighbours, QueryFits}
+use Rattle.mk_model.specs.Labels.{joint_members, site_labels}
+use Rattle.mk_model.specs.QueryFits.{AreApart, AreNeighbours, AreRisingLabels, FitsPoints, HasClosedBlocks, HasFittingPoints, HasFreePoints, HasPairsOnce, HasRisingLabels, HasRisingSlots, HasSitesApart, IsAtomOf, HoldsItsBlock, IsInRange, IsSlotOf, NamesItsNeighbours, NamesNeighbours, QueryFits}
 use Rattle.mk_model.proofs.ForCallers.{none_in_itself, ranked_by_size}
 use Rattle.mk_model.proofs.ForCallers.{NoPair, all_1, all_2, all_3, all_same, edge, once_by, pairs_none, pairs_one, pairs_two}
 use Rattle.mk_model.proofs.OnLiterals.{atom, bond, group, plain_group, range, single, site_atom, then_query, two_sites}
@@ -61,12 +62,9 @@ asked : (x y : ℕ) → IsBondInRange (bond x y).kind (bond x y).topology
 unfolding bond
 asked x y = record { kind = (omega arith, omega arith); topology = omega arith }
 
-site : (x g : ℕ) → 1 ≤ x → x ≤ 3 → 1 ≤ g → g ≤ 32 → IsSlotOf (two_sites 1 2) (Site x g 1 0)
+site : (x g : ℕ) → 1 ≤ x → x ≤ 3 → IsSlotOf (two_sites 1 2) (Site x (g ∷ []) 1 0)
 unfolding two_sites
-site x g a b c d = ((a, b), λ h bears. one h bears)
-  where
-    one : (h : ℕ) → (g == h) ≡ true → (1 ≤ h) × (h ≤ 32)
-    one h test = (let same : h ≡ g = grind (arith, nat_tests) in (omega (arith, same, c), omega (arith, same, d)))
+site x g a b = (a, b)
 
 root_range : IsInRange (two_sites 1 2)
 unfolding two_sites
@@ -75,9 +73,8 @@ root_range = record {
   bond_tests = all_2 (λ (b : QueryBond). IsBondInRange b.kind b.topology) (bond 1 2) (bond 1 3) (asked 1 2) (asked 1 3);
   ends = all_2 (λ (b : QueryBond). IsAtomOf (two_sites 1 2) b.first × IsAtomOf (two_sites 1 2) b.second) (bond 1 2)
       (bond 1 3) (ends 2 (omega arith) (omega arith)) (ends 3 (omega arith) (omega arith));
-  slots = all_2 (IsSlotOf (two_sites 1 2)) (Site 2 1 1 0) (Site 3 2 1 0)
-      (site 2 1 (omega arith) (omega arith) (omega arith) (omega arith))
-      (site 3 2 (omega arith) (omega arith) (omega arith) (omega arith));
+  slots = all_2 (IsSlotOf (two_sites 1 2)) (Site 2 (1 ∷ []) 1 0) (Site 3 (2 ∷ []) 1 0)
+      (site 2 1 (omega arith) (omega arith)) (site 3 2 (omega arith) (omega arith));
   points = All-nil (IsAtomOf (two_sites 1 2));
   few_points = omega arith;
 }
@@ -105,7 +102,7 @@ joined x y b high (suc (suc k), below, is) test = absurd (omega (arith, below))
 root_neighbours : NamesNeighbours (two_sites 1 2)
 unfolding two_sites bond
 root_neighbours =
-    all_2 (NamesItsNeighbours (two_sites 1 2)) (Site 2 1 1 0) (Site 3 2 1 0)
+    all_2 (NamesItsNeighbours (two_sites 1 2)) (Site 2 (1 ∷ []) 1 0) (Site 3 (2 ∷ []) 1 0)
     (record { some = λ e. omega (arith, e); differ = λ e. omega (arith, e); neighbours = λ y. (λ found. inl (joined 2 y found.0 (omega arith) found.1 found.2), λ named. first y 0 named refl) })
     (record { some = λ e. omega (arith, e); differ = λ e. omega (arith, e); neighbours = λ y. (λ found. inl (joined 3 y found.0 (omega arith) found.1 found.2), λ named. second y 0 named refl) })
   where
@@ -122,7 +119,7 @@ unfolding two_sites
 root_points slot at point = (let below = point.1 in omega arith)
 
 -- a slot is one of the two
-which : (slot : Slot) → Contains (Site 2 1 1 0 ∷ Site 3 2 1 0 ∷ []) slot → (x : ℕ) × (g : ℕ) × (2 ≤ x) × (Site x g 1 0 ≡ slot)
+which : (slot : Slot) → Contains (Site 2 (1 ∷ []) 1 0 ∷ Site 3 (2 ∷ []) 1 0 ∷ []) slot → (x : ℕ) × (g : ℕ) × (2 ≤ x) × (Site x (g ∷ []) 1 0 ≡ slot)
 which slot (zero, below, is) = (2, 1, omega arith, is)
 which slot (suc zero, below, is) = (3, 2, omega arith, is)
 which slot (suc (suc k), below, is) = absurd (omega (arith, below))
@@ -132,16 +129,26 @@ unfolding two_sites bond
 root_apart slot other at at' =
     let one = which slot at in
     let two = which other at' in
-    subst (λ (s : Slot). AreApart (two_sites 1 2) s other) one.3 (subst (λ (s : Slot). AreApart (two_sites 1 2) (Site one.0 one.1 1 0) s) two.3
+    subst (λ (s : Slot). AreApart (two_sites 1 2) s other) one.3 (subst (λ (s : Slot). AreApart (two_sites 1 2) (Site one.0 (one.1 ∷ []) 1 0) s) two.3
     (λ found. (let same = joined one.0 two.0 found.0 one.2 found.1 found.2 in omega (arith, same, two.2))))
 
 root_blocks : HasClosedBlocks (two_sites 1 2)
 unfolding two_sites
-root_blocks = all_2 (HoldsItsBlock (two_sites 1 2)) (Site 2 1 1 0) (Site 3 2 1 0) tt tt
+root_blocks = all_2 (HoldsItsBlock (two_sites 1 2)) (Site 2 (1 ∷ []) 1 0) (Site 3 (2 ∷ []) 1 0) tt tt
 
 root_rises : HasRisingSlots (two_sites 1 2)
 unfolding two_sites
-root_rises = pairs_two (λ slot later. slot_atom slot < slot_atom later) (Site 2 1 1 0) (Site 3 2 1 0) (omega arith)
+root_rises = pairs_two (λ slot later. slot_atom slot < slot_atom later) (Site 2 (1 ∷ []) 1 0) (Site 3 (2 ∷ []) 1 0) (omega arith)
+
+-- a site of one label
+one_label : (x g : ℕ) → 1 ≤ g → g ≤ 32 → AreRisingLabels (site_labels (Site x (g ∷ []) 1 0))
+one_label x g least most = record { rise = pairs_one (λ h later. h < later) g; in_range = all_1 (λ h. (1 ≤ h) × (h ≤ 32)) g (least, most) }
+
+root_labels : HasRisingLabels (two_sites 1 2)
+unfolding two_sites
+root_labels =
+    all_2 (λ slot. AreRisingLabels (site_labels slot)) (Site 2 (1 ∷ []) 1 0) (Site 3 (2 ∷ []) 1 0)
+    (one_label 2 1 (omega arith) (omega arith)) (one_label 3 2 (omega arith) (omega arith))
 
 -- ---- groups
 
@@ -184,7 +191,7 @@ sizes : ℕ → ℕ
 sizes t = if t == 0 then 5 else 1
 
 adds_up : IsSizing then_query sizes
-unfolding then_query two_sites single plain_group group range sizes
+unfolding then_query two_sites single plain_group group range sizes joint_members
 adds_up zero template at = (let same : two_sites 1 2 ≡ template = cc in subst (λ (p : TemplateView). 5 ≡ size_by then_query sizes p) same refl)
 adds_up (suc zero) template at = (let same : single 9 ≡ template = cc in subst (λ (p : TemplateView). sizes 1 ≡ size_by then_query sizes p) same refl)
 adds_up (suc (suc zero)) template at = (let same : single 17 ≡ template = cc in subst (λ (p : TemplateView). sizes 2 ≡ size_by then_query sizes p) same refl)
@@ -205,10 +212,10 @@ one_point (suc (suc zero)) template least stands = (let is : single 17 ≡ templ
 one_point (suc (suc (suc u))) template least stands = absurd cc
 
 points_fit : HasFittingPoints then_query
-unfolding then_query two_sites single plain_group group
+unfolding then_query two_sites single plain_group group joint_members
 points_fit =
     all_3 (λ (template : TemplateView). All (FitsPoints then_query) template.slots) (two_sites 1 2) (single 9) (single 17)
-    (all_2 (FitsPoints then_query) (Site 2 1 1 0) (Site 3 2 1 0)
+    (all_2 (FitsPoints then_query) (Site 2 (1 ∷ []) 1 0) (Site 3 (2 ∷ []) 1 0)
     (λ u template at stands. one_point u template (omega (arith, one_of 1 u at)) stands) (λ u template at stands. one_point u template (omega (arith, one_of 2 u at)) stands))
     (All-nil (FitsPoints then_query)) (All-nil (FitsPoints then_query))
 
@@ -260,6 +267,8 @@ fits = record {
         (all_same (λ (one : Group). AllPairs (λ u later. u < later) one.members) (plain_group []) 30 (pairs_none (λ u later. u < later))));
     one_group = λ g h u least least' at at'. in_group g u least at ∙ sym (in_group h u least' at');
   };
+  labels_rise = all_3 HasRisingLabels (two_sites 1 2) (single 9) (single 17) root_labels
+      (no_slots 9 (λ slot. AreRisingLabels (site_labels slot))) (no_slots 17 (λ slot. AreRisingLabels (site_labels slot)));
 }
 
 -- lists that are those of the query

@@ -11,14 +11,15 @@
 mod building;
 mod checks;
 mod files;
+mod links;
 mod queries;
 mod sketches;
-#[cfg(test)]
-mod tests;
 mod words;
 
 pub use building::{graph_of, mol_of};
+pub use checks::is_graph;
 pub use files::{molfile_of_sketch, put_block, rgfile_of_sketches, table_of_sketch};
+pub use links::query_of_link_and_site;
 pub use queries::query_of_two_sites;
 pub use sketches::{
     asked_atoms, asked_bonds, bonds_of_sketch, elements_of, graph_of_sketch, mol_of_sketch,

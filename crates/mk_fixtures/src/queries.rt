@@ -31,12 +31,12 @@ fn root(alloc: Global) -> Result<Template, Memory>
         AtomTest::of_kind(Kind::Anything),
     ]?;
     let bonds = vec![in alloc; bond(1, 2), bond(1, 3)]?;
-    let slots = vec![in alloc; site(2, 1), site(3, 2)]?;
+    let slots = vec![in alloc; site(alloc, 2, 1)?, site(alloc, 3, 2)?]?;
     Ok(Template::of(atoms, bonds, slots, Numbers::new(alloc)))
 }
 
 #[tactic(auto, unfolding(mk_model::proofs::OnLiterals::single, mk_model::proofs::OnLiterals::atom))]
-fn single(alloc: Global, z: u8) -> Result<Template, Memory>
+pub fn single(alloc: Global, z: u8) -> Result<Template, Memory>
     ensures { IfOk result (λ template. template ≡ single z) }
 {
     let atoms = vec![in alloc; AtomTest::of_kind(Kind::Element(z))]?;
@@ -45,7 +45,7 @@ fn single(alloc: Global, z: u8) -> Result<Template, Memory>
     Ok(Template::of(atoms, Vec::new(alloc), Vec::new(alloc), points))
 }
 
-fn bond(first: u32, second: u32) -> QueryBond
+pub fn bond(first: u32, second: u32) -> QueryBond
     ensures { result ≡ record { first = first; second = second; kind = 1; topology = 0 } }
 {
     QueryBond {
@@ -56,15 +56,17 @@ fn bond(first: u32, second: u32) -> QueryBond
     }
 }
 
-fn site(atom: u32, group: u8) -> Slot
-    ensures { result ≡ Site atom group 1 0 }
+fn site(alloc: Global, atom: u32, group: u32) -> Result<Slot, Memory>
+    ensures { IfOk result (λ slot. slot ≡ Site atom (group ∷ []) 1 0) }
 {
-    Slot::Site {
+    let mut groups = Numbers::new(alloc);
+    groups.push(group)?;
+    Ok(Slot::Site {
         atom,
-        group,
+        groups,
         first: 1,
         second: 0,
-    }
+    })
 }
 
 // A group of one member, which is filled at most once, and at least so often.
@@ -85,7 +87,7 @@ fn group(alloc: Global, member: u32, then_group: u8, least: u32) -> Result<Group
 }
 
 #[tactic(auto, unfolding(mk_model::proofs::OnLiterals::group, mk_model::proofs::OnLiterals::plain_group, mk_model::proofs::OnLiterals::range))]
-fn plain_group(alloc: Global) -> Result<Group, Memory>
+pub fn plain_group(alloc: Global) -> Result<Group, Memory>
     ensures { IfOk result (λ one. one ≡ plain_group []) }
 {
     let mut range = Range::new(alloc);

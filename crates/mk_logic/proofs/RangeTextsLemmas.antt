@@ -71,9 +71,6 @@ not_passed : (b : Bool) → not b ≡ true → b ≡ false
 not_passed true h = absurd cc
 not_passed false h = refl
 
-lacks_at : (c : ℕ) (text : List ℕ) (k : ℕ) → Lacks c text → k < length text → eqb (get_or text k 0) c ≡ false
-lacks_at c text k lacks within = not_passed _ (list_all_at (λ b. not (eqb b c)) text k lacks within)
-
 lacks_each : (c : ℕ) (text : List ℕ) → Lacks c text → All (λ b. eqb b c ≡ false) text
 lacks_each c [] lacks = λ k d below. absurd (omega arith)
 lacks_each c (b ∷ bs) lacks = (let each = both (not (eqb b c)) _ lacks in λ k d below. by_place k d below each.0 (lacks_each c bs each.1))
@@ -114,22 +111,6 @@ numeral_given text n is =
     let last = digit_no_space (get_or digits (length digits - 1) 0) (list_all_at is_ascii_digit digits (length digits - 1) is.are_digits (omega arith)) in
     let core : trimmed text ≡ digits = ap trimmed is.whole ∙ trimmed_between is.before digits is.after is.blank_before is.blank_after some first last in
     ap range_number core ∙ rw (le-leb 1 (length digits) is.some_digits, le-leb (length digits) 3 is.few_digits, is.are_digits) (ap Some (sym is.value))
-
--- a number with further blanks behind it
-numeral_padded : (text after : List ℕ) (n : ℕ) → are_blank after ≡ true → IsNumeral text n → IsNumeral (text ++ after) n
-numeral_padded text after n blank is =
-    record {
-      before = is.before;
-      digits = is.digits;
-      after = is.after ++ after;
-      whole = ap (λ (t : List ℕ). t ++ after) is.whole ∙ append_assoc is.before (is.digits ++ is.after) after ∙ ap (λ (t : List ℕ). is.before ++ t) (append_assoc is.digits is.after after);
-      blank_before = is.blank_before;
-      blank_after = joined is_space is.after after is.blank_after blank;
-      some_digits = is.some_digits;
-      few_digits = is.few_digits;
-      are_digits = is.are_digits;
-      value = is.value;
-    }
 
 -- ---- the first byte that is no blank
 

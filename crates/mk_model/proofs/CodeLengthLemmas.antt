@@ -16,12 +16,12 @@ use Rattle.mk_model.specs.OpenSlots.{opened, Chooses}
 -- the most numbers that a code has for a slot
 abbrev pub most_numbers : QueryView → (ℕ → ℕ) → Slot → ℕ
 most_numbers query size (Link atom most from to) = 1
-most_numbers query size (Site atom group first second) = 1 + greatest size (members_at query (Site atom group first second))
+most_numbers query size (Site atom groups first second) = 1 + greatest size (members_at query (Site atom groups first second))
 
 -- a slot's size is no less
 slot_size : (query : QueryView) (size : ℕ → ℕ) (template : TemplateView) (slot : Slot) → most_numbers query size slot ≤ size_of_slot query size template slot
 slot_size query size template (Link atom most from to) = omega arith
-slot_size query size template (Site atom group first second) = omega arith
+slot_size query size template (Site atom groups first second) = omega arith
 
 -- and so it is for several slots
 slot_sizes : (query : QueryView) (size : ℕ → ℕ) (template : TemplateView) (slots : List Slot) → sum_by (most_numbers query size) slots ≤ sum_by (size_of_slot query size template) slots
@@ -46,13 +46,13 @@ greatest_has size (t ∷ ts) (suc i) below = omega (arith, greatest_has size ts 
 -- what a number opens has fewer numbers than its slot
 opened_size : (query : QueryView) (size : ℕ → ℕ) → IsSizing query size → (slot : Slot) (k : ℕ) → 1 ≤ k → sum_by (most_numbers query size) (opened query slot k) < most_numbers query size slot
 opened_size query size adds (Link atom most from to) k least = omega arith
-opened_size query size adds (Site atom group first second) k least = by_member _ refl
+opened_size query size adds (Site atom groups first second) k least = by_member _ refl
   where
-    by_member : (b : Bool) → is_filled_by query (Site atom group first second) k ≡ b
-        → sum_by (most_numbers query size) (cond b (slots_of query (member query (Site atom group first second) k)) []) < 1 + greatest size (members_at query (Site atom group first second))
+    by_member : (b : Bool) → is_filled_by query (Site atom groups first second) k ≡ b
+        → sum_by (most_numbers query size) (cond b (slots_of query (member query (Site atom groups first second) k)) []) < 1 + greatest size (members_at query (Site atom groups first second))
     by_member true fills =
-        let below : k - 1 < length (members_at query (Site atom group first second)) = grind (arith, nat_tests) in
-        omega (arith, template_size query size adds (member query (Site atom group first second) k), greatest_has size (members_at query (Site atom group first second)) (k - 1) below)
+        let below : k - 1 < length (members_at query (Site atom groups first second)) = grind (arith, nat_tests) in
+        omega (arith, template_size query size adds (member query (Site atom groups first second) k), greatest_has size (members_at query (Site atom groups first second)) (k - 1) below)
     by_member false fills = omega arith
 
 -- a code at some slots has at most as many numbers as the sizes allow

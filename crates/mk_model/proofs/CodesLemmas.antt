@@ -42,29 +42,29 @@ one_choice query (Link atom most from to ∷ slots) (repeated n more) (repeated 
     let number = heads n n' _ _ same in
     let choices = behind.choices in
     record { choices = cc; rests = behind.rests }
-one_choice query (Site atom group first second ∷ slots) done other rest others is is' same = absurd is
-one_choice query (Site atom group first second ∷ slots) (repeated n more) other rest others is is' same = absurd is
-one_choice query (Site atom group first second ∷ slots) (unfilled n more) done rest others is is' same = absurd is'
-one_choice query (Site atom group first second ∷ slots) (unfilled n more) (repeated n' more') rest others is is' same = absurd is'
-one_choice query (Site atom group first second ∷ slots) (unfilled n more) (unfilled n' more') rest others is is' same =
+one_choice query (Site atom groups first second ∷ slots) done other rest others is is' same = absurd is
+one_choice query (Site atom groups first second ∷ slots) (repeated n more) other rest others is is' same = absurd is
+one_choice query (Site atom groups first second ∷ slots) (unfilled n more) done rest others is is' same = absurd is'
+one_choice query (Site atom groups first second ∷ slots) (unfilled n more) (repeated n' more') rest others is is' same = absurd is'
+one_choice query (Site atom groups first second ∷ slots) (unfilled n more) (unfilled n' more') rest others is is' same =
     let behind = one_choice query slots more more' rest others is.1 is'.1 (tails n n' _ _ same) in
     let number = heads n n' _ _ same in
     let choices = behind.choices in
     record { choices = cc; rests = behind.rests }
-one_choice query (Site atom group first second ∷ slots) (unfilled n more) (filled k inside more') rest others is is' same =
+one_choice query (Site atom groups first second ∷ slots) (unfilled n more) (filled k inside more') rest others is is' same =
     absurd (omega (arith, heads n k _ _ same, is.0, is'.1))
-one_choice query (Site atom group first second ∷ slots) (filled k inside more) done rest others is is' same = absurd is'
-one_choice query (Site atom group first second ∷ slots) (filled k inside more) (repeated n' more') rest others is is' same = absurd is'
-one_choice query (Site atom group first second ∷ slots) (filled k inside more) (unfilled n' more') rest others is is' same =
+one_choice query (Site atom groups first second ∷ slots) (filled k inside more) done rest others is is' same = absurd is'
+one_choice query (Site atom groups first second ∷ slots) (filled k inside more) (repeated n' more') rest others is is' same = absurd is'
+one_choice query (Site atom groups first second ∷ slots) (filled k inside more) (unfilled n' more') rest others is is' same =
     absurd (omega (arith, heads k n' _ _ same, is.1, is'.0))
-one_choice query (Site atom group first second ∷ slots) (filled k inside more) (filled k' inside' more') rest others is is' same =
+one_choice query (Site atom groups first second ∷ slots) (filled k inside more) (filled k' inside' more') rest others is is' same =
     let number = heads k k' _ _ same in
-    let made : IsChoice query (slots_of query (member query (Site atom group first second) k)) inside' =
-    subst (λ (n : ℕ). IsChoice query (slots_of query (member query (Site atom group first second) n)) inside')
+    let made : IsChoice query (slots_of query (member query (Site atom groups first second) k)) inside' =
+    subst (λ (n : ℕ). IsChoice query (slots_of query (member query (Site atom groups first second) n)) inside')
     (sym number) is'.2 in
     let both : spelling inside ++ (spelling more ++ rest) ≡ spelling inside' ++ (spelling more' ++ others) =
     sym (append_assoc (spelling inside) (spelling more) rest) ∙ tails k k' _ _ same ∙ append_assoc (spelling inside') (spelling more') others in
-    let first = one_choice query (slots_of query (member query (Site atom group first second) k)) inside inside' (spelling more ++ rest) (spelling more' ++ others) is.2 made both in
+    let first = one_choice query (slots_of query (member query (Site atom groups first second) k)) inside inside' (spelling more ++ rest) (spelling more' ++ others) is.2 made both in
     let behind = one_choice query slots more more' rest others is.3 is'.3 first.rests in
     let choices = behind.choices in
     let insides = first.choices in

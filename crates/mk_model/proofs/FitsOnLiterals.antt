@@ -1,5 +1,6 @@
--- A query that keeps what every query keeps: `[C C C R# | 1-2 2-3 3-4]` with `M  LIN  1   2   3   1   3`, group 1 and `[F | ]`.
-use Rattle.std.proofs.Common.{◌≡◌, ◌≢◌, ℕ, zero, suc, ◌-◌, ◌<◌, ◌≤◌, ◌⊎◌, inl, inr, true, List, [], ◌∷◌, length, replicate, Option, Some, None, refl, sym, ap, subst, ◌∙◌, arith, rules, All}
+-- A query that keeps what every query keeps: `[C C C R# | 1-2 2-3 3-4]` with `M  LIN  1   2   3   1   3` and the labels 1 and 2 at
+-- atom 4; group 1 with `[F | ]` and `[Br | ]`, group 2 with `[Cl | ]`, which stands between them.
+use Rattle.std.proofs.Common.{◌≡◌, ◌≢◌, ℕ, zero, suc, ◌-◌, ◌<◌, ◌≤◌, ◌⊎◌, inl, inr, List, [], ◌∷◌, length, replicate, Option, Some, None, refl, sym, ap, subst, ◌∙◌, arith, rules, All}
 use Rattle.std.specs.Prelude.{◌==◌, AllPairs, Contains, slice_get, IsTrue, if◌then◌else◌}
 use Rattle.std.proofs.lemmas.Bool.Decides.{nat_tests}
 use Rattle.std.proofs.lemmas.List.Elements.{All-cons, All-nil}
@@ -12,8 +13,9 @@ use Rattle.mk_model.specs.Tests.{IsBondInRange, IsTestInRange}
 use Rattle.mk_model.specs.Templates.{TemplateView, hang_together, joins, slot_atom}
 use Rattle.mk_model.specs.Queries.{QueryView, members_of}
 use Rattle.mk_model.specs.Sizes.{IsSizing, size_by}
-use Rattle.mk_model.specs.QueryFits.{AreApart, AreNeighbours, FitsPoints, HasClosedBlocks, HasFittingPoints, HasFreePoints, HasPairsOnce, HasRisingSlots, HasSitesApart, IsAtomOf, HoldsItsBlock, IsInRange, IsSlotOf, NamesItsNeighbours, NamesNeighbours, QueryFits}
-use Rattle.mk_model.proofs.FewLemmas.{NoPair, all_1, all_2, all_3, all_4, all_same, edge, once_by, pairs_none, pairs_one}
+use Rattle.mk_model.specs.Labels.{joint_members, site_labels, members_at}
+use Rattle.mk_model.specs.QueryFits.{AreApart, AreNeighbours, AreRisingLabels, FitsPoints, HasClosedBlocks, HasFittingPoints, HasFreePoints, HasPairsOnce, HasRisingLabels, HasRisingSlots, HasSitesApart, IsAtomOf, HoldsItsBlock, IsInRange, IsSlotOf, NamesItsNeighbours, NamesNeighbours, QueryFits}
+use Rattle.mk_model.proofs.FewLemmas.{NoPair, all_1, all_2, all_3, all_4, all_same, edge, once_by, pairs_none, pairs_one, pairs_two}
 use Rattle.mk_model.proofs.SizesLemmas.{none_in_itself, ranked_by_size}
 use Rattle.mk_model.proofs.OnLiterals.{atom, bond, group, plain_group, range, single, site_atom}
 
@@ -21,12 +23,15 @@ unfoldable pub root : TemplateView
 root = record {
   atoms = atom 6 ∷ atom 6 ∷ atom 6 ∷ site_atom ∷ [];
   bonds = bond 1 2 ∷ bond 2 3 ∷ bond 3 4 ∷ [];
-  slots = Link 2 3 1 3 ∷ Site 4 1 3 0 ∷ [];
+  slots = Link 2 3 1 3 ∷ Site 4 (1 ∷ 2 ∷ []) 3 0 ∷ [];
   points = [];
 }
 
 unfoldable pub query : QueryView
-query = record { templates = root ∷ single 9 ∷ []; groups = plain_group (1 ∷ []) ∷ replicate 31 (plain_group []) }
+query = record {
+  templates = root ∷ single 9 ∷ single 17 ∷ single 35 ∷ [];
+  groups = plain_group (1 ∷ 3 ∷ []) ∷ plain_group (2 ∷ []) ∷ replicate 30 (plain_group []);
+}
 
 -- ---- no pair twice
 
@@ -48,9 +53,9 @@ root_pairs = record {
   once = once_by (edge 1 2 ∷ edge 2 3 ∷ edge 3 4 ∷ []) edges_apart;
 }
 
-single_pairs : HasPairsOnce (single 9)
+single_pairs : (z : ℕ) → HasPairsOnce (single z)
 unfolding single
-single_pairs = record { differ = All-nil (λ b. b.first ≢ b.second); once = once_by [] (pairs_none NoPair) }
+single_pairs z = record { differ = All-nil (λ b. b.first ≢ b.second); once = once_by [] (pairs_none NoPair) }
 
 -- ---- in range
 
@@ -90,12 +95,9 @@ link = (
   },
 )
 
-site : IsSlotOf root (Site 4 1 3 0)
+site : IsSlotOf root (Site 4 (1 ∷ 2 ∷ []) 3 0)
 unfolding root
-site = ((omega arith, omega arith), λ g bears. one g bears)
-  where
-    one : (g : ℕ) → (1 == g) ≡ true → (1 ≤ g) × (g ≤ 32)
-    one g test = (let same : g ≡ 1 = grind (arith, nat_tests) in (omega (arith, same), omega (arith, same)))
+site = (omega arith, omega arith)
 
 root_range : IsInRange root
 unfolding root
@@ -106,26 +108,26 @@ root_range = record {
       (ends 1 2 (omega arith) (omega arith) (omega arith) (omega arith))
       (ends 2 3 (omega arith) (omega arith) (omega arith) (omega arith))
       (ends 3 4 (omega arith) (omega arith) (omega arith) (omega arith));
-  slots = all_2 (IsSlotOf root) (Link 2 3 1 3) (Site 4 1 3 0) link site;
+  slots = all_2 (IsSlotOf root) (Link 2 3 1 3) (Site 4 (1 ∷ 2 ∷ []) 3 0) link site;
   points = All-nil (IsAtomOf root);
   few_points = omega arith;
 }
 
-single_range : IsInRange (single 9)
+single_range : (z : ℕ) → 1 ≤ z → z ≤ 118 → IsInRange (single z)
 unfolding single
-single_range = record {
-  tests = All-cons IsTestInRange (atom 9) [] (carbon 9 (omega arith) (omega arith)) (All-nil IsTestInRange);
+single_range z least most = record {
+  tests = all_1 IsTestInRange (atom z) (carbon z least most);
   bond_tests = All-nil (λ b. IsBondInRange b.kind b.topology);
-  ends = All-nil (λ b. IsAtomOf (single 9) b.first × IsAtomOf (single 9) b.second);
-  slots = All-nil (IsSlotOf (single 9));
-  points = All-cons (IsAtomOf (single 9)) 1 [] (omega arith, omega arith) (All-nil (IsAtomOf (single 9)));
+  ends = All-nil (λ b. IsAtomOf (single z) b.first × IsAtomOf (single z) b.second);
+  slots = All-nil (IsSlotOf (single z));
+  points = all_1 (IsAtomOf (single z)) 1 (omega arith, omega arith);
   few_points = omega arith;
 }
 
 -- ---- the slots of the root
 
 -- a slot is the link or the site
-which : (slot : Slot) → Contains (Link 2 3 1 3 ∷ Site 4 1 3 0 ∷ []) slot → (Link 2 3 1 3 ≡ slot) ⊎ (Site 4 1 3 0 ≡ slot)
+which : (slot : Slot) → Contains (Link 2 3 1 3 ∷ Site 4 (1 ∷ 2 ∷ []) 3 0 ∷ []) slot → (Link 2 3 1 3 ≡ slot) ⊎ (Site 4 (1 ∷ 2 ∷ []) 3 0 ≡ slot)
 which slot (zero, below, is) = inl is
 which slot (suc zero, below, is) = inr is
 which slot (suc (suc k), below, is) = absurd (omega (arith, below))
@@ -140,7 +142,7 @@ joined y b (suc (suc (suc k)), below, is) test = absurd (omega (arith, below))
 
 root_neighbours : NamesNeighbours root
 unfolding root bond
-root_neighbours = all_2 (NamesItsNeighbours root) (Link 2 3 1 3) (Site 4 1 3 0) tt (record {
+root_neighbours = all_2 (NamesItsNeighbours root) (Link 2 3 1 3) (Site 4 (1 ∷ 2 ∷ []) 3 0) tt (record {
   some = λ e. omega (arith, e);
   differ = λ e. omega (arith, e);
   neighbours = λ y. (λ found. inl (joined y found.0 found.1 found.2), λ named. from y 0 named refl);
@@ -162,7 +164,7 @@ root_apart slot other at at' =
       | inr is ↦ elim (which other at') [
         | inl is' ↦ subst (λ (s : Slot). AreApart root slot s) is' (subst (λ (s : Slot). AreApart root s (Link 2 3 1 3)) is tt)
         | inr is' ↦ subst (λ (s : Slot). AreApart root slot s) is'
-            (subst (λ (s : Slot). AreApart root s (Site 4 1 3 0)) is
+            (subst (λ (s : Slot). AreApart root s (Site 4 (1 ∷ 2 ∷ []) 3 0)) is
             (λ found. (let same = joined 4 found.0 found.1 found.2 in omega (arith, same))))
       ]
     ]
@@ -173,13 +175,21 @@ closed x is = (let same : x ≡ 2 = grind (arith, nat_tests) in (λ e. omega (ar
 
 root_blocks : HasClosedBlocks root
 unfolding root
-root_blocks = all_2 (HoldsItsBlock root) (Link 2 3 1 3) (Site 4 1 3 0) closed tt
+root_blocks = all_2 (HoldsItsBlock root) (Link 2 3 1 3) (Site 4 (1 ∷ 2 ∷ []) 3 0) closed tt
 
 root_rises : HasRisingSlots root
 unfolding root
 root_rises =
-    AllPairs-cons (λ slot later. slot_atom slot < slot_atom later) (Link 2 3 1 3) (Site 4 1 3 0 ∷ [])
-    (All-cons (λ later. 2 < slot_atom later) (Site 4 1 3 0) [] (omega arith) (All-nil (λ later. 2 < slot_atom later))) (pairs_one (λ slot later. slot_atom slot < slot_atom later) (Site 4 1 3 0))
+    AllPairs-cons (λ slot later. slot_atom slot < slot_atom later) (Link 2 3 1 3) (Site 4 (1 ∷ 2 ∷ []) 3 0 ∷ [])
+    (All-cons (λ later. 2 < slot_atom later) (Site 4 (1 ∷ 2 ∷ []) 3 0) [] (omega arith) (All-nil (λ later. 2 < slot_atom later)))
+    (pairs_one (λ slot later. slot_atom slot < slot_atom later) (Site 4 (1 ∷ 2 ∷ []) 3 0))
+
+root_labels : HasRisingLabels root
+unfolding root
+root_labels =
+    all_2 (λ slot. AreRisingLabels (site_labels slot)) (Link 2 3 1 3) (Site 4 (1 ∷ 2 ∷ []) 3 0)
+    (record { rise = pairs_none (λ g later. g < later); in_range = All-nil (λ g. (1 ≤ g) × (g ≤ 32)) })
+    (record { rise = pairs_two (λ g later. g < later) 1 2 (omega arith); in_range = all_2 (λ g. (1 ≤ g) × (g ≤ 32)) 1 2 (omega arith, omega arith) (omega arith, omega arith) })
 
 -- ---- groups
 
@@ -188,12 +198,39 @@ at_same zero k x y at = absurd cc
 at_same (suc n) zero x y at = cc
 at_same (suc n) (suc k) x y at = at_same n k x y at
 
-one_of : (u : ℕ) → Contains (1 ∷ []) u → u ≡ 1
-one_of u (zero, below, is) = sym is
-one_of u (suc k, below, is) = absurd (omega (arith, below))
+-- what is among some numbers is the first, or one of those behind it
+one_of : (v u : ℕ) (vs : List ℕ) → Contains (v ∷ vs) u → (u ≡ v) ⊎ Contains vs u
+one_of v u vs (zero, below, is) = inl (sym is)
+one_of v u vs (suc k, below, is) = inr (k, omega (arith, below), is)
 
--- only group 1 has a member
-in_group : (g u : ℕ) → 1 ≤ g → Contains (members_of query g) u → g ≡ 1
+none_of : {X : Type 0} (u : ℕ) → Contains [] u → X
+none_of u at = absurd (let below = at.1 in omega arith)
+
+-- the group of a template
+group_of : ℕ → ℕ
+group_of u = if u == 2 then 2 else 1
+
+group_of_first : (u : ℕ) → Contains (1 ∷ 3 ∷ []) u → group_of u ≡ 1
+unfolding group_of
+group_of_first u at =
+    elim (one_of 1 u (3 ∷ []) at) [
+      | inl is ↦ rw is refl
+      | inr later ↦ elim (one_of 3 u [] later) [
+        | inl is ↦ rw is refl
+        | inr none ↦ none_of u none
+      ]
+    ]
+
+group_of_second : (u : ℕ) → Contains (2 ∷ []) u → group_of u ≡ 2
+unfolding group_of
+group_of_second u at =
+    elim (one_of 2 u [] at) [
+      | inl is ↦ rw is refl
+      | inr none ↦ none_of u none
+    ]
+
+-- a member of a group has it as its own
+in_group : (g u : ℕ) → 1 ≤ g → Contains (members_of query g) u → g ≡ group_of u
 unfolding query plain_group group
 in_group g u least at = by_place (g - 1) refl at
   where
@@ -201,19 +238,21 @@ in_group g u least at = by_place (g - 1) refl at
     members None = []
     members (Some one) = one.members
 
-    by_group : (k : ℕ) (o : Option Group) → slice_get (replicate 31 (plain_group [])) k ≡ o → Contains (members o) u → ⊥
+    by_group : (k : ℕ) (o : Option Group) → slice_get (replicate 30 (plain_group [])) k ≡ o → Contains (members o) u → ⊥
     by_group k None e at = omega (arith, at.1)
     by_group k (Some one) e at =
-        let same : plain_group [] ≡ one = at_same 31 k (plain_group []) one e in
+        let same : plain_group [] ≡ one = at_same 30 k (plain_group []) one e in
         let empty : one.members ≡ [] = sym (ap (λ (h : Group). h.members) same) ∙ no_ones in
         (let at' : Contains [] u = subst (λ (us : List ℕ). Contains us u) empty at in omega (arith, at'.1))
       where
         no_ones : (plain_group []).members ≡ []
         no_ones = refl
 
-    by_place : (k : ℕ) → g - 1 ≡ k → Contains (members (slice_get (plain_group (1 ∷ []) ∷ replicate 31 (plain_group [])) k)) u → g ≡ 1
-    by_place zero e at = omega (arith, e)
-    by_place (suc k) e at = absurd (by_group k (slice_get (replicate 31 (plain_group [])) k) refl at)
+    by_place : (k : ℕ) → g - 1 ≡ k
+        → Contains (members (slice_get (plain_group (1 ∷ 3 ∷ []) ∷ plain_group (2 ∷ []) ∷ replicate 30 (plain_group [])) k)) u → g ≡ group_of u
+    by_place zero e at = omega (arith, e, least, group_of_first u at)
+    by_place (suc zero) e at = omega (arith, e, group_of_second u at)
+    by_place (suc (suc k)) e at = absurd (by_group k (slice_get (replicate 30 (plain_group [])) k) refl at)
 
 -- ---- sizes
 
@@ -221,10 +260,12 @@ sizes : ℕ → ℕ
 sizes t = if t == 0 then 8 else 1
 
 adds_up : IsSizing query sizes
-unfolding query root single hang_together bond plain_group group range sizes
+unfolding query root single hang_together bond plain_group group range sizes joint_members
 adds_up zero template at = (let same : root ≡ template = cc in subst (λ (p : TemplateView). 8 ≡ size_by query sizes p) same refl)
 adds_up (suc zero) template at = (let same : single 9 ≡ template = cc in subst (λ (p : TemplateView). sizes 1 ≡ size_by query sizes p) same refl)
-adds_up (suc (suc t)) template at = absurd cc
+adds_up (suc (suc zero)) template at = (let same : single 17 ≡ template = cc in subst (λ (p : TemplateView). sizes 2 ≡ size_by query sizes p) same refl)
+adds_up (suc (suc (suc zero))) template at = (let same : single 35 ≡ template = cc in subst (λ (p : TemplateView). sizes 3 ≡ size_by query sizes p) same refl)
+adds_up (suc (suc (suc (suc t)))) template at = absurd cc
 
 small : sizes 0 ≤ 512
 unfolding sizes
@@ -232,41 +273,101 @@ small = omega arith
 
 -- ---- the whole query
 
+-- a template that is used has one point
+one_point : (u : ℕ) (template : TemplateView) → 1 ≤ u → slice_get query.templates u ≡ Some template → length template.points ≡ 1
+unfolding query single
+one_point zero template least stands = absurd (omega (arith, least))
+one_point (suc zero) template least stands = (let is : single 9 ≡ template = cc in sym (ap (λ (p : TemplateView). length p.points) is))
+one_point (suc (suc zero)) template least stands = (let is : single 17 ≡ template = cc in sym (ap (λ (p : TemplateView). length p.points) is))
+one_point (suc (suc (suc zero))) template least stands = (let is : single 35 ≡ template = cc in sym (ap (λ (p : TemplateView). length p.points) is))
+one_point (suc (suc (suc (suc u)))) template least stands = absurd cc
+
+-- the members of the site are the three templates behind the root
+site_members : members_at query (Site 4 (1 ∷ 2 ∷ []) 3 0) ≡ 1 ∷ 2 ∷ 3 ∷ []
+unfolding query plain_group group joint_members
+site_members = refl
+
+used : (u : ℕ) → Contains (1 ∷ 2 ∷ 3 ∷ []) u → 1 ≤ u
+used u at =
+    elim (one_of 1 u (2 ∷ 3 ∷ []) at) [
+      | inl is ↦ omega (arith, is)
+      | inr later ↦ elim (one_of 2 u (3 ∷ []) later) [
+        | inl is ↦ omega (arith, is)
+        | inr last ↦ elim (one_of 3 u [] last) [
+          | inl is ↦ omega (arith, is)
+          | inr none ↦ none_of u none
+        ]
+      ]
+    ]
+
+link_fits : FitsPoints query (Link 2 3 1 3)
+link_fits u template at stands = absurd (let below = at.1 in omega arith)
+
+site_fits : FitsPoints query (Site 4 (1 ∷ 2 ∷ []) 3 0)
+site_fits u template at stands = one_point u template (used u (subst (λ (us : List ℕ). Contains us u) site_members at)) stands
+
+no_points : (z : ℕ) → All (FitsPoints query) (single z).slots
+unfolding single
+no_points z = All-nil (FitsPoints query)
+
 points_fit : HasFittingPoints query
-unfolding query root single plain_group group
+unfolding query root
 points_fit =
-    all_2 (λ (template : TemplateView). All (FitsPoints query) template.slots) root (single 9)
-    (all_2 (FitsPoints query) (Link 2 3 1 3) (Site 4 1 3 0) (λ u template at. absurd (let below = at.1 in omega arith)) (λ u template at stands. of_site u template at stands))
-    (All-nil (FitsPoints query))
-  where
-    of_site : (u : ℕ) (template : TemplateView) → Contains (1 ∷ []) u → slice_get (root ∷ single 9 ∷ []) u ≡ Some template → length template.points ≡ 1
-    of_site u template at stands =
-        let same : u ≡ 1 = one_of u at in
-        let there : Some (single 9) ≡ Some template = subst (λ (n : ℕ). slice_get (root ∷ single 9 ∷ []) n ≡ Some template) same stands in
-        let is : single 9 ≡ template = cc in
-        sym (ap (λ (p : TemplateView). length p.points) is)
+    all_4 (λ (template : TemplateView). All (FitsPoints query) template.slots) root (single 9) (single 17) (single 35)
+    (all_2 (FitsPoints query) (Link 2 3 1 3) (Site 4 (1 ∷ 2 ∷ []) 3 0) link_fits site_fits) (no_points 9) (no_points 17) (no_points 35)
+
+-- ---- members of one atom
+
+no_slots : (z : ℕ) (P : Slot → Type 0) → All P (single z).slots
+unfolding single
+no_slots z P = All-nil P
+
+single_rises : (z : ℕ) → HasRisingSlots (single z)
+unfolding single
+single_rises z = pairs_none (λ slot later. slot_atom slot < slot_atom later)
+
+single_points : (z : ℕ) → HasFreePoints (single z)
+unfolding single
+single_points z slot at point = (let below = at.1 in omega (arith, below))
+
+single_apart : (z : ℕ) → HasSitesApart (single z)
+unfolding single
+single_apart z slot other at at' = absurd (let below = at.1 in omega (arith, below))
+
+root_atom : 1 ≤ length root.atoms
+unfolding root
+root_atom = omega arith
 
 pub fits : QueryFits query
-unfolding query plain_group group root single
+unfolding query plain_group group
 fits = record {
   in_range = record {
-    templates = all_2 IsInRange root (single 9) root_range single_range;
-    members = All-cons (λ (one : Group). All (λ u. (1 ≤ u) × (u < 2)) one.members) (plain_group (1 ∷ [])) (replicate 31 (plain_group [])) (all_1 (λ u. (1 ≤ u) × (u < 2)) 1 (omega arith, omega arith))
-        (all_same (λ (one : Group). All (λ u. (1 ≤ u) × (u < 2)) one.members) (plain_group []) 31 (All-nil (λ u. (1 ≤ u) × (u < 2))));
+    templates = all_4 IsInRange root (single 9) (single 17) (single 35) root_range
+        (single_range 9 (omega arith) (omega arith)) (single_range 17 (omega arith) (omega arith)) (single_range 35 (omega arith) (omega arith));
+    members = All-cons (λ (one : Group). All (λ u. (1 ≤ u) × (u < 4)) one.members) (plain_group (1 ∷ 3 ∷ [])) (plain_group (2 ∷ []) ∷ replicate 30 (plain_group []))
+        (all_2 (λ u. (1 ≤ u) × (u < 4)) 1 3 (omega arith, omega arith) (omega arith, omega arith))
+        (All-cons (λ (one : Group). All (λ u. (1 ≤ u) × (u < 4)) one.members) (plain_group (2 ∷ [])) (replicate 30 (plain_group [])) (all_1 (λ u. (1 ≤ u) × (u < 4)) 2 (omega arith, omega arith))
+        (all_same (λ (one : Group). All (λ u. (1 ≤ u) × (u < 4)) one.members) (plain_group []) 30 (All-nil (λ u. (1 ≤ u) × (u < 4)))));
   };
-  pairs_once = all_2 HasPairsOnce root (single 9) root_pairs single_pairs;
-  slots_rise = all_2 HasRisingSlots root (single 9) root_rises (pairs_none (λ slot later. slot_atom slot < slot_atom later));
-  neighbours = all_2 NamesNeighbours root (single 9) root_neighbours (All-nil (NamesItsNeighbours (single 9)));
-  points_free = all_2 HasFreePoints root (single 9) root_points (λ slot at point. (let below = at.1 in omega arith));
-  sites_apart = all_2 HasSitesApart root (single 9) root_apart (λ slot other at at'. absurd (let below = at.1 in omega arith));
-  blocks_closed = all_2 HasClosedBlocks root (single 9) root_blocks (All-nil (HoldsItsBlock (single 9)));
+  pairs_once = all_4 HasPairsOnce root (single 9) (single 17) (single 35) root_pairs (single_pairs 9) (single_pairs 17) (single_pairs 35);
+  slots_rise = all_4 HasRisingSlots root (single 9) (single 17) (single 35) root_rises (single_rises 9) (single_rises 17) (single_rises 35);
+  neighbours = all_4 NamesNeighbours root (single 9) (single 17) (single 35) root_neighbours
+      (no_slots 9 (NamesItsNeighbours (single 9))) (no_slots 17 (NamesItsNeighbours (single 17))) (no_slots 35 (NamesItsNeighbours (single 35)));
+  points_free = all_4 HasFreePoints root (single 9) (single 17) (single 35) root_points (single_points 9) (single_points 17) (single_points 35);
+  sites_apart = all_4 HasSitesApart root (single 9) (single 17) (single 35) root_apart (single_apart 9) (single_apart 17) (single_apart 35);
+  blocks_closed = all_4 HasClosedBlocks root (single 9) (single 17) (single 35) root_blocks
+      (no_slots 9 (HoldsItsBlock (single 9))) (no_slots 17 (HoldsItsBlock (single 17))) (no_slots 35 (HoldsItsBlock (single 35)));
   no_cycle = none_in_itself query sizes (ranked_by_size query sizes adds_up);
   points_fit = points_fit;
-  small_root = record { root = root; at = refl; some = omega arith; size = sizes; adds_up = adds_up; small = small };
+  small_root = record { root = root; at = refl; some = root_atom; size = sizes; adds_up = adds_up; small = small };
   few_members = record { all_groups = refl; few = omega arith };
   members_once = record {
-    rise = All-cons (λ (one : Group). AllPairs (λ u later. u < later) one.members) (plain_group (1 ∷ [])) (replicate 31 (plain_group [])) (pairs_one (λ u later. u < later) 1)
-        (all_same (λ (one : Group). AllPairs (λ u later. u < later) one.members) (plain_group []) 31 (pairs_none (λ u later. u < later)));
+    rise = All-cons (λ (one : Group). AllPairs (λ u later. u < later) one.members) (plain_group (1 ∷ 3 ∷ [])) (plain_group (2 ∷ []) ∷ replicate 30 (plain_group []))
+        (pairs_two (λ u later. u < later) 1 3 (omega arith))
+        (All-cons (λ (one : Group). AllPairs (λ u later. u < later) one.members) (plain_group (2 ∷ [])) (replicate 30 (plain_group [])) (pairs_one (λ u later. u < later) 2)
+        (all_same (λ (one : Group). AllPairs (λ u later. u < later) one.members) (plain_group []) 30 (pairs_none (λ u later. u < later))));
     one_group = λ g h u least least' at at'. in_group g u least at ∙ sym (in_group h u least' at');
   };
+  labels_rise = all_4 HasRisingLabels root (single 9) (single 17) (single 35) root_labels (no_slots 9 (λ slot. AreRisingLabels (site_labels slot)))
+      (no_slots 17 (λ slot. AreRisingLabels (site_labels slot))) (no_slots 35 (λ slot. AreRisingLabels (site_labels slot)));
 }

@@ -12,6 +12,9 @@
 --     none_in_itself .. one_sizing, ranked_by_size       templates with ranks, and their sizes
 --     one_choice, chooses_of .. standing_is, cut         codes as choices and from the left
 --     no_longer, code_is_short    how long codes are
+--     of_one_label .. greatest_joint     the members of a site, by its labels, and of which group it holds one
+--     has_contains, contains_has  a number among some: so a site bears a label
+--     filter_rising .. place_found     rising numbers, and how many of them are below another
 --     allows_is .. allowed_same, some_passes .. passes_all      the logic of groups
 --     code_of_valid .. begins_no_key      keys as a number, a code and a hit
 --     codes_listed, valid_codes_listed    the plain program lists the structural codes, and the valid ones
@@ -29,6 +32,9 @@ pub use Rattle.mk_model.proofs.SizesLemmas.{IsRanked, none_in_itself, size_same,
 pub use Rattle.mk_model.proofs.CodesLemmas.{AreOne, one_choice}
 pub use Rattle.mk_model.proofs.OpenSlotsLemmas.{IsCut, cut, walks, enough, is_code_of, chooses_of, standing_walks, standing_is}
 pub use Rattle.mk_model.proofs.CodeLengthLemmas.{most_numbers, no_longer, code_is_short}
+pub use Rattle.mk_model.proofs.MembersLemmas.{IsOfLabel, of_label, of_one, joint_within, joint_passes, member_of_label, is_joint, members_rise, members_in_range, members_rise_within, of_one_label}
+pub use Rattle.mk_model.proofs.MembersLemmas.{few_members_at, held_is, none_held, members_are, member_within, member_of_one, one_only, members_of_one, held_by, held_by_only, held_label, there_is, past_is, greatest_joint}
+pub use Rattle.mk_model.proofs.NumbersLemmas.{has, has_contains, contains_has, or_false, RisesWithin, rises_within, filter_rising, one_if, count_same, count_le, count_or, count_rising, count_all, IsPlaceOf, place_found, rising_order}
 pub use Rattle.mk_model.proofs.LogicLemmas.{IsPassed, some_passes, passes_some, all_pass, passes_all, allows_is, is_allowed, allowed_same}
 pub use Rattle.mk_model.proofs.PlainCodesLemmas.{ChoosesWithin, codes_listed, law as valid_codes_listed}
 unfoldable pub use Rattle.mk_model.proofs.FewLemmas.{edge}

@@ -12,8 +12,11 @@ pub mod CodesLemmas
 pub mod CodeLengthLemmas
 pub mod OpenSlotsLemmas
 pub mod LogicLemmas
+pub mod NumbersLemmas
+pub mod MembersLemmas
 pub mod PlainCodesLemmas
 pub mod KeysLemmas
+pub mod SingleLabelsLemmas
 pub mod NodesLemmas
 pub mod ForCallers
 pub mod FewLemmas

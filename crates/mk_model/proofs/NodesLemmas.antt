@@ -1,10 +1,10 @@
 -- What lies ahead adds up.
-use Rattle.std.proofs.Common.{◌≡◌, ◌+◌, ◌⊎◌, inl, inr, ℕ, List, ◌++◌, length, ◌∙◌, arith}
+use Rattle.std.proofs.Common.{inl, inr, ℕ, List, ◌++◌, arith}
 use Rattle.std.proofs.lemmas.List.{length-append}
 use Rattle.mk_text.specs.Rising.{Holds, IsBelow}
 use Rattle.mk_text.proofs.ForCallers.{below_or_not, below_what_isnt, holds_each, holds_either, rises_append}
 use Rattle.mk_model.specs.Keys.{IsAmong}
-use Rattle.mk_model.specs.Nodes.{Ahead, AheadAddsUp, IsNode}
+use Rattle.mk_model.specs.Nodes.{AheadAddsUp, IsNode}
 
 -- what a list is above, all that isn't above that list is below
 below_later : (xs ys zs : List ℕ) → (IsBelow ys xs → ⊥) → IsBelow ys zs → IsBelow xs zs

@@ -34,15 +34,15 @@ walks query (Link atom most from to ∷ slots) done others code is then = absurd
 walks query (Link atom most from to ∷ slots) (repeated n more) others code is then = (is.0, is.1, walks query slots more others code is.2 then)
 walks query (Link atom most from to ∷ slots) (unfilled n more) others code is then = absurd is
 walks query (Link atom most from to ∷ slots) (filled k inside more) others code is then = absurd is
-walks query (Site atom group first second ∷ slots) done others code is then = absurd is
-walks query (Site atom group first second ∷ slots) (repeated n more) others code is then = absurd is
-walks query (Site atom group first second ∷ slots) (unfilled n more) others code is then =
-    (omega (arith, is.0), omega (arith, is.0), rw (opens_none query (Site atom group first second) n is.0) (walks query slots more others code is.1 then))
-walks query (Site atom group first second ∷ slots) (filled k inside more) others code is then = (
+walks query (Site atom groups first second ∷ slots) done others code is then = absurd is
+walks query (Site atom groups first second ∷ slots) (repeated n more) others code is then = absurd is
+walks query (Site atom groups first second ∷ slots) (unfilled n more) others code is then =
+    (omega (arith, is.0), omega (arith, is.0), rw (opens_none query (Site atom groups first second) n is.0) (walks query slots more others code is.1 then))
+walks query (Site atom groups first second ∷ slots) (filled k inside more) others code is then = (
   is.0,
   omega (arith, is.1),
-  rw (opens_member query (Site atom group first second) k is.1, append_assoc (spelling inside) (spelling more) code)
-      (walks query (slots_of query (member query (Site atom group first second) k)) inside (slots ++ others) (spelling more ++ code) is.2 (walks query slots more others code is.3 then)),
+  rw (opens_member query (Site atom groups first second) k is.1, append_assoc (spelling inside) (spelling more) code)
+      (walks query (slots_of query (member query (Site atom groups first second) k)) inside (slots ++ others) (spelling more ++ code) is.2 (walks query slots more others code is.3 then)),
 )
 
 -- ---- a choice made of numbers
@@ -56,16 +56,16 @@ pub record IsCut (query : QueryView) (slots others : List Slot) (code : List ℕ
   pub whole : spelling choice ++ rest ≡ code
 
 -- where a number fills a site
-by_member : (query : QueryView) (atom group first second k : ℕ) (slots others : List Slot) (code : List ℕ) (n : ℕ)
-    → length code < n → 1 ≤ k → k ≤ length (members_at query (Site atom group first second)) + 1
+by_member : (query : QueryView) (atom : ℕ) (groups : List ℕ) (first second k : ℕ) (slots others : List Slot) (code : List ℕ) (n : ℕ)
+    → length code < n → 1 ≤ k → k ≤ length (members_at query (Site atom groups first second)) + 1
     → ((slots others : List Slot) (code : List ℕ) → length code < n → Chooses query (slots ++ others) code → IsCut query slots others code)
-    → (b : Bool) → is_filled_by query (Site atom group first second) k ≡ b → Chooses query (cond b (slots_of query (member query (Site atom group first second) k)) [] ++ (slots ++ others)) code
-    → IsCut query (Site atom group first second ∷ slots) others (k ∷ code)
-by_member query atom group first second k slots others code n short least most cut true fills chooses =
-    let inside = cut (slots_of query (member query (Site atom group first second) k)) (slots ++ others) code short chooses in
+    → (b : Bool) → is_filled_by query (Site atom groups first second) k ≡ b → Chooses query (cond b (slots_of query (member query (Site atom groups first second) k)) [] ++ (slots ++ others)) code
+    → IsCut query (Site atom groups first second ∷ slots) others (k ∷ code)
+by_member query atom groups first second k slots others code n short least most cut true fills chooses =
+    let inside = cut (slots_of query (member query (Site atom groups first second) k)) (slots ++ others) code short chooses in
     let shorter : length inside.rest < n = omega (arith, ap length inside.whole, length-append (spelling inside.choice) inside.rest) in
     let behind = cut slots others inside.rest shorter inside.rest_chooses in
-    let below : k ≤ length (members_at query (Site atom group first second)) = grind (arith, nat_tests) in
+    let below : k ≤ length (members_at query (Site atom groups first second)) = grind (arith, nat_tests) in
     record {
       choice = filled k inside.choice behind.choice;
       made = (least, below, inside.made, behind.made);
@@ -74,9 +74,9 @@ by_member query atom group first second k slots others code n short least most c
       whole = ap (λ (xs : List ℕ). k ∷ xs) (append_assoc (spelling inside.choice) (spelling behind.choice) behind.rest
           ∙ ap (λ (xs : List ℕ). spelling inside.choice ++ xs) behind.whole ∙ inside.whole);
     }
-by_member query atom group first second k slots others code n short least most cut false fills chooses =
+by_member query atom groups first second k slots others code n short least most cut false fills chooses =
     let behind = cut slots others code short chooses in
-    let last : k ≡ length (members_at query (Site atom group first second)) + 1 = grind (arith, nat_tests) in
+    let last : k ≡ length (members_at query (Site atom groups first second)) + 1 = grind (arith, nat_tests) in
     record {
       choice = unfilled k behind.choice;
       made = (last, behind.made);
@@ -99,8 +99,8 @@ cut_within (suc n) query (Link atom most from to ∷ slots) others (k ∷ code) 
       rest_chooses = behind.rest_chooses;
       whole = ap (λ (xs : List ℕ). k ∷ xs) behind.whole;
     }
-cut_within (suc n) query (Site atom group first second ∷ slots) others (k ∷ code) short chooses =
-    by_member query atom group first second k slots others code n (omega (arith, short)) chooses.0 chooses.1
+cut_within (suc n) query (Site atom groups first second ∷ slots) others (k ∷ code) short chooses =
+    by_member query atom groups first second k slots others code n (omega (arith, short)) chooses.0 chooses.1
     (λ slots' others' code' short' chooses'. cut_within n query slots' others' code' short' chooses') _ refl chooses.2
 
 pub cut : (query : QueryView) (slots others : List Slot) (code : List ℕ) → Chooses query (slots ++ others) code → IsCut query slots others code
@@ -153,18 +153,18 @@ standing_walks query (Link atom most from to ∷ slots) done others code is = ab
 standing_walks query (Link atom most from to ∷ slots) (repeated n more) others code is = standing_walks query slots more others code is.2
 standing_walks query (Link atom most from to ∷ slots) (unfilled n more) others code is = absurd is
 standing_walks query (Link atom most from to ∷ slots) (filled k inside more) others code is = absurd is
-standing_walks query (Site atom group first second ∷ slots) done others code is = absurd is
-standing_walks query (Site atom group first second ∷ slots) (repeated n more) others code is = absurd is
-standing_walks query (Site atom group first second ∷ slots) (unfilled n more) others code is =
-    rw (opens_none query (Site atom group first second) n is.0)
-    (ap (λ (xs : List Standing). record { site = Site atom group first second; number = n } ∷ xs)
+standing_walks query (Site atom groups first second ∷ slots) done others code is = absurd is
+standing_walks query (Site atom groups first second ∷ slots) (repeated n more) others code is = absurd is
+standing_walks query (Site atom groups first second ∷ slots) (unfilled n more) others code is =
+    rw (opens_none query (Site atom groups first second) n is.0)
+    (ap (λ (xs : List Standing). record { site = Site atom groups first second; number = n } ∷ xs)
     (standing_walks query slots more others code is.1))
-standing_walks query (Site atom group first second ∷ slots) (filled k inside more) others code is =
-    rw (opens_member query (Site atom group first second) k is.1, append_assoc (spelling inside) (spelling more) code)
-    (ap (λ (xs : List Standing). record { site = Site atom group first second; number = k } ∷ xs)
-    (standing_walks query (slots_of query (member query (Site atom group first second) k)) inside (slots ++ others) (spelling more ++ code) is.2
-    ∙ ap (λ (xs : List Standing). standing_sites query (slots_of query (member query (Site atom group first second) k)) inside ++ xs) (standing_walks query slots more others code is.3)
-    ∙ sym (append_assoc (standing_sites query (slots_of query (member query (Site atom group first second) k)) inside) (standing_sites query slots more) (standing_by query others code))))
+standing_walks query (Site atom groups first second ∷ slots) (filled k inside more) others code is =
+    rw (opens_member query (Site atom groups first second) k is.1, append_assoc (spelling inside) (spelling more) code)
+    (ap (λ (xs : List Standing). record { site = Site atom groups first second; number = k } ∷ xs)
+    (standing_walks query (slots_of query (member query (Site atom groups first second) k)) inside (slots ++ others) (spelling more ++ code) is.2
+    ∙ ap (λ (xs : List Standing). standing_sites query (slots_of query (member query (Site atom groups first second) k)) inside ++ xs) (standing_walks query slots more others code is.3)
+    ∙ sym (append_assoc (standing_sites query (slots_of query (member query (Site atom groups first second) k)) inside) (standing_sites query slots more) (standing_by query others code))))
 
 -- the sites of a choice at the slots of a template
 pub standing_is : (query : QueryView) (slots : List Slot) (choice : Choice) → IsChoice query slots choice → standing_by query slots (spelling choice) ≡ standing_sites query slots choice

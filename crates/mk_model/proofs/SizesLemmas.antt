@@ -40,8 +40,8 @@ greatest_same size other (t ∷ ts) same =
 slot_same : (query : QueryView) (size other : ℕ → ℕ) (template : TemplateView) (slot : Slot) → ((u : ℕ) → Contains (members_at query slot) u → size u ≡ other u)
     → size_of_slot query size template slot ≡ size_of_slot query other template slot
 slot_same query size other template (Link atom most from to) same = refl
-slot_same query size other template (Site atom group first second) same =
-    ap (λ (n : ℕ). 1 + max n (neighbour_count (Site atom group first second))) (greatest_same size other (members_at query (Site atom group first second)) same)
+slot_same query size other template (Site atom groups first second) same =
+    ap (λ (n : ℕ). 1 + max n (neighbour_count (Site atom groups first second))) (greatest_same size other (members_at query (Site atom groups first second)) same)
 
 -- sums that agree one by one
 sums_same : (f g : Slot → ℕ) (slots : List Slot) → ((slot : Slot) → Contains slots slot → f slot ≡ g slot) → sum_by f slots ≡ sum_by g slots
@@ -113,7 +113,7 @@ one_of_sum f (x ∷ slots) slot (suc k, below, is) = omega (arith, one_of_sum f 
 
 slot_above : (query : QueryView) (size : ℕ → ℕ) (template : TemplateView) (slot : Slot) (u : ℕ) → Contains (members_at query slot) u → size u < size_of_slot query size template slot
 slot_above query size template (Link atom most from to) u fills = absurd (let below = fills.1 in omega arith)
-slot_above query size template (Site atom group first second) u fills = omega (arith, greatest_contains size (members_at query (Site atom group first second)) u fills)
+slot_above query size template (Site atom groups first second) u fills = omega (arith, greatest_contains size (members_at query (Site atom groups first second)) u fills)
 
 -- so what a query keeps of sizes says too that no template uses itself
 pub ranked_by_size : (query : QueryView) (size : ℕ → ℕ) → IsSizing query size → IsRanked query size

@@ -4,7 +4,7 @@
 --     below_next, not_below_at           lists that go on with different numbers
 --     same_to_between, same_from_between what is left from a place between two
 --     pays_visit, pays_end               what is reached is paid for
-use Rattle.std.proofs.Common.{◌≡◌, ℕ, ◌+◌, ◌<◌, ◌≤◌, inl, inr, List, [], ◌∷◌, ◌++◌, refl, subst, arith}
+use Rattle.std.proofs.Common.{◌≡◌, ℕ, ◌<◌, ◌≤◌, inl, inr, List, [], ◌∷◌, ◌++◌, refl, subst, arith}
 use Rattle.std.proofs.lemmas.Bool.{cases_eq}
 use Rattle.mk_text.specs.Rising.{IsBelow}
 use Rattle.mk_text.proofs.ForCallers.{below_what_isnt}

@@ -38,13 +38,13 @@ IsChoice query (Link atom most from to ∷ slots) done = ⊥
 IsChoice query (Link atom most from to ∷ slots) (repeated n others) = (1 ≤ n) × (n ≤ most) × IsChoice query slots others
 IsChoice query (Link atom most from to ∷ slots) (unfilled n others) = ⊥
 IsChoice query (Link atom most from to ∷ slots) (filled k inside others) = ⊥
-IsChoice query (Site atom group first second ∷ slots) done = ⊥
-IsChoice query (Site atom group first second ∷ slots) (repeated n others) = ⊥
-IsChoice query (Site atom group first second ∷ slots) (unfilled n others) =
-    (n ≡ length (members_at query (Site atom group first second)) + 1) × IsChoice query slots others
-IsChoice query (Site atom group first second ∷ slots) (filled k inside others) =
-    (1 ≤ k) × (k ≤ length (members_at query (Site atom group first second)))
-    × IsChoice query (slots_of query (member query (Site atom group first second) k)) inside × IsChoice query slots others
+IsChoice query (Site atom groups first second ∷ slots) done = ⊥
+IsChoice query (Site atom groups first second ∷ slots) (repeated n others) = ⊥
+IsChoice query (Site atom groups first second ∷ slots) (unfilled n others) =
+    (n ≡ length (members_at query (Site atom groups first second)) + 1) × IsChoice query slots others
+IsChoice query (Site atom groups first second ∷ slots) (filled k inside others) =
+    (1 ≤ k) × (k ≤ length (members_at query (Site atom groups first second)))
+    × IsChoice query (slots_of query (member query (Site atom groups first second) k)) inside × IsChoice query slots others
 
 -- the numbers spell a choice at the slots of template t
 pub record IsCode (query : QueryView) (t : ℕ) (code : List ℕ) : Type 0 where

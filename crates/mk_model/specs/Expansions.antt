@@ -89,7 +89,7 @@ shifted by bond = record { first = by + bond.first; second = by + bond.second; k
 -- as they are.
 abbrev pub bonds_within : List QueryBond → ℕ → Slot → Piece → List QueryBond
 bonds_within bonds before (Link atom most from to) (Copies n) = chained (bond_joining bonds atom from) before (n - 1)
-bonds_within bonds before (Site atom group first second) (Member part) = map (shifted before) part.bonds
+bonds_within bonds before (Site atom groups first second) (Member part) = map (shifted before) part.bonds
 bonds_within bonds before slot piece = []
 
 -- the bonds within what these slots have become, each with its piece
@@ -106,7 +106,7 @@ ends_there template pieces p site x = if not (x == 0) && (ending template pieces
 -- how many free ends a slot leaves at place p: a site that has become nothing leaves one at each of
 -- its neighbours
 abbrev pub frees_of : TemplateView → List Piece → ℕ → Slot → Piece → ℕ
-frees_of template pieces p (Site atom group first second) Nothing =
+frees_of template pieces p (Site atom groups first second) Nothing =
     ends_there template pieces p atom first + ends_there template pieces p atom second
 frees_of template pieces p slot piece = 0
 
@@ -175,10 +175,10 @@ left_open query site = if draws_rest_hydrogens query site then Hydrogens (neighb
 -- at these slots makes nothing.
 unfoldable pub pieces_of : QueryView → List Slot → Choice → List Piece
 pieces_of query (slot ∷ slots) (repeated n others) = Copies n ∷ pieces_of query slots others
-pieces_of query (Site atom group first second ∷ slots) (unfilled n others) =
-    left_open query (Site atom group first second) ∷ pieces_of query slots others
-pieces_of query (Site atom group first second ∷ slots) (filled k inside others) =
-    let t = member query (Site atom group first second) k in
+pieces_of query (Site atom groups first second ∷ slots) (unfilled n others) =
+    left_open query (Site atom groups first second) ∷ pieces_of query slots others
+pieces_of query (Site atom groups first second ∷ slots) (filled k inside others) =
+    let t = member query (Site atom groups first second) k in
     Member (joined (template_of query t) (pieces_of query (slots_of query t) inside)) ∷ pieces_of query slots others
 pieces_of query slots choice = []
 

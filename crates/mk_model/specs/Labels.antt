@@ -1,42 +1,59 @@
--- What the label of a site says. All else that is said of labels goes through these words, and a
--- link has none.
---     members_at query slot             the members of a site: the templates that may fill it, in
---                                       order
---     bears_label slot g                the site bears the label of group g
+-- What the labels of a site say. All else that is said of labels goes through the four words, and a
+-- link has no label.
+--     site_labels slot                the labels of a site: the numbers of its groups
+--     members_at query slot           the members of a site: the templates that may fill it, rising
+--     bears_label slot g              the site bears the label of group g
+--     holds_member_of query slot k g  with the number k the site holds a member of group g
 --     draws_rest_hydrogens query slot   hydrogens stand in the place of the site where it isn't
 --                                       filled
---     member query slot k               the k-th member of a site
---     is_filled_by query slot k         the number k fills the site
---     PutsIn query t u                  a site of template t may be filled by template u
---     IsChain query t via u             the same with templates between
-use Rattle.std.specs.Prelude.{◌-◌, ◌==◌, nat_le, ℕ, Bool, false, List, [], ◌∷◌, Option, Some, None, Contains, length, slice_get, slice_index}
+--     member query slot k             the k-th member of a site
+--     is_filled_by query slot k       the number k fills the site
+--     PutsIn query t u                a site of template t may be filled by template u
+--     IsChain query t via u           the same with templates between
+use Rattle.std.specs.Prelude.{◌-◌, ◌==◌, ◌&&◌, nat_le, ℕ, Bool, false, List, [], ◌∷◌, Option, Some, None, Contains, filter, length, slice_get, slice_index}
+use Rattle.std.specs.List.{list_any, range_with_len}
 use Rattle.mk_model.specs.declared.group.Group.{Group}
 use Rattle.mk_model.specs.declared.template.Slot.{Slot}
 use Rattle.mk_model.specs.declared.template.Slot.TheVariants.{Link, Site}
 use Rattle.mk_model.specs.Queries.{QueryView, members_of, slots_of}
 
--- ---- the three words
+-- the labels of a site are the numbers of its groups
+abbrev pub site_labels : Slot → List ℕ
+site_labels (Link atom most from to) = []
+site_labels (Site atom groups first second) = groups
 
--- the members of a site are those of its group, in order
-abbrev pub members_at : QueryView → Slot → List ℕ
-members_at query (Link atom most from to) = []
-members_at query (Site atom group first second) = members_of query group
+-- ---- what groups say
 
--- a site bears the label of its group
-abbrev pub bears_label : Slot → ℕ → Bool
-bears_label (Link atom most from to) g = false
-bears_label (Site atom group first second) g = group == g
+-- template u is a member of group g
+abbrev pub is_member_of : QueryView → ℕ → ℕ → Bool
+is_member_of query g u = list_any (λ v. v == u) (members_of query g)
 
--- an unfilled site is drawn with hydrogens where its group says so
-abbrev pub draws_rest_hydrogens : QueryView → Slot → Bool
-draws_rest_hydrogens query (Link atom most from to) = false
-draws_rest_hydrogens query (Site atom group first second) = says (slice_get query.groups (group - 1))
+-- template u is a member of one of these groups
+abbrev pub is_member_of_one : QueryView → List ℕ → ℕ → Bool
+is_member_of_one query groups u = list_any (λ g. is_member_of query g u) groups
+
+-- the numbers of all templates of a query
+abbrev pub template_numbers : QueryView → List ℕ
+template_numbers query = range_with_len 0 (length query.templates)
+
+-- the templates that are members of one of these groups, by rising number
+unfoldable pub joint_members : QueryView → List ℕ → List ℕ
+joint_members query groups = filter (is_member_of_one query groups) (template_numbers query)
+
+-- group g asks for hydrogens in the place of an unfilled site
+abbrev pub asks_rest_hydrogens : QueryView → ℕ → Bool
+asks_rest_hydrogens query g = says (slice_get query.groups (g - 1))
   where
     says : Option Group → Bool
     says None = false
-    says (Some of_label) = of_label.rest_hydrogen
+    says (Some group) = group.rest_hydrogen
 
--- ---- by these words
+-- ---- the four words
+
+-- the members of a site are those of all its labels, by rising number
+abbrev pub members_at : QueryView → Slot → List ℕ
+members_at query (Link atom most from to) = []
+members_at query (Site atom groups first second) = joint_members query groups
 
 -- the template that is the k-th member of a site
 abbrev pub member : QueryView → Slot → ℕ → ℕ
@@ -45,6 +62,21 @@ member query slot k = slice_index (members_at query slot) (k - 1)
 -- a number fills a site where it is one of a member's; the number behind them leaves it unfilled
 abbrev pub is_filled_by : QueryView → Slot → ℕ → Bool
 is_filled_by query slot k = nat_le k (length (members_at query slot))
+
+-- With the number k a site holds a member of group g: the number fills it, and the template that is
+-- its k-th member is a member of that group.
+abbrev pub holds_member_of : QueryView → Slot → ℕ → ℕ → Bool
+holds_member_of query slot k g = is_filled_by query slot k && is_member_of query g (member query slot k)
+
+-- a site bears the label of a group where that is one of its labels
+abbrev pub bears_label : Slot → ℕ → Bool
+bears_label slot g = list_any (λ h. h == g) (site_labels slot)
+
+-- an unfilled site is drawn with hydrogens where one of its labels says so
+abbrev pub draws_rest_hydrogens : QueryView → Slot → Bool
+draws_rest_hydrogens query slot = list_any (asks_rest_hydrogens query) (site_labels slot)
+
+-- ---- by these words
 
 -- some site of template t may be filled by template u
 pub record PutsIn (query : QueryView) (t u : ℕ) : Type 0 where

@@ -12,6 +12,7 @@ pub mod Hits
 pub mod Templates
 pub mod Queries
 pub mod Labels
+pub mod JointMembers
 pub mod Sizes
 pub mod SizesWithin
 pub mod QueryFits
@@ -22,5 +23,6 @@ pub mod PlainCodes
 pub mod Pieces
 pub mod Expansions
 pub mod Keys
+pub mod SingleLabels
 pub mod Nodes
 pub mod Screens

@@ -5,7 +5,7 @@
 --     standing_sites query slots choice   the sites that stand in the templates chosen, with their
 --                                         numbers
 --     sites_of standing g         how many of them bear the label of group g
---     filled_of query standing g  how many of these are filled
+--     filled_of query standing g  how many of the sites hold a member of group g
 --     IsValid query code          a structural code of the root with which each group is filled as
 --                                 often as it may be
 use Rattle.std.specs.Prelude.{◌≡◌, ◌≤◌, ◌<◌, ◌-◌, ◌&&◌, ◌⊎◌, nat_le, ℕ, Bool, List, [], ◌∷◌, ◌++◌, Some, count_by, slice_get, IsTrue}
@@ -14,7 +14,7 @@ use Rattle.mk_model.specs.declared.group.Group.{Group}
 use Rattle.mk_model.specs.declared.group.Interval.{Interval}
 use Rattle.mk_model.specs.declared.template.Slot.{Slot}
 use Rattle.mk_model.specs.Queries.{QueryView, slots_of}
-use Rattle.mk_model.specs.Labels.{bears_label, is_filled_by, member}
+use Rattle.mk_model.specs.Labels.{bears_label, holds_member_of, member}
 use Rattle.mk_model.specs.Codes.{Choice, IsChoice, spelling}
 use Rattle.mk_model.specs.Codes.Choice.{done, repeated, unfilled, filled}
 
@@ -70,9 +70,9 @@ standing_sites query (slot ∷ slots) (filled k inside others) =
 abbrev pub sites_of : List Standing → ℕ → ℕ
 sites_of standing g = count_by (λ one. bears_label one.site g) standing
 
--- how many of the sites that bear the label of group g are filled
+-- how many of the sites hold a member of group g
 abbrev pub filled_of : QueryView → List Standing → ℕ → ℕ
-filled_of query standing g = count_by (λ one. bears_label one.site g && is_filled_by query one.site one.number) standing
+filled_of query standing g = count_by (λ one. holds_member_of query one.site one.number g) standing
 
 -- ---- valid codes
 

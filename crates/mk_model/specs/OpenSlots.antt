@@ -15,18 +15,18 @@ use Rattle.mk_model.specs.Logic.{Standing}
 -- the greatest number at a slot: the greatest length of a link, one more than a site has members
 abbrev pub most_at : QueryView → Slot → ℕ
 most_at query (Link atom most from to) = most
-most_at query (Site atom group first second) = length (members_at query (Site atom group first second)) + 1
+most_at query (Site atom groups first second) = length (members_at query (Site atom groups first second)) + 1
 
 -- the slots that a number opens: those of the member that is put in
 abbrev pub opened : QueryView → Slot → ℕ → List Slot
 opened query (Link atom most from to) k = []
-opened query (Site atom group first second) k =
-    if is_filled_by query (Site atom group first second) k then slots_of query (member query (Site atom group first second) k) else []
+opened query (Site atom groups first second) k =
+    if is_filled_by query (Site atom groups first second) k then slots_of query (member query (Site atom groups first second) k) else []
 
 -- the site that stands there, with its number
 abbrev pub standing_at : Slot → ℕ → List Standing
 standing_at (Link atom most from to) k = []
-standing_at (Site atom group first second) k = record { site = Site atom group first second; number = k } ∷ []
+standing_at (Site atom groups first second) k = record { site = Site atom groups first second; number = k } ∷ []
 
 -- the numbers choose at these slots, one after another, and none is left open
 abbrev pub Chooses : QueryView → List Slot → List ℕ → Type 0

@@ -81,7 +81,7 @@ before template pieces x = room template pieces (x - 1)
 -- the slot
 abbrev pub is_far : Slot → ℕ → ℕ → Bool
 is_far (Link atom most from to) x y = (atom == x) && (to == y)
-is_far (Site atom group first second) x y = (atom == x) && (second == y)
+is_far (Site atom groups first second) x y = (atom == x) && (second == y)
 
 -- slot number k stands at x, and y is its second neighbour; where there is no slot no end is far
 abbrev pub is_far_of : List Slot → ℕ → ℕ → ℕ → Bool

@@ -1,4 +1,4 @@
--- What every `Query` keeps in its type: twelve facts, in the order of docs/MEANING.md, "Generic
+-- What every `Query` keeps in its type: thirteen facts, in the order of docs/MEANING.md, "Generic
 -- queries".
 --     AreInRange query          1. tests, ends, slots, points and members are in range
 --     HasPairsOnce template     2. bonds have two ends, and no pair stands twice
@@ -8,11 +8,13 @@
 --     HasSitesApart template    6. no site is bonded to a site
 --     HasClosedBlocks template  7. a block is joined on by its link alone
 --     HasNoCycle query          8. no template uses itself
---     HasFittingPoints query    9. a member has as many points as its site has neighbours
+--     HasFittingPoints query    9. each member of each of a site's groups has as many points as the
+--                                  site has neighbours
 --     HasSmallRoot query       10. the root has an atom and a size of at most 512
 --     HasFewMembers query      11. there are 32 groups and at most 4,096 members
 --     HasMembersOnce query     12. members rise, and none is a member of two groups
---     QueryFits query          all twelve
+--     HasRisingLabels template 13. the labels of a site rise, and each is from 1 to 32
+--     QueryFits query          all thirteen
 use Rattle.std.specs.Prelude.{◌≡◌, ◌≢◌, ◌≤◌, ◌<◌, ◌⊎◌, ◌↔◌, ℕ, List, Some, length, sum_by, slice_get, All, AllPairs, Contains, IsTrue}
 use Rattle.mk_model.specs.declared.template.QueryBond.{QueryBond}
 use Rattle.mk_model.specs.declared.template.Slot.{Slot}
@@ -21,7 +23,7 @@ use Rattle.mk_model.specs.Edges.{Joins}
 use Rattle.mk_model.specs.Tests.{IsBondInRange, IsTestInRange}
 use Rattle.mk_model.specs.Templates.{TemplateView, slot_atom, neighbour_count, query_edges, joins, is_in_block}
 use Rattle.mk_model.specs.Queries.{QueryView, members_of}
-use Rattle.mk_model.specs.Labels.{IsChain, bears_label, members_at}
+use Rattle.mk_model.specs.Labels.{IsChain, site_labels, members_at}
 use Rattle.mk_model.specs.Sizes.{IsSizing}
 
 -- ---- words
@@ -53,12 +55,11 @@ pub record IsLink (template : TemplateView) (most atom from to : ℕ) : Type 0 w
   pub differ : from ≢ to
   pub alike : AreAlike template atom from to
 
--- a slot stands at an atom of the template; a link may stand at least twice, between two neighbours
--- to which its bonds are alike; the labels of a site are from 1 to 32
+-- a slot stands at an atom of the template, and a link may stand at least twice, between two
+-- neighbours to which its bonds are alike
 abbrev pub IsSlotOf : TemplateView → Slot → Type 0
 IsSlotOf template (Link atom most from to) = IsAtomOf template atom × IsLink template most atom from to
-IsSlotOf template (Site atom group first second) =
-    IsAtomOf template atom × ((g : ℕ) → IsTrue (bears_label (Site atom group first second) g) → (1 ≤ g) × (g ≤ 32))
+IsSlotOf template (Site atom groups first second) = IsAtomOf template atom
 
 -- the numbers of a template's tests, ends, slots and points are in range, and it has none, one or
 -- two points
@@ -96,7 +97,7 @@ pub record IsBetweenNamed (template : TemplateView) (atom first second : ℕ) : 
 -- a site names the atoms that it is bonded to; nothing is asked of a link here
 abbrev pub NamesItsNeighbours : TemplateView → Slot → Type 0
 NamesItsNeighbours template (Link atom most from to) = Unit {0}
-NamesItsNeighbours template (Site atom group first second) = IsBetweenNamed template atom first second
+NamesItsNeighbours template (Site atom groups first second) = IsBetweenNamed template atom first second
 
 -- each site names its neighbours
 abbrev pub NamesNeighbours : TemplateView → Type 0
@@ -108,7 +109,7 @@ HasFreePoints template = (slot : Slot) → Contains template.slots slot → Cont
 
 -- where both slots are sites no bond joins them
 abbrev pub AreApart : TemplateView → Slot → Slot → Type 0
-AreApart template (Site atom group first second) (Site atom' group' first' second') = AreNeighbours template atom atom' → ⊥
+AreApart template (Site atom groups first second) (Site atom' groups' first' second') = AreNeighbours template atom atom' → ⊥
 AreApart template slot slot' = Unit {0}
 
 -- no site is bonded to a site
@@ -125,7 +126,7 @@ abbrev pub HoldsItsBlock : TemplateView → Slot → Type 0
 HoldsItsBlock template (Link atom most from to) =
     (x : ℕ) → IsTrue (is_in_block template (Link atom most from to) x)
     → (x ≢ from) × (x ≢ to) × (IsMarked template x → x ≡ atom)
-HoldsItsBlock template (Site atom group first second) = Unit {0}
+HoldsItsBlock template (Site atom groups first second) = Unit {0}
 
 -- each block is joined on by its link alone
 abbrev pub HasClosedBlocks : TemplateView → Type 0
@@ -143,7 +144,7 @@ FitsPoints query slot =
     (u : ℕ) (template : TemplateView) → Contains (members_at query slot) u → slice_get query.templates u ≡ Some template
     → length template.points ≡ neighbour_count slot
 
--- each member of a site has as many points as the site has neighbours
+-- each member of each of a site's groups has as many points as the site has neighbours
 abbrev pub HasFittingPoints : QueryView → Type 0
 HasFittingPoints query = All (λ template. All (FitsPoints query) template.slots) query.templates
 
@@ -166,9 +167,20 @@ pub record HasMembersOnce (query : QueryView) : Type 0 where
   pub rise : All (λ group. AllPairs (λ u later. u < later) group.members) query.groups
   pub one_group : (g h u : ℕ) → 1 ≤ g → 1 ≤ h → Contains (members_of query g) u → Contains (members_of query h) u → g ≡ h
 
+-- ---- 13. labels
+
+-- labels rise, and each is the number of a group, from 1 to 32
+pub record AreRisingLabels (labels : List ℕ) : Type 0 where
+  pub rise : AllPairs (λ g later. g < later) labels
+  pub in_range : All (λ g. (1 ≤ g) × (g ≤ 32)) labels
+
+-- the labels of each site rise, and each is from 1 to 32
+abbrev pub HasRisingLabels : TemplateView → Type 0
+HasRisingLabels template = All (λ slot. AreRisingLabels (site_labels slot)) template.slots
+
 -- ---- all
 
--- the twelve facts that every `Query` keeps
+-- the thirteen facts that every `Query` keeps
 pub record QueryFits (query : QueryView) : Type 0 where
   pub in_range : AreInRange query
   pub pairs_once : All HasPairsOnce query.templates
@@ -182,3 +194,4 @@ pub record QueryFits (query : QueryView) : Type 0 where
   pub small_root : HasSmallRoot query
   pub few_members : HasFewMembers query
   pub members_once : HasMembersOnce query
+  pub labels_rise : All HasRisingLabels query.templates

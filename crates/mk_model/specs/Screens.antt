@@ -11,8 +11,7 @@
 --     IsScreen shown screen        the counts and the bits are those of what is shown
 --     Covers held need             each count is as great, and each bit of the need is set
 --     ScreeningLosesNoHit          a molecule in which a graph has a hit covers its need
-use Rattle.std.specs.Prelude.{◌≡◌, ◌≢◌, ◌≤◌, ◌<◌, ◌+◌, ◌-◌, ◌*◌, ◌/◌, ◌%◌, ◌==◌, ◌↔◌, ℕ, Bool, true, List, [], ◌∷◌, length, map, min, fold, count_by, slice_index, AllPairs, IsTrue}
-use Rattle.std.specs.List.{AllByRecursion}
+use Rattle.std.specs.Prelude.{◌≡◌, ◌≢◌, ◌≤◌, ◌<◌, ◌+◌, ◌-◌, ◌*◌, ◌/◌, ◌%◌, ◌==◌, ◌↔◌, ℕ, Bool, List, [], ◌∷◌, length, map, min, fold, count_by, slice_index, AllPairs, IsTrue}
 use Rattle.std.specs.Int.{bit_at}
 use Rattle.mk_model.specs.declared.atom_test.Kind.{Kind}
 use Rattle.mk_model.specs.declared.atom_test.Kind.TheVariants.{Element}

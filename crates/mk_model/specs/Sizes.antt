@@ -33,8 +33,8 @@ greatest size (t ∷ others) = max (size t) (greatest size others)
 abbrev pub size_of_slot : QueryView → (ℕ → ℕ) → TemplateView → Slot → ℕ
 size_of_slot query size template (Link atom most from to) =
     1 + most * count_by (is_in_block template (Link atom most from to)) (atom_numbers template)
-size_of_slot query size template (Site atom group first second) =
-    1 + max (greatest size (members_at query (Site atom group first second))) (neighbour_count (Site atom group first second))
+size_of_slot query size template (Site atom groups first second) =
+    1 + max (greatest size (members_at query (Site atom groups first second))) (neighbour_count (Site atom groups first second))
 
 -- the size of a template: 1 for each fixed atom, and what its slots add
 abbrev pub size_by : QueryView → (ℕ → ℕ) → TemplateView → ℕ

@@ -23,12 +23,12 @@ pub record TemplateView : Type 0 where
 -- the atom at which a slot stands
 abbrev pub slot_atom : Slot → ℕ
 slot_atom (Link atom most from to) = atom
-slot_atom (Site atom group first second) = atom
+slot_atom (Site atom groups first second) = atom
 
 -- how many neighbours a slot names: a link two, a site one or two
 abbrev pub neighbour_count : Slot → ℕ
 neighbour_count (Link atom most from to) = 2
-neighbour_count (Site atom group first second) = if second == 0 then 1 else 2
+neighbour_count (Site atom groups first second) = if second == 0 then 1 else 2
 
 -- a bond of a template without its topology
 abbrev pub query_edge : QueryBond → Edge
@@ -57,10 +57,10 @@ hang_together (bond ∷ bonds) x y =
 -- the bonds of a template without those from a link to the two neighbours that it names
 abbrev pub bonds_without : Slot → List QueryBond → List QueryBond
 bonds_without (Link atom most from to) bonds = filter (λ bond. not (joins atom from bond || joins atom to bond)) bonds
-bonds_without (Site atom group first second) bonds = bonds
+bonds_without (Site atom groups first second) bonds = bonds
 
 -- Atom x belongs to the block of a link: what hangs together with it once its bonds to the two
 -- neighbours that it names are taken away. A site has no block.
 abbrev pub is_in_block : TemplateView → Slot → ℕ → Bool
 is_in_block template (Link atom most from to) x = hang_together (bonds_without (Link atom most from to) template.bonds) atom x
-is_in_block template (Site atom group first second) x = false
+is_in_block template (Site atom groups first second) x = false

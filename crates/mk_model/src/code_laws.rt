@@ -1,8 +1,9 @@
-// Laws of structural codes, of keys and of nodes, each carried by a function that does nothing.
+// Laws of structural codes, of labels, of keys and of nodes, each carried by a function that does nothing.
 ghost use Rattle.mk_model.specs.Codes.{CodesAreReadOneWay, NoCodeBeginsAnother};
 ghost use Rattle.mk_model.specs.Keys.{NoKeyBeginsAnother, OccurrencesAreReadOneWay};
 ghost use Rattle.mk_model.specs.Nodes.{AheadAddsUp};
 ghost use Rattle.mk_model.specs.PlainCodes.{ValidCodesAreListed};
+ghost use Rattle.mk_model.specs.SingleLabels.{SingleLabelsAsBefore};
 
 /// No structural code is a proper prefix of another.
 pub fn no_code_begins_another()
@@ -27,6 +28,12 @@ pub fn occurrences_are_read_one_way()
 /// No key is a proper prefix of another.
 pub fn no_key_begins_another()
     ensures { NoKeyBeginsAnother }
+{}
+
+/// Where each site of a query bears one label, its codes, expansions and keys are what they were
+/// when no site bore more.
+pub fn single_labels_are_as_before()
+    ensures { SingleLabelsAsBefore }
 {}
 
 /// What lies ahead from a place to a second, and from there to a third, adds up.

@@ -21,6 +21,7 @@ mod edges;
 mod elements;
 mod graph;
 mod group;
+mod members;
 mod molecule;
 mod neighbours;
 mod query;
@@ -35,7 +36,7 @@ pub use atom_test::{AtomTest, Kind};
 pub use bond_order::put_in_order;
 pub use code_laws::{
     ahead_adds_up, codes_are_read_one_way, no_code_begins_another, no_key_begins_another,
-    occurrences_are_read_one_way, valid_codes_are_listed,
+    occurrences_are_read_one_way, single_labels_are_as_before, valid_codes_are_listed,
 };
 pub use edge::Edge;
 pub use edges::edges_of_graph;

@@ -16,7 +16,7 @@ pub struct QueryBond {
 }
 
 /// An atom of a template at which a code chooses.
-#[derive(Clone, Copy, Debug, PartialEq, Eq)]
+#[derive(Debug, Drop)]
 pub enum Slot {
     /// An atom that stands 1 to `most` times: its bond to `from` is at the first copy, that to `to`
     /// at the last.
@@ -26,13 +26,28 @@ pub enum Slot {
         from: u32,
         to: u32,
     },
-    /// A place for a member of a group. Its neighbours in order; `second` is 0 where it has one.
+    /// A place for a member of one of its groups, which are its labels. Its neighbours in order;
+    /// `second` is 0 where it has one.
     Site {
         atom: u32,
-        group: u8,
+        groups: Numbers,
         first: u32,
         second: u32,
     },
+}
+
+impl Slot {
+    ghost use Rattle.mk_model.specs.Labels.{site_labels};
+
+    /// Gives the labels of a site, the numbers of its groups. A link has none.
+    pub fn labels(&self) -> &[u32]
+        ensures { result.now ≡ site_labels self.now }
+    {
+        match self {
+            Slot::Link { .. } => &[],
+            Slot::Site { groups, .. } => groups.as_slice(),
+        }
+    }
 }
 
 /// A table of a query: its atoms, bonds and slots, and the atoms by which it is joined on. Atoms

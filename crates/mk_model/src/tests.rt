@@ -91,7 +91,7 @@ fn named(kind: &Kind) -> &[u8] {
     }
 }
 
-// A carbon chain with a link in the middle, and a site behind it.
+// A carbon chain with a link in the middle, and a site of two labels behind it.
 #[test]
 fn keeps_a_template(rt: HostRuntime) -> Result<(), Fail> {
     let link = Slot::Link {
@@ -102,7 +102,7 @@ fn keeps_a_template(rt: HostRuntime) -> Result<(), Fail> {
     };
     let site = Slot::Site {
         atom: 3,
-        group: 7,
+        groups: Numbers::of(vec![in rt.alloc(); 7u32, 9]?),
         first: 1,
         second: 0,
     };
@@ -119,7 +119,9 @@ fn keeps_a_template(rt: HostRuntime) -> Result<(), Fail> {
     let template = Template::of(atoms, bonds, slots, points);
     assert_eq!(rt; template.atoms().len(), 3);
     assert_eq!(rt; template.bonds(), [bond].as_slice());
-    assert_eq!(rt; template.slots(), [link, site].as_slice());
+    assert_eq!(rt; template.slots().len(), 2);
+    assert_eq!(rt; template.slots()[0].labels(), [].as_slice());
+    assert_eq!(rt; template.slots()[1].labels(), [7, 9].as_slice());
     assert_eq!(rt; template.points(), [2].as_slice());
     Ok(())
 }

@@ -17,7 +17,7 @@ use Rattle.mk_model.specs.Templates.{TemplateView}
 use Rattle.mk_model.specs.Queries.{QueryView, slots_of}
 use Rattle.mk_model.specs.Labels.{member, members_at}
 use Rattle.mk_model.specs.QueryFits.{FitsPoints, QueryFits}
-use Rattle.mk_pieces.specs.Kept.{IsSlotOf, IsTemplate}
+use Rattle.mk_pieces.specs.Kept.{IsTemplate}
 use Rattle.mk_model.proofs.ForCallers.{at_place}
 use Rattle.mk_pieces.specs.Fragments.{IsFragment}
 use Rattle.mk_pieces.proofs.JoinedLemmas.{joined_fragment}
@@ -26,22 +26,14 @@ use Rattle.mk_pieces.proofs.KeptLemmas.{member_there, template_is, slots_are, te
 
 -- ---- slots of templates
 
--- a site's group is one of the 32, and its members have as many points as the site neighbours
-abbrev pub IsKnownSlot : QueryView → Slot → Type 0
-IsKnownSlot query (Link atom most from to) = Unit {0}
-IsKnownSlot query (Site atom group first second) = (1 ≤ group) × (group ≤ 32) × FitsPoints query (Site atom group first second)
-
+-- the members of each of some slots have as many points as the slot has neighbours
 abbrev pub AreKnownSlots : QueryView → List Slot → Type 0
 AreKnownSlots query [] = Unit {0}
-AreKnownSlots query (slot ∷ slots) = IsKnownSlot query slot × AreKnownSlots query slots
+AreKnownSlots query (slot ∷ slots) = FitsPoints query slot × AreKnownSlots query slots
 
-known_all : (query : QueryView) (slots : List Slot) → ((k : ℕ) (d : Slot) → k < length slots → IsKnownSlot query (get_or slots k d)) → AreKnownSlots query slots
+known_all : (query : QueryView) (slots : List Slot) → ((k : ℕ) (d : Slot) → k < length slots → FitsPoints query (get_or slots k d)) → AreKnownSlots query slots
 known_all query [] each = tt
 known_all query (slot ∷ slots) each = (each 0 slot (omega arith), known_all query slots (λ k d below. each (suc k) d (omega arith)))
-
-known_slot : (query : QueryView) (template : TemplateView) (slot : Slot) → IsSlotOf template slot → FitsPoints query slot → IsKnownSlot query slot
-known_slot query template (Link atom most from to) is fits = tt
-known_slot query template (Site atom group first second) is fits = (is.1.known.0, is.1.known.1, fits)
 
 no_template : TemplateView
 no_template = record { atoms = []; bonds = []; slots = []; points = [] }
@@ -62,24 +54,21 @@ template_at query t there = at_place query.templates t no_template there ∙ ap 
 pub known_slots : (query : QueryView) → QueryFits query → (t : ℕ) → t < length query.templates → AreKnownSlots query (template_of query t).slots
 unfolding no_template
 known_slots query fits t there =
-    rw (template_is query t no_template there) (known_all query (get_or query.templates t no_template).slots (λ k d below.
-    known_slot query (get_or query.templates t no_template) (get_or (get_or query.templates t no_template).slots k d)
-    ((template_kept query fits t no_template there).slots k d below) (fits.points_fit t no_template there k d below)))
+    rw (template_is query t no_template there) (known_all query (get_or query.templates t no_template).slots (λ k d below. fits.points_fit t no_template there k d below))
 
 -- ---- pieces
 
-open_fits : (atom group first second : ℕ) (rest : Bool) → FitsSlot (Site atom group first second) (cond rest (Hydrogens (neighbours second)) Nothing)
-open_fits atom group first second true = refl
-open_fits atom group first second false = tt
+open_fits : (atom : ℕ) (groups : List ℕ) (first second : ℕ) (rest : Bool) → FitsSlot (Site atom groups first second) (cond rest (Hydrogens (neighbours second)) Nothing)
+open_fits atom groups first second true = refl
+open_fits atom groups first second false = tt
 
 -- a member that is chosen is there
-pub chosen_there : (query : QueryView) → QueryFits query → (atom group first second k : ℕ) → 1 ≤ group → group ≤ 32 → 1 ≤ k → k ≤ length (members_at query (Site atom group first second))
-    → (member query (Site atom group first second) k < length query.templates) × Contains (members_at query (Site atom group first second)) (member query (Site atom group first second) k)
-chosen_there query fits atom group first second k least most some within =
-    let below : k - 1 < length (members_at query (Site atom group first second)) = omega arith in
-    let at : Contains (members_at query (Site atom group first second)) (member query (Site atom group first second) k) =
-    (k - 1, below, get_or_default (members_at query (Site atom group first second)) (k - 1) (member query (Site atom group first second) k) 0 below) in
-    (member_there query fits group (member query (Site atom group first second) k) least most at, at)
+pub chosen_there : (query : QueryView) (slot : Slot) (k : ℕ) → 1 ≤ k → k ≤ length (members_at query slot)
+    → (member query slot k < length query.templates) × Contains (members_at query slot) (member query slot k)
+chosen_there query slot k some within =
+    let below : k - 1 < length (members_at query slot) = omega (arith, some, within) in
+    let at : Contains (members_at query slot) (member query slot k) = (k - 1, below, get_or_default (members_at query slot) (k - 1) (member query slot k) 0 below) in
+    (member_there query slot (member query slot k) at, at)
 
 points_length : (template : TemplateView) (pieces : List Piece) → length (joined template pieces).points ≡ length template.points
 unfolding joined
@@ -95,20 +84,20 @@ pieces_fit query fits (Link atom most from to ∷ slots) done known is = absurd 
 pieces_fit query fits (Link atom most from to ∷ slots) (repeated n others) known is = ((is.0, is.1), pieces_fit query fits slots others known.1 is.2)
 pieces_fit query fits (Link atom most from to ∷ slots) (unfilled n others) known is = absurd is
 pieces_fit query fits (Link atom most from to ∷ slots) (filled k inside others) known is = absurd is
-pieces_fit query fits (Site atom group first second ∷ slots) done known is = absurd is
-pieces_fit query fits (Site atom group first second ∷ slots) (repeated n others) known is = absurd is
-pieces_fit query fits (Site atom group first second ∷ slots) (unfilled n others) known is =
-    (open_fits atom group first second (draws_rest_hydrogens query (Site atom group first second)), pieces_fit query fits slots others known.1 is.1)
-pieces_fit query fits (Site atom group first second ∷ slots) (filled k inside others) known is =
-    let u = member query (Site atom group first second) k in
-    let there = chosen_there query fits atom group first second k known.0.0 known.0.1 is.0 is.1 in
+pieces_fit query fits (Site atom groups first second ∷ slots) done known is = absurd is
+pieces_fit query fits (Site atom groups first second ∷ slots) (repeated n others) known is = absurd is
+pieces_fit query fits (Site atom groups first second ∷ slots) (unfilled n others) known is =
+    (open_fits atom groups first second (draws_rest_hydrogens query (Site atom groups first second)), pieces_fit query fits slots others known.1 is.1)
+pieces_fit query fits (Site atom groups first second ∷ slots) (filled k inside others) known is =
+    let u = member query (Site atom groups first second) k in
+    let there = chosen_there query (Site atom groups first second) k is.0 is.1 in
     let template = template_of query u in
     let same = slots_of_template query u there.0 in
     let inner : FitSlots (slots_of query u) (pieces_of query (slots_of query u) inside) = pieces_fit query fits (slots_of query u) inside (rw same (known_slots query fits u there.0)) is.2 in
     let inner' : FitSlots template.slots (pieces_of query (slots_of query u) inside) = subst (λ (ss : List Slot). FitSlots ss (pieces_of query (slots_of query u) inside)) same inner in
     let fragment : IsFragment (joined template (pieces_of query (slots_of query u) inside)) =
     joined_fragment template (kept_template query fits u there.0) (pieces_of query (slots_of query u) inside) inner' in
-    ((fragment, points_length template (pieces_of query (slots_of query u) inside) ∙ known.0.2 u template there.1 (template_at query u there.0)), pieces_fit query fits slots others known.1 is.3)
+    ((fragment, points_length template (pieces_of query (slots_of query u) inside) ∙ known.0 u template there.1 (template_at query u there.0)), pieces_fit query fits slots others known.1 is.3)
 
 -- ---- a template
 

@@ -150,11 +150,11 @@ copy_numbered m (suc k) = copy_at m k
 slot_within : (bonds : List QueryBond) (x : ℕ) (slot : Slot) → bonds_within bonds x slot (Copies 1) ≡ []
 unfolding chained
 slot_within bonds x (Link atom most from to) = refl
-slot_within bonds x (Site atom group first second) = refl
+slot_within bonds x (Site atom groups first second) = refl
 
 slot_frees : (template : TemplateView) (pieces : List Piece) (p : ℕ) (slot : Slot) → frees_of template pieces p slot (Copies 1) ≡ 0
 slot_frees template pieces p (Link atom most from to) = refl
-slot_frees template pieces p (Site atom group first second) = refl
+slot_frees template pieces p (Site atom groups first second) = refl
 
 none_within : (template : TemplateView) (pieces : List Piece) (slots : List Slot) → all_within template pieces slots (replicate (length slots) (Copies 1)) ≡ []
 unfolding all_within

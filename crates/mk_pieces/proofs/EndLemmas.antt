@@ -40,10 +40,10 @@ stand_at query t choice x n is = stand_is query t choice x ∙ ap (stand_numbere
 -- an atom with a point is taken by no slot
 no_slot_at : (template : TemplateView) → IsTemplate template → (p : ℕ) → Contains template.points p → (slot : Slot) → Contains template.slots slot → HoldsItsBlock template slot
     → takes_atom template p slot ≡ true → ⊥
-no_slot_at template kept p at (Site atom group first second) held closed takes = by (eqb atom p) refl takes
+no_slot_at template kept p at (Site atom groups first second) held closed takes = by (eqb atom p) refl takes
   where
     by : (b : Bool) → eqb atom p ≡ b → (b || false) ≡ true → ⊥
-    by true e is = kept.points_free (Site atom group first second) held (let same : atom ≡ p = grind (arith, nat_tests) in subst (Contains template.points) (sym same) at)
+    by true e is = kept.points_free (Site atom groups first second) held (let same : atom ≡ p = grind (arith, nat_tests) in subst (Contains template.points) (sym same) at)
     by false e is = absurd cc
 no_slot_at template kept p at (Link atom most from to) held closed takes = by (eqb atom p) (is_in_block template (Link atom most from to) p) refl refl takes
   where
@@ -191,8 +191,9 @@ sites_apart query fits t in_query =
 
 -- a neighbour of a site stands as copies of itself
 pub beside_site : (query : QueryView) (fits : QueryFits query) (t : ℕ) (in_query : t < length query.templates) (choice : Choice) (made : IsChoice query (slots_of query t) choice)
-    → (atom group first second y : ℕ) → Contains (template_of query t).slots (Site atom group first second) → AreNeighbours (template_of query t) atom y → (n : ℕ) × (stand query t choice y ≡ Times n)
-beside_site query fits t in_query choice made atom group first second y held neighbours = by (known_stand query fits t in_query choice made y)
+    → (atom : ℕ) (groups : List ℕ) (first second y : ℕ) → Contains (template_of query t).slots (Site atom groups first second)
+    → AreNeighbours (template_of query t) atom y → (n : ℕ) × (stand query t choice y ≡ Times n)
+beside_site query fits t in_query choice made atom groups first second y held neighbours = by (known_stand query fits t in_query choice made y)
   where
     copies : (s : Stand) (a m f o : ℕ) → FitsSlot (Link a m f o) (becomes query s) → (n : ℕ) × (s ≡ Times n)
     copies (Times n) a m f o is = (n, refl)
@@ -208,7 +209,7 @@ beside_site query fits t in_query choice made atom group first second y held nei
         by_test : (b : Bool) → eqb a y ≡ b → (b || false) ≡ true → (n : ℕ) × (stand query t choice y ≡ Times n)
         by_test true e is' =
             let same : a ≡ y = grind (arith, nat_tests) in
-            absurd (sites_apart query fits t in_query (Site atom group first second) (Site a g f o) held at (subst (AreNeighbours (template_of query t) atom) (sym same) neighbours))
+            absurd (sites_apart query fits t in_query (Site atom groups first second) (Site a g f o) held at (subst (AreNeighbours (template_of query t) atom) (sym same) neighbours))
         by_test false e is' = absurd cc
 
     by : IsKnownStand query t choice y → (n : ℕ) × (stand query t choice y ≡ Times n)

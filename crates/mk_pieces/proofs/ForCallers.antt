@@ -15,7 +15,7 @@ pub use Rattle.mk_pieces.proofs.RoomLemmas.{have_room}
 pub use Rattle.mk_pieces.proofs.SpanLemmas.{room_more, room_none, room_within}
 pub use Rattle.mk_pieces.proofs.TemplateLemmas.{bonds_within, ends_within, slots_neighbours, slots_stand}
 pub use Rattle.mk_pieces.proofs.DrawnLemmas.{drawn_inside, drawn_outside}
-pub use Rattle.mk_pieces.proofs.KeptLemmas.{member_there, members_are, slots_are, template_is, template_kept}
+pub use Rattle.mk_pieces.proofs.KeptLemmas.{labels_known, member_there, slots_are, template_is, template_kept}
 
 pub one_graph : OneExpansion
 one_graph = one_expansion one_list_of_graph_bonds

@@ -267,10 +267,10 @@ module _ (query : QueryView) (fits : QueryFits query) (t : ℕ) (in_query : t < 
     from_slot (Link atom most from to) (ByMember u within) held at stands (k, below, here) = absurd (omega (arith, below))
     from_slot (Link atom most from to) (ByHydrogens n) held at stands (k, below, here) = absurd (omega (arith, below))
     from_slot (Link atom most from to) Vacant held at stands (k, below, here) = absurd (omega (arith, below))
-    from_slot (Site atom group first second) (Times n) held at stands (k, below, here) = absurd (omega (arith, below))
-    from_slot (Site atom group first second) (ByMember u within) held at stands inside = from_member atom u within at stands inside
-    from_slot (Site atom group first second) (ByHydrogens n) held at stands (k, below, here) = absurd (omega (arith, below))
-    from_slot (Site atom group first second) Vacant held at stands (k, below, here) = absurd (omega (arith, below))
+    from_slot (Site atom groups first second) (Times n) held at stands (k, below, here) = absurd (omega (arith, below))
+    from_slot (Site atom groups first second) (ByMember u within) held at stands inside = from_member atom u within at stands inside
+    from_slot (Site atom groups first second) (ByHydrogens n) held at stands (k, below, here) = absurd (omega (arith, below))
+    from_slot (Site atom groups first second) Vacant held at stands (k, below, here) = absurd (omega (arith, below))
 
     pub from_bonds : Contains (expansion query t choice).bonds (bond_at name other kind topology) → AreJoinedNames query t choice name other kind topology
     unfolding expansion joined

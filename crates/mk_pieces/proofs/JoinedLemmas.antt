@@ -73,9 +73,6 @@ length_atoms template pieces (suc n) =
 
 -- ---- tests
 
-HasTest : GraphAtom → Type 0
-HasTest atom = IsTestInRange atom.test
-
 never_one : pos 0 ≡ pos 1 → ⊥
 never_one same = omega (arith, ints)
 
@@ -123,10 +120,10 @@ module _ (template : TemplateView) (kept : IsTemplate template) (pieces : List P
       fitting (Link atom most' from to) (Member part) is = absurd is
       fitting (Link atom most' from to) (Hydrogens n) is = absurd is
       fitting (Link atom most' from to) Nothing is = absurd is
-      fitting (Site atom group first second) (Copies n) is = absurd is
-      fitting (Site atom group first second) (Member part) is = is.0.tests
-      fitting (Site atom group first second) (Hydrogens n) is = All-replicate (λ (atom : GraphAtom). IsTestInRange atom.test) n hydrogen hydrogen_in_range
-      fitting (Site atom group first second) Nothing is = All-nil (λ (atom : GraphAtom). IsTestInRange atom.test)
+      fitting (Site atom groups first second) (Copies n) is = absurd is
+      fitting (Site atom groups first second) (Member part) is = is.0.tests
+      fitting (Site atom groups first second) (Hydrogens n) is = All-replicate (λ (atom : GraphAtom). IsTestInRange atom.test) n hydrogen hydrogen_in_range
+      fitting (Site atom groups first second) Nothing is = All-nil (λ (atom : GraphAtom). IsTestInRange atom.test)
 
       by : (p : Piece) → IsKnown x p → All (λ (atom : GraphAtom). IsTestInRange atom.test) (atoms_of_piece template pieces x p)
       by p (inl one) = subst (λ (q : Piece). All (λ (atom : GraphAtom). IsTestInRange atom.test) (atoms_of_piece template pieces x q)) (sym one)
@@ -252,9 +249,9 @@ module _ (template : TemplateView) (kept : IsTemplate template) (pieces : List P
       not_site (Link atom most from to) (Member part) is there takes = absurd is
       not_site (Link atom most from to) (Hydrogens n) is there takes = absurd is
       not_site (Link atom most from to) Nothing is there takes = absurd is
-      not_site (Site atom group first second) p is there takes =
+      not_site (Site atom groups first second) p is there takes =
           let same : atom ≡ x = own_only (eqb atom x) refl takes in
-          absurd (kept.points_free (Site atom group first second) there (subst (Contains template.points) (sym same) at))
+          absurd (kept.points_free (Site atom groups first second) there (subst (Contains template.points) (sym same) at))
         where
           own_only : (b : Bool) → eqb atom x ≡ b → (b || false) ≡ true → atom ≡ x
           own_only true e t = grind (arith, nat_tests)

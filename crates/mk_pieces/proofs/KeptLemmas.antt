@@ -1,18 +1,18 @@
 -- What every query keeps of its templates and their members.
---     slots_are, template_is, members_are     templates and groups by their places
---     member_there                            a member is a template
---     template_kept                           each template is kept
-use Rattle.std.proofs.Common.{◌≡◌, ℕ, ◌-◌, ◌<◌, ◌≤◌, false, [], length, get_or, refl, subst, arith}
+--     slots_are, template_is     templates by their places
+--     member_there               a member is a template
+--     labels_known               the labels of a slot rise
+--     template_kept              each template is kept
+use Rattle.std.proofs.Common.{◌≡◌, ℕ, ◌<◌, List, [], length, get_or, refl, subst}
 use Rattle.std.specs.Prelude.{Contains}
-use Rattle.std.proofs.lemmas.Bool.Decides.{nat_tests}
-use Rattle.mk_model.specs.declared.group.Group.{Group}
 use Rattle.mk_model.specs.declared.template.Slot.{Slot}
 use Rattle.mk_model.specs.declared.template.Slot.TheVariants.{Link, Site}
 use Rattle.mk_model.specs.Expansions.{template_of}
-use Rattle.mk_model.specs.Queries.{QueryView, members_of, slots_of}
-use Rattle.mk_model.specs.QueryFits.{IsSlotOf as InRangeSlot, NamesItsNeighbours, QueryFits}
+use Rattle.mk_model.specs.Labels.{joint_members, members_at, site_labels}
+use Rattle.mk_model.specs.Queries.{QueryView, slots_of}
+use Rattle.mk_model.specs.QueryFits.{AreRisingLabels, IsSlotOf as InRangeSlot, NamesItsNeighbours, QueryFits}
 use Rattle.mk_model.specs.Templates.{TemplateView}
-use Rattle.mk_model.proofs.ForCallers.{at_place, simple_template}
+use Rattle.mk_model.proofs.ForCallers.{at_place, joint_within, members_are, simple_template}
 use Rattle.mk_pieces.specs.Kept.{IsSlotOf, IsTemplate}
 
 pub slots_are : (query : QueryView) (t : ℕ) (d : TemplateView) → t < length query.templates → slots_of query t ≡ (get_or query.templates t d).slots
@@ -21,23 +21,23 @@ slots_are query t d below = rw (at_place query.templates t d below) refl
 pub template_is : (query : QueryView) (t : ℕ) (d : TemplateView) → t < length query.templates → template_of query t ≡ get_or query.templates t d
 template_is query t d below = rw (at_place query.templates t d below) refl
 
--- the members of a group, and whether hydrogens are drawn, by the list that the code reads
-pub members_are : (query : QueryView) (g : ℕ) (d : Group) → g - 1 < length query.groups → members_of query g ≡ (get_or query.groups (g - 1) d).members
-members_are query g d below = rw (at_place query.groups (g - 1) d below) refl
+-- a member of a slot is a template
+pub member_there : (query : QueryView) (slot : Slot) (u : ℕ) → Contains (members_at query slot) u → u < length query.templates
+member_there query slot u at =
+    let here : Contains (joint_members query (site_labels slot)) u = subst (λ (members : List ℕ). Contains members u) (members_are query slot) at in
+    subst (λ (v : ℕ). v < length query.templates) here.2 (joint_within query (site_labels slot) here.0 u here.1)
 
--- a member of a group from 1 to 32 is a template
-pub member_there : (query : QueryView) → QueryFits query → (g u : ℕ) → 1 ≤ g → g ≤ 32 → Contains (members_of query g) u → u < length query.templates
-member_there query fits g u least most at =
-    let d : Group = record { members = []; then_group = 0; rest_hydrogen = false; range = [] } in
-    let below : g - 1 < length query.groups = omega (arith, fits.few_members.all_groups) in
-    let here : Contains (get_or query.groups (g - 1) d).members u = rw (members_are query g d below) at at in
-    let known : (1 ≤ u) × (u < length query.templates) = subst (λ (n : ℕ). (1 ≤ n) × (n < length query.templates)) here.2 (fits.in_range.members (g - 1) d below here.0 u here.1) in
-    known.1
+-- the labels of a slot rise
+pub labels_known : (query : QueryView) → QueryFits query → (t : ℕ) → t < length query.templates → (slot : Slot) → Contains (slots_of query t) slot → AreRisingLabels (site_labels slot)
+labels_known query fits t there slot at =
+    let d : TemplateView = record { atoms = []; bonds = []; slots = []; points = [] } in
+    let here : Contains (get_or query.templates t d).slots slot = rw (slots_are query t d there) at at in
+    subst (λ (s : Slot). AreRisingLabels (site_labels s)) here.2 (fits.labels_rise t d there here.0 slot here.1)
 
 -- what every template of a query keeps
 kept_slot : (template : TemplateView) (slot : Slot) → InRangeSlot template slot → NamesItsNeighbours template slot → IsSlotOf template slot
 kept_slot template (Link atom most from to) is names = is
-kept_slot template (Site atom group first second) is names = (is.0, record { known = is.1 group (grind (arith, nat_tests)); between = names })
+kept_slot template (Site atom groups first second) is names = (is, names)
 
 pub template_kept : (query : QueryView) → QueryFits query → (t : ℕ) (d : TemplateView) → t < length query.templates → IsTemplate (get_or query.templates t d)
 template_kept query fits t d there =

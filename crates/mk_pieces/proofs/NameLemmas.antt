@@ -46,17 +46,17 @@ pieces_are query (Link atom most from to ∷ slots) done is = absurd is
 pieces_are query (Link atom most from to ∷ slots) (repeated n others) is = ap (λ (ps : List Piece). Copies n ∷ ps) (pieces_are query slots others is.2)
 pieces_are query (Link atom most from to ∷ slots) (unfilled n others) is = absurd is
 pieces_are query (Link atom most from to ∷ slots) (filled k within others) is = absurd is
-pieces_are query (Site atom group first second ∷ slots) done is = absurd is
-pieces_are query (Site atom group first second ∷ slots) (repeated n others) is = absurd is
-pieces_are query (Site atom group first second ∷ slots) (unfilled n others) is =
-    ap (λ (ps : List Piece). left_open query (Site atom group first second) ∷ ps) (pieces_are query slots others is.1)
-    ∙ ap (λ (p : Piece). p ∷ map (becomes query) (stands_of query slots others)) (by (draws_rest_hydrogens query (Site atom group first second)))
+pieces_are query (Site atom groups first second ∷ slots) done is = absurd is
+pieces_are query (Site atom groups first second ∷ slots) (repeated n others) is = absurd is
+pieces_are query (Site atom groups first second ∷ slots) (unfilled n others) is =
+    ap (λ (ps : List Piece). left_open query (Site atom groups first second) ∷ ps) (pieces_are query slots others is.1)
+    ∙ ap (λ (p : Piece). p ∷ map (becomes query) (stands_of query slots others)) (by (draws_rest_hydrogens query (Site atom groups first second)))
   where
-    by : (b : Bool) → cond b (Hydrogens (neighbour_count (Site atom group first second))) Nothing ≡ becomes query (cond b (ByHydrogens (neighbour_count (Site atom group first second))) Vacant)
+    by : (b : Bool) → cond b (Hydrogens (neighbour_count (Site atom groups first second))) Nothing ≡ becomes query (cond b (ByHydrogens (neighbour_count (Site atom groups first second))) Vacant)
     by true = refl
     by false = refl
-pieces_are query (Site atom group first second ∷ slots) (filled k within others) is =
-    ap (λ (ps : List Piece). Member (expansion query (member query (Site atom group first second) k) within) ∷ ps) (pieces_are query slots others is.3)
+pieces_are query (Site atom groups first second ∷ slots) (filled k within others) is =
+    ap (λ (ps : List Piece). Member (expansion query (member query (Site atom groups first second) k) within) ∷ ps) (pieces_are query slots others is.3)
 
 piece_at : (query : QueryView) (stands : List Stand) (k : ℕ) → get_or (map (becomes query) stands) k (Copies 1) ≡ becomes query (get_or stands k (Times 1))
 piece_at query [] k = refl

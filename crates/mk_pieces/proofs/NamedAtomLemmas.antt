@@ -73,17 +73,17 @@ module _ (query : QueryView) (fits : QueryFits query) (t : ℕ) (in_query : t < 
   -- ---- free ends
 
   -- a vacant site leaves a free end at a neighbour where its bond would end
-  neighbour_frees : (x j : ℕ) → IsNameThere query t choice (CopyOf x j) → (atom group first second y : ℕ) → Contains template.slots (Site atom group first second) → AreNeighbours template atom y
-      → y ≢ 0 → 1 ≤ atom
+  neighbour_frees : (x j : ℕ) → IsNameThere query t choice (CopyOf x j) → (atom : ℕ) (groups : List ℕ) (first second y : ℕ) → Contains template.slots (Site atom groups first second)
+      → AreNeighbours template atom y → y ≢ 0 → 1 ≤ atom
       → ends_there template pieces (before template pieces x + j) atom y ≡ one_if (eqb y x && is_end_copy (stand query t choice x) (faces_far query t x atom) j)
-  neighbour_frees x j named atom group first second y held beside some least =
+  neighbour_frees x j named atom groups first second y held beside some least =
       rw (guard, tests_are) refl
     where
       n : ℕ
-      n = (beside_site query fits t in_query choice made atom group first second y held beside).0
+      n = (beside_site query fits t in_query choice made atom groups first second y held beside).0
 
       stands : stand query t choice y ≡ Times n
-      stands = (beside_site query fits t in_query choice made atom group first second y held beside).1
+      stands = (beside_site query fits t in_query choice made atom groups first second y held beside).1
 
       at : IsAtomOf template y
       at = (omega (arith, some), joined_within template kept atom y beside)
@@ -132,31 +132,31 @@ module _ (query : QueryView) (fits : QueryFits query) (t : ℕ) (in_query : t < 
   slot_frees : (x j : ℕ) → IsNameThere query t choice (CopyOf x j) → (slot : Slot) → Contains template.slots slot
       → frees_of template pieces (before template pieces x + j) slot (becomes query (stand query t choice (slot_atom slot))) ≡ one_if (frees query t choice x j slot)
   slot_frees x j named (Link atom most from to) held = refl
-  slot_frees x j named (Site atom group first second) held = by (stand query t choice atom)
+  slot_frees x j named (Site atom groups first second) held = by (stand query t choice atom)
     where
-      slot : IsSlotOf template (Site atom group first second)
-      slot = All-contains (IsSlotOf template) template.slots (Site atom group first second) kept.slots held
+      slot : IsSlotOf template (Site atom groups first second)
+      slot = All-contains (IsSlotOf template) template.slots (Site atom groups first second) kept.slots held
 
       end : Bool
       end = is_end_copy (stand query t choice x) (faces_far query t x atom) j
 
       one : ends_there template pieces (before template pieces x + j) atom first ≡ one_if (eqb first x && end)
-      one = neighbour_frees x j named atom group first second first held ((slot.1.between.neighbours first).1 (inl refl)) slot.1.between.some slot.0.0
+      one = neighbour_frees x j named atom groups first second first held ((slot.1.neighbours first).1 (inl refl)) slot.1.some slot.0.0
 
       two : ends_there template pieces (before template pieces x + j) atom second ≡ one_if (eqb second x && end)
       two = elim (cases_eq second 0) [
         | inl none ↦ (let no : eqb second x ≡ false = (let least = named.0.0 in grind (arith, nat_tests)) in let zero_is : eqb second 0 ≡ true = grind (arith, nat_tests) in rw (no, zero_is) refl)
-        | inr some ↦ neighbour_frees x j named atom group first second second held ((slot.1.between.neighbours second).1 (inr (refl, some))) some slot.0.0
+        | inr some ↦ neighbour_frees x j named atom groups first second second held ((slot.1.neighbours second).1 (inr (refl, some))) some slot.0.0
       ]
 
       both : ends_there template pieces (before template pieces x + j) atom first + ends_there template pieces (before template pieces x + j) atom second
           ≡ one_if ((eqb first x || eqb second x) && end)
       both =
           let together = one_of_two (eqb first x) (eqb second x) end
-          (λ a b. slot.1.between.differ (let p : first ≡ x = grind (arith, nat_tests) in let q : second ≡ x = grind (arith, nat_tests) in p ∙ sym q)) in
+          (λ a b. slot.1.differ (let p : first ≡ x = grind (arith, nat_tests) in let q : second ≡ x = grind (arith, nat_tests) in p ∙ sym q)) in
           omega (arith, one, two, together)
 
-      by : (s : Stand) → frees_of template pieces (before template pieces x + j) (Site atom group first second) (becomes query s) ≡ one_if (is_vacant s && ((eqb first x || eqb second x) && end))
+      by : (s : Stand) → frees_of template pieces (before template pieces x + j) (Site atom groups first second) (becomes query s) ≡ one_if (is_vacant s && ((eqb first x || eqb second x) && end))
       by (Times n) = refl
       by (ByMember u within) = refl
       by (ByHydrogens n) = refl

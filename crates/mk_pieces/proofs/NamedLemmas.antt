@@ -70,18 +70,18 @@ members_placed query fits (Link atom most from to ∷ slots) (repeated n others)
 members_placed query fits (Link atom most from to ∷ slots) (repeated n others) known is (suc (suc k)) u within at = members_placed query fits slots others known.1 is.2 (suc k) u within at
 members_placed query fits (Link atom most from to ∷ slots) (unfilled n others) known is (suc k) u within at = absurd is
 members_placed query fits (Link atom most from to ∷ slots) (filled m inside others) known is (suc k) u within at = absurd is
-members_placed query fits (Site atom group first second ∷ slots) done known is (suc k) u within at = absurd is
-members_placed query fits (Site atom group first second ∷ slots) (repeated n others) known is (suc k) u within at = absurd is
-members_placed query fits (Site atom group first second ∷ slots) (unfilled n others) known is (suc zero) u within at = no_member query u within (Site atom group first second) at
-members_placed query fits (Site atom group first second ∷ slots) (unfilled n others) known is (suc (suc k)) u within at = members_placed query fits slots others known.1 is.1 (suc k) u within at
-members_placed query fits (Site atom group first second ∷ slots) (filled m inside others) known is (suc zero) u within at =
-    let v = member query (Site atom group first second) m in
-    let there = chosen_there query fits atom group first second m known.0.0 known.0.1 is.0 is.1 in
+members_placed query fits (Site atom groups first second ∷ slots) done known is (suc k) u within at = absurd is
+members_placed query fits (Site atom groups first second ∷ slots) (repeated n others) known is (suc k) u within at = absurd is
+members_placed query fits (Site atom groups first second ∷ slots) (unfilled n others) known is (suc zero) u within at = no_member query u within (Site atom groups first second) at
+members_placed query fits (Site atom groups first second ∷ slots) (unfilled n others) known is (suc (suc k)) u within at = members_placed query fits slots others known.1 is.1 (suc k) u within at
+members_placed query fits (Site atom groups first second ∷ slots) (filled m inside others) known is (suc zero) u within at =
+    let v = member query (Site atom groups first second) m in
+    let there = chosen_there query (Site atom groups first second) m is.0 is.1 in
     let same = slots_of_template query v there.0 in
     let inner = members_placed query fits (slots_of query v) inside (rw same (known_slots query fits v there.0)) is.2 in
     as_member query u v within inside at
     (by_members query fits v there.0 inside is.2 (λ x w deeper e. inner (taker (template_of query v) x) w deeper (sym (stand_is query v inside x) ∙ e)))
-members_placed query fits (Site atom group first second ∷ slots) (filled m inside others) known is (suc (suc k)) u within at = members_placed query fits slots others known.1 is.3 (suc k) u within at
+members_placed query fits (Site atom groups first second ∷ slots) (filled m inside others) known is (suc (suc k)) u within at = members_placed query fits slots others known.1 is.3 (suc k) u within at
 
 -- the atoms and bonds of what a template becomes stand where their names say
 pub placed : (query : QueryView) (fits : QueryFits query) (t : ℕ) → t < length query.templates → (choice : Choice) → IsChoice query (slots_of query t) choice → Placed query t choice

@@ -22,10 +22,10 @@ FitsSlot (Link atom most from to) (Copies n) = (1 ≤ n) × (n ≤ most)
 FitsSlot (Link atom most from to) (Member part) = ⊥
 FitsSlot (Link atom most from to) (Hydrogens n) = ⊥
 FitsSlot (Link atom most from to) Nothing = ⊥
-FitsSlot (Site atom group first second) (Copies n) = ⊥
-FitsSlot (Site atom group first second) (Member part) = IsFragment part × (length part.points ≡ neighbours second)
-FitsSlot (Site atom group first second) (Hydrogens n) = n ≡ neighbours second
-FitsSlot (Site atom group first second) Nothing = Unit {0}
+FitsSlot (Site atom groups first second) (Copies n) = ⊥
+FitsSlot (Site atom groups first second) (Member part) = IsFragment part × (length part.points ≡ neighbours second)
+FitsSlot (Site atom groups first second) (Hydrogens n) = n ≡ neighbours second
+FitsSlot (Site atom groups first second) Nothing = Unit {0}
 
 abbrev pub FitSlots : List Slot → List Piece → Type 0
 FitSlots [] [] = Unit {0}
@@ -75,15 +75,15 @@ fit_end (Link atom most from to) (Copies n) x y least fit some = by (eqb atom x 
 fit_end (Link atom most from to) (Member part) x y least fit some = absurd fit
 fit_end (Link atom most from to) (Hydrogens n) x y least fit some = absurd fit
 fit_end (Link atom most from to) Nothing x y least fit some = absurd fit
-fit_end (Site atom group first second) (Copies n) x y least fit some = absurd fit
-fit_end (Site atom group first second) (Member part) x y least fit some = by (eqb atom x && eqb second y) refl
+fit_end (Site atom groups first second) (Copies n) x y least fit some = absurd fit
+fit_end (Site atom groups first second) (Member part) x y least fit some = by (eqb atom x && eqb second y) refl
   where
     by : (far : Bool) → (eqb atom x && eqb second y) ≡ far → (1 ≤ get_or part.points (cond far 1 0) 0) × (get_or part.points (cond far 1 0) 0 ≤ length part.atoms)
     by true is = fit.0.points 1 0 (omega (arith, fit.1, two_neighbours second y least (far_second atom second x y is)))
     by false is = fit.0.points 0 0 (omega (arith, fit.1, some_neighbours second))
-fit_end (Site atom group first second) (Hydrogens n) x y least fit some = by (eqb atom x && eqb second y) refl
+fit_end (Site atom groups first second) (Hydrogens n) x y least fit some = by (eqb atom x && eqb second y) refl
   where
     by : (far : Bool) → (eqb atom x && eqb second y) ≡ far → (1 ≤ cond far 2 1) × (cond far 2 1 ≤ n)
     by true is = (omega arith, omega (arith, fit, two_neighbours second y least (far_second atom second x y is)))
     by false is = (omega arith, omega (arith, fit, some_neighbours second))
-fit_end (Site atom group first second) Nothing x y least fit some = absurd cc
+fit_end (Site atom groups first second) Nothing x y least fit some = absurd cc

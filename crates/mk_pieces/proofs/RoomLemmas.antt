@@ -97,8 +97,8 @@ times_once w (suc c) once = (let none : c ≡ 0 = omega arith in rw none (omega 
 
 -- ---- sizes
 
-open_width : (query : QueryView) (atom group first second : ℕ) → width (left_open query (Site atom group first second)) ≤ neighbours second
-open_width query atom group first second = by (draws_rest_hydrogens query (Site atom group first second))
+open_width : (query : QueryView) (atom : ℕ) (groups : List ℕ) (first second : ℕ) → width (left_open query (Site atom groups first second)) ≤ neighbours second
+open_width query atom groups first second = by (draws_rest_hydrogens query (Site atom groups first second))
   where
     by : (b : Bool) → width (cond b (Hydrogens (neighbours second)) Nothing) ≤ neighbours second
     by true = omega arith
@@ -133,17 +133,17 @@ slots_size query fits size adds template (Link atom most from to ∷ slots) (rep
     omega (arith, rest, times, sum_by-cons (size_of_slot query size template) (Link atom most from to) slots)
 slots_size query fits size adds template (Link atom most from to ∷ slots) (unfilled n others) known is = absurd is
 slots_size query fits size adds template (Link atom most from to ∷ slots) (filled k inside others) known is = absurd is
-slots_size query fits size adds template (Site atom group first second ∷ slots) done known is = absurd is
-slots_size query fits size adds template (Site atom group first second ∷ slots) (repeated n others) known is = absurd is
-slots_size query fits size adds template (Site atom group first second ∷ slots) (unfilled n others) known is =
+slots_size query fits size adds template (Site atom groups first second ∷ slots) done known is = absurd is
+slots_size query fits size adds template (Site atom groups first second ∷ slots) (repeated n others) known is = absurd is
+slots_size query fits size adds template (Site atom groups first second ∷ slots) (unfilled n others) known is =
     let rest = slots_size query fits size adds template slots others known.1 is.1 in
-    let wide = open_width query atom group first second in
-    let times = times_once (width (left_open query (Site atom group first second))) (count_by (λ x. takes_atom template x (Site atom group first second)) (atom_numbers template))
+    let wide = open_width query atom groups first second in
+    let times = times_once (width (left_open query (Site atom groups first second))) (count_by (λ x. takes_atom template x (Site atom groups first second)) (atom_numbers template))
     (count_once atom 1 (length template.atoms)) in
-    omega (arith, rest, wide, times, sum_by-cons (size_of_slot query size template) (Site atom group first second) slots)
-slots_size query fits size adds template (Site atom group first second ∷ slots) (filled k inside others) known is =
-    let u = member query (Site atom group first second) k in
-    let there = chosen_there query fits atom group first second k known.0.0 known.0.1 is.0 is.1 in
+    omega (arith, rest, wide, times, sum_by-cons (size_of_slot query size template) (Site atom groups first second) slots)
+slots_size query fits size adds template (Site atom groups first second ∷ slots) (filled k inside others) known is =
+    let u = member query (Site atom groups first second) k in
+    let there = chosen_there query (Site atom groups first second) k is.0 is.1 in
     let inner = template_of query u in
     let same = slots_of_template query u there.0 in
     let pieces = pieces_of query (slots_of query u) inside in
@@ -151,12 +151,12 @@ slots_size query fits size adds template (Site atom group first second ∷ slots
     let one' : length (spelling inside) + taken_room inner inner.slots pieces (atom_numbers inner) ≤ sum_by (size_of_slot query size inner) inner.slots =
     subst (λ (ss : List Slot). length (spelling inside) + taken_room inner ss pieces (atom_numbers inner) ≤ sum_by (size_of_slot query size inner) ss) same one in
     let whole = by_slots query size adds u inner (template_at query u there.0) pieces (fit_length inner.slots pieces (template_fit query fits u there.0 inside is.2)) (length (spelling inside)) one' in
-    let great = greatest_contains size (members_at query (Site atom group first second)) u there.1 in
+    let great = greatest_contains size (members_at query (Site atom groups first second)) u there.1 in
     let atoms : width (Member (joined inner pieces)) ≡ room inner pieces (length inner.atoms) = atoms_room inner pieces in
     let rest = slots_size query fits size adds template slots others known.1 is.3 in
-    let times = times_once (width (Member (joined inner pieces))) (count_by (λ x. takes_atom template x (Site atom group first second)) (atom_numbers template))
+    let times = times_once (width (Member (joined inner pieces))) (count_by (λ x. takes_atom template x (Site atom groups first second)) (atom_numbers template))
     (count_once atom 1 (length template.atoms)) in
-    omega (arith, rest, whole, great, atoms, times, length-append (spelling inside) (spelling others), sum_by-cons (size_of_slot query size template) (Site atom group first second) slots)
+    omega (arith, rest, whole, great, atoms, times, length-append (spelling inside) (spelling others), sum_by-cons (size_of_slot query size template) (Site atom groups first second) slots)
 
 -- a code and the atoms of its expansion have together no more numbers than the template's size
 pub template_size : (query : QueryView) → QueryFits query → (size : ℕ → ℕ) → IsSizing query size → (t : ℕ) → t < length query.templates → (choice : Choice) → IsChoice query (slots_of query t) choice
@@ -178,7 +178,7 @@ slots_count query size template (slot ∷ slots) = omega (arith, slots_count que
   where
     some : (s : Slot) → 1 ≤ size_of_slot query size template s
     some (Link atom most from to) = omega arith
-    some (Site atom group first second) = omega arith
+    some (Site atom groups first second) = omega arith
 
 -- a piece that fits its slot and isn't wide is small
 point_small : (part : Fragment) → IsFragment part → length part.atoms ≤ 512 → (i : ℕ) → get_or part.points i 0 ≤ 512
@@ -196,18 +196,18 @@ small_piece (Link atom most from to) (Copies n) fit wide = record { bonds = tt; 
 small_piece (Link atom most from to) (Member part) fit wide = absurd fit
 small_piece (Link atom most from to) (Hydrogens n) fit wide = absurd fit
 small_piece (Link atom most from to) Nothing fit wide = absurd fit
-small_piece (Site atom group first second) (Copies n) fit wide = absurd fit
-small_piece (Site atom group first second) (Member part) fit wide = record {
+small_piece (Site atom groups first second) (Copies n) fit wide = absurd fit
+small_piece (Site atom groups first second) (Member part) fit wide = record {
   bonds = λ k d below. (let ends = fit.0.ends k d below in (omega (arith, ends.less, ends.most), omega (arith, ends.most)));
   width = wide;
   ends = λ far. point_small part fit.0 wide (cond far 1 0);
 }
-small_piece (Site atom group first second) (Hydrogens n) fit wide = record { bonds = tt; width = wide; ends = ends }
+small_piece (Site atom groups first second) (Hydrogens n) fit wide = record { bonds = tt; width = wide; ends = ends }
   where
     ends : (far : Bool) → cond far 2 1 ≤ 512
     ends true = omega arith
     ends false = omega arith
-small_piece (Site atom group first second) Nothing fit wide = record { bonds = tt; width = wide; ends = λ far. omega arith }
+small_piece (Site atom groups first second) Nothing fit wide = record { bonds = tt; width = wide; ends = λ far. omega arith }
 
 pub have_room : (query : QueryView) → QueryFits query → (t : ℕ) → IsSmallTemplate query t → (choice : Choice) → IsChoice query (slots_of query t) choice
     → HaveRoom (template_of query t) (pieces_of query (slots_of query t) choice)

@@ -40,9 +40,6 @@ none_among : (template : TemplateView) (x : ℕ) (slots : List Slot) → stand_a
 none_among template x [] = refl
 none_among template x (slot ∷ slots) = refl
 
-nothing_at : (i : ℕ) → get_or [] i (Times 1) ≡ Times 1
-nothing_at i = refl
-
 -- the first of the slots that takes the atom, and the place of what stands for it
 among_is : (template : TemplateView) (x k : ℕ) (slots : List Slot) (stands all : List Stand) → 1 ≤ k → ((i : ℕ) → get_or all (k - 1 + i) (Times 1) ≡ get_or stands i (Times 1))
     → stand_among template x slots stands ≡ stand_numbered all (taker_from template k slots x)
@@ -103,7 +100,7 @@ own_only a y is = by (eqb a y) refl is
 
 far_stands : (slot : Slot) (x y : ℕ) → is_far slot x y ≡ true → slot_atom slot ≡ x
 far_stands (Link atom most from to) x y is = (let e = (both_parts (eqb atom x) (eqb to y) is).0 in grind (arith, nat_tests))
-far_stands (Site atom group first second) x y is = (let e = (both_parts (eqb atom x) (eqb second y) is).0 in grind (arith, nat_tests))
+far_stands (Site atom groups first second) x y is = (let e = (both_parts (eqb atom x) (eqb second y) is).0 in grind (arith, nat_tests))
 
 pub far_is : (template : TemplateView) → IsTemplate template → (x y : ℕ) → list_any (λ slot. is_far slot x y) template.slots ≡ is_far_of template.slots (taker template x) x y
 far_is template kept x y = same_truth (list_any (λ slot. is_far slot x y) template.slots) (is_far_of template.slots (taker template x) x y) forth (back (taker template x) refl)
@@ -147,10 +144,10 @@ module _ (template : TemplateView) (kept : IsTemplate template) where
   never_both : (one other : Slot) (x : ℕ) → Contains template.slots one → Contains template.slots other → slot_atom one < slot_atom other
       → takes_atom template x one ≡ true → is_in_block template other x ≡ true → ⊥
   never_both one (Site a g f o) x at at' up takes there = absurd cc
-  never_both (Site atom group first second) (Link a m f o) x at at' up takes there =
+  never_both (Site atom groups first second) (Link a m f o) x at at' up takes there =
       let same : atom ≡ x = own_only atom x takes in
       let closed = All-contains (HoldsItsBlock template) template.slots (Link a m f o) kept.blocks_closed at' in
-      let marked : x ≡ a = (closed x there).2 (inr (Site atom group first second, at, same)) in
+      let marked : x ≡ a = (closed x there).2 (inr (Site atom groups first second, at, same)) in
       omega (arith, same, marked, up)
   never_both (Link atom most from to) (Link a m f o) x at at' up takes there =
       one_block template kept.blocks_closed atom most from to a m f o x at at' (link_takes template atom most from to x takes) there (λ same. omega (arith, same, up))

@@ -55,7 +55,7 @@ own_taken template slot = (let same : eqb (slot_atom slot) (slot_atom slot) ≡ 
 
 not_taken : (template : TemplateView) (slot other : Slot) → HoldsItsBlock template slot → Contains template.slots other → slot_atom slot < slot_atom other
     → takes_atom template (slot_atom other) slot ≡ false
-not_taken template (Site atom group first second) other closed at less = (let differ : eqb atom (slot_atom other) ≡ false = grind (arith, nat_tests) in rw differ refl)
+not_taken template (Site atom groups first second) other closed at less = (let differ : eqb atom (slot_atom other) ≡ false = grind (arith, nat_tests) in rw differ refl)
 not_taken template (Link atom most from to) other closed at less =
     (let differ : eqb atom (slot_atom other) ≡ false = grind (arith, nat_tests) in rw differ (by (is_in_block template (Link atom most from to) (slot_atom other)) refl))
   where

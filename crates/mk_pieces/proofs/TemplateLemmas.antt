@@ -19,7 +19,7 @@ bonds_within template is = λ k d below.
 
 slot_stands : (template : TemplateView) (slot : Slot) → IsSlotOf template slot → StandsAt template slot
 slot_stands template (Link atom most from to) is = is.0
-slot_stands template (Site atom group first second) is = is.0
+slot_stands template (Site atom groups first second) is = is.0
 
 pub slots_stand : (template : TemplateView) → IsTemplate template → All (StandsAt template) template.slots
 slots_stand template is = λ k d below. slot_stands template (get_or template.slots k d) (is.slots k d below)
@@ -45,11 +45,11 @@ joined_within template is x y (bond, at, joins') =
 
 slot_neighbours : (template : TemplateView) → IsTemplate template → (slot : Slot) → IsSlotOf template slot → HasNeighbours template slot
 slot_neighbours template is (Link atom most from to) slot = tt
-slot_neighbours template is (Site atom group first second) slot = (
-  joined_within template is atom first ((slot.1.between.neighbours first).1 (inl refl)),
+slot_neighbours template is (Site atom groups first second) slot = (
+  joined_within template is atom first ((slot.1.neighbours first).1 (inl refl)),
   elim (cases_eq second 0) [
     | inl none ↦ (omega (arith, none))
-    | inr some ↦ joined_within template is atom second ((slot.1.between.neighbours second).1 (inr (refl, some)))
+    | inr some ↦ joined_within template is atom second ((slot.1.neighbours second).1 (inr (refl, some)))
   ],
 )
 

@@ -146,10 +146,10 @@ module _ (template : TemplateView) (pieces : List Piece) (asked : All HasRange t
   within_both (Link atom most from to) (Member part) least is fit = no_bonds atom
   within_both (Link atom most from to) (Hydrogens n) least is fit = no_bonds atom
   within_both (Link atom most from to) Nothing least is fit = no_bonds atom
-  within_both (Site atom group first second) (Copies n) least is fit = no_bonds atom
-  within_both (Site atom group first second) (Member part) least is fit = member_both atom part least fit.0 (ap width is)
-  within_both (Site atom group first second) (Hydrogens n) least is fit = no_bonds atom
-  within_both (Site atom group first second) Nothing least is fit = no_bonds atom
+  within_both (Site atom groups first second) (Copies n) least is fit = no_bonds atom
+  within_both (Site atom groups first second) (Member part) least is fit = member_both atom part least fit.0 (ap width is)
+  within_both (Site atom groups first second) (Hydrogens n) least is fit = no_bonds atom
+  within_both (Site atom groups first second) Nothing least is fit = no_bonds atom
 
 -- ---- slot after slot
 

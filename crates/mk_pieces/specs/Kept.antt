@@ -10,15 +10,10 @@ use Rattle.mk_model.specs.QueryFits.{IsAtomOf, IsBetweenNamed, HoldsItsBlock, Is
 use Rattle.mk_model.specs.Templates.{TemplateView, query_edges, slot_atom}
 use Rattle.mk_model.specs.Tests.{IsBondInRange, IsTestInRange}
 
--- a site bears the label of a group from 1 to 32, and its neighbours are those that it names
-pub record IsSite (template : TemplateView) (atom group first second : ℕ) : Type 0 where
-  pub known : (1 ≤ group) × (group ≤ 32)
-  pub between : IsBetweenNamed template atom first second
-
--- each slot is a link or a site of the template
+-- each slot is a link, or a site whose neighbours are those that it names
 abbrev pub IsSlotOf : TemplateView → Slot → Type 0
 IsSlotOf template (Link atom most from to) = IsAtomOf template atom × IsLink template most atom from to
-IsSlotOf template (Site atom group first second) = IsAtomOf template atom × IsSite template atom group first second
+IsSlotOf template (Site atom groups first second) = IsAtomOf template atom × IsBetweenNamed template atom first second
 
 -- what is kept of each template
 pub record IsTemplate (template : TemplateView) : Type 0 where

@@ -145,7 +145,7 @@ is_vacant Vacant = true
 -- the slot is a vacant site with atom x as a neighbour, and the bond between them would end at copy j
 abbrev pub frees : QueryView → ℕ → Choice → ℕ → ℕ → Slot → Bool
 frees query t choice x j (Link atom most from to) = false
-frees query t choice x j (Site atom group first second) =
+frees query t choice x j (Site atom groups first second) =
     is_vacant (stand query t choice atom)
     && (((first == x) || (second == x)) && is_end_copy (stand query t choice x) (faces_far query t x atom) j)
 

@@ -53,7 +53,7 @@ pub record AreEndsWithin (count : ℕ) (bond : QueryBond) : Type 0 where
 -- the neighbours of a site are atoms of the template, where they are not 0
 abbrev pub HasNeighbours : TemplateView → Slot → Type 0
 HasNeighbours template (Link atom most from to) = Unit {0}
-HasNeighbours template (Site atom group first second) = (first ≤ length template.atoms) × (second ≤ length template.atoms)
+HasNeighbours template (Site atom groups first second) = (first ≤ length template.atoms) × (second ≤ length template.atoms)
 
 -- there is such a template, and its size is at most 512
 pub record IsSmallTemplate (query : QueryView) (t : ℕ) : Type 0 where

@@ -150,18 +150,6 @@ numbers-row atoms bonds rows x numbers are least most at =
     let list : numbers ≡ numbers_at bonds (x - 1 + 1) = cc in
     list ∙ ap (numbers_at bonds) back
 
--- before the first
-pub IsFollowed-none : (bonds : List Edge) (nodes : List Node) (x top : ℕ) (numbers stack : List ℕ)
-    → IsReaching bonds nodes stack top x → IsFollowed bonds nodes (length stack) x top numbers 0 nodes stack
-IsFollowed-none bonds nodes x top numbers stack reaching = record {
-  reaching = reaching;
-  same = refl;
-  followed = λ k w below. absurd (omega arith);
-  stay = λ z reached. reached;
-  fewer = omega arith;
-  size = refl;
-}
-
 module _ (bonds : List Edge) (old : List Node) (waiting x top : ℕ) (numbers : List ℕ) (i : ℕ) (nodes : List Node)
     (stack : List ℕ) (y : ℕ) (top_is : (node old x).root ≡ top) (some : top ≢ 0)
     (joined : Joins bonds (get_or numbers i 0 - 1) x y)

@@ -107,11 +107,6 @@ Further-more bonds s label two old new stamp z kept led further y is =
     (λ other b w joined takes. kept w (further y (sym (get_or-set_other two z y stamp 0 other) ∙ is) b w joined takes))
     (cases_eq y z)
 
--- more stamps in `three` do no harm
-pub Further-kept : (bonds : List Edge) (s : ℕ → Bool) (label : ℕ) (two old new : List ℕ) (stamp : ℕ)
-    → KeepsStamps stamp old new → Further bonds s label two old stamp → Further bonds s label two new stamp
-Further-kept bonds s label two old new stamp kept further y is b w joined takes = kept w (further y is b w joined takes)
-
 -- ---- what the stamps tell
 
 -- the stamps of a search tell which paths can't be closed

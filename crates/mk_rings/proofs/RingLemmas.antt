@@ -50,14 +50,6 @@ pub record IsMarkedUpTo (bonds : List Edge) (nodes : List Node) (n : ℕ) (marks
   pub outside : (b : ℕ) → b < n → IsOutside nodes b → IsMarked marks b
   pub parted : (b u v x t : ℕ) → b < n → Joins bonds b u v → IsOutside nodes b → HangsBy nodes x t → Parts nodes x u v → IsMarked marks t
 
--- before the first
-pub IsMarkedUpTo-none : (bonds : List Edge) (nodes : List Node) (marks : List Bool) → ((b : ℕ) → ¬ (IsMarked marks b)) → IsMarkedUpTo bonds nodes 0 marks
-IsMarkedUpTo-none bonds nodes marks none = record {
-  sound = λ b marked. absurd (none b marked);
-  outside = λ b below. absurd (omega arith);
-  parted = λ b u v x t below. absurd (omega arith);
-}
-
 -- a bond by which an atom hangs is passed over
 pub IsMarkedUpTo-inside : (bonds : List Edge) (nodes : List Node) (n x : ℕ) (marks : List Bool) → HangsBy nodes x n → IsMarkedUpTo bonds nodes n marks → IsMarkedUpTo bonds nodes (n + 1) marks
 IsMarkedUpTo-inside bonds nodes n x marks by m = record {

@@ -150,17 +150,7 @@ closes_none bonds s b edge d two three stamp at least most reached opened c =
     let Q : Edge → Type 0 = λ e. CanClose bonds s e.first (e.second ∷ e.first ∷ []) e.second (3 - e.kind) 4 in
     opened (subst P (sym here) skip) (subst Q (sym there) c.closes)
 
--- a bond of another type closes none
-pub closes-other : (bonds : List Edge) (s : ℕ → Bool) (b : ℕ) (d : Edge) → (get_or bonds b d).kind ≢ 1 → (get_or bonds b d).kind ≢ 2 → ClosesRing bonds s b → ⊥
-closes-other bonds s b d one two c =
-    let at : get_or bonds b d ≡ c.edge = get_or-from_get bonds b d c.edge c.at in
-    ⊎_elim (λ e. one (ap (λ m. m.kind) at ∙ e)) (λ e. two (ap (λ m. m.kind) at ∙ e)) c.kind
-
 -- ---- marks that spread
-
--- the old marks alone
-pub Spreads-none : (bonds : List Edge) (marks : List Bool) → Spreads bonds marks marks
-Spreads-none bonds marks = record { kept = λ b marked. marked; within = λ s closed lie. lie; no_more = omega arith }
 
 -- on from marks that spread to others
 pub Spreads-on : (bonds : List Edge) (a b c : List Bool) → Spreads bonds a b → Spreads bonds b c → Spreads bonds a c
@@ -186,20 +176,6 @@ Spreads-more atoms bonds old n marks ends below new closes before =
     } in
     Spreads-on bonds old marks (set marks n true) before one
 
--- one mark more, of a bond that follows from the old marks
-pub Spreads-follows : (bonds : List Edge) (old : List Bool) (n : ℕ) (marks : List Bool) → n < length marks
-    → get_or marks n false ≡ false → Follows bonds old n → Spreads bonds old marks
-    → Spreads bonds old (set marks n true)
-Spreads-follows bonds old n marks below new follows before = record {
-  kept = λ b marked. marked-kept marks n b below (before.kept b marked);
-  within = λ s closed lie b marked.
-      ⊎_elim
-      (λ same. let P : ℕ → Type 0 = λ k. IsTrue (s k) in subst P (sym same) (follows s closed lie))
-      (λ other. before.within s closed lie b (sym (get_or-set_other marks n b true false other) ∙ marked))
-      (cases_eq b n);
-  no_more = omega (arith, unmarked-set marks n below new, before.no_more);
-}
-
 -- the bonds of a ring that takes the labels follow from the marks
 pub Follows-round : (bonds : List Edge) (marks : List Bool) (l : ℕ) (x k : ℕ → ℕ) → (l ≡ 1) ⊎ (l ≡ 2) → IsRound bonds (set_of marks) l x k → (i : ℕ) → i < 6 → Follows bonds marks (k i)
 Follows-round bonds marks l x k one_or_two round i below s closed lie =
@@ -209,22 +185,6 @@ Follows-round bonds marks l x k one_or_two round i below s closed lie =
     subst P (r.5 ∙ ap k place) (closed_round bonds (set_of marks) s lie closed r.0 r.1 r.2 r.3 r.4)
 
 -- ---- marks that grow
-
--- no mark more
-pub Grows-none : (bonds : List Edge) (marks : List Bool) → Grows bonds marks marks false
-Grows-none bonds marks = record { spreads = Spreads-none bonds marks; more = λ t. absurd (true≢false (sym t)); same = λ _. refl }
-
--- more marks, and then none
-pub Grows-still : (bonds : List Edge) (a b c : List Bool) (f : Bool) → Grows bonds a b f → Grows bonds b c false → Grows bonds a c f
-Grows-still bonds a b c f first second = let is : c ≡ b = second.same refl in let P : List Bool → Type 0 = λ m. Grows bonds a m f in subst P (sym is) first
-
--- and then some
-pub Grows-on : (bonds : List Edge) (a b c : List Bool) (f : Bool) → Grows bonds a b f → Grows bonds b c true → Grows bonds a c true
-Grows-on bonds a b c f first second = record {
-  spreads = Spreads-on bonds a b c first.spreads second.spreads;
-  more = λ t. omega (arith, second.more refl, first.spreads.no_more);
-  same = λ e. absurd (true≢false e);
-}
 
 -- one mark more, of a bond that closes a six-ring
 pub Grows-more : (atoms : ℕ) (bonds : List Edge) (old : List Bool) (n : ℕ) (marks : List Bool) (f : Bool)
@@ -242,38 +202,9 @@ Grows-more atoms bonds old n marks f ends below new closes before = record {
 abbrev pub IsDoneFrom : List Edge → List Bool → ℕ → ℕ → ℕ → Type 0
 IsDoneFrom bonds marks start kind b = (edge : Edge) → slice_get bonds b ≡ Some edge → edge.first ≡ start → edge.kind ≡ kind → IsDone bonds marks b
 
--- a bond that begins at the start is done where it is for both types, since one of another type closes no ring
-pub both_types : (bonds : List Edge) (marks : List Bool) (start b : ℕ) (edge : Edge) → slice_get bonds b ≡ Some edge
-    → edge.first ≡ start → IsDoneFrom bonds marks start 1 b → IsDoneFrom bonds marks start 2 b → IsDone bonds marks b
-both_types bonds marks start b edge at first one two =
-    ⊎_elim (λ e. one edge at first e)
-    (λ ne. ⊎_elim (λ e. two edge at first e)
-    (λ nf. inr (λ c.
-    let same : Some c.edge ≡ Some edge = sym c.at ∙ at in
-    let is : c.edge ≡ edge = cc in
-    ⊎_elim (λ k. ne (ap (λ m. m.kind) (sym is) ∙ k)) (λ k. nf (ap (λ m. m.kind) (sym is) ∙ k)) c.kind))
-    (eq_or_not edge.kind 2))
-    (eq_or_not edge.kind 1)
-  where
-    eq_or_not : (m n : ℕ) → (m ≡ n) ⊎ (m ≢ n)
-    eq_or_not m n = cases_eq m n
-
 -- among the first n numbers of the start, the bonds of this type that begin there are done, unless some were found
 abbrev pub AreDoneFrom : List Edge → List Bool → ℕ → ℕ → List ℕ → ℕ → Bool → Type 0
 AreDoneFrom bonds marks start kind numbers n found = found ≡ false → (i : ℕ) → i < n → IsDoneFrom bonds marks start kind (get_or numbers i 0 - 1)
-
--- one number more
-pub AreDoneFrom-more : (bonds : List Edge) (marks : List Bool) (start kind : ℕ) (numbers : List ℕ) (n b : ℕ)
-    (found : Bool) → b ≡ get_or numbers n 0 - 1 → (found ≡ false → IsDoneFrom bonds marks start kind b)
-    → AreDoneFrom bonds marks start kind numbers n found → AreDoneFrom bonds marks start kind numbers (n + 1) found
-AreDoneFrom-more bonds marks start kind numbers n b found is done each = λ none i below.
-    ⊎_elim
-    (λ earlier. each none i earlier)
-    (λ last.
-    let here : n ≡ i = omega arith in
-    let P : ℕ → Type 0 = λ k. IsDoneFrom bonds marks start kind k in
-    subst P (is ∙ ap (λ k. get_or numbers k 0 - 1) here) (done none))
-    (cases_lt i n)
 
 -- behind the last number all are done
 pub AreDoneFrom-all : (bonds : List Edge) (marks : List Bool) (start kind : ℕ) (numbers : List ℕ) (n : ℕ)
@@ -288,13 +219,6 @@ AreDoneFrom-all bonds marks start kind numbers n are all each b edge at first is
 -- the bonds whose first atom is among the first n atoms are done, unless some were found
 abbrev pub AreDone : List Edge → List Bool → ℕ → Bool → Type 0
 AreDone bonds marks n found = found ≡ false → (b : ℕ) (edge : Edge) → slice_get bonds b ≡ Some edge → edge.first ≤ n → IsDone bonds marks b
-
--- one atom more
-pub AreDone-more : (bonds : List Edge) (marks : List Bool) (n : ℕ) (found : Bool)
-    → (found ≡ false → (b : ℕ) (edge : Edge) → slice_get bonds b ≡ Some edge → edge.first ≡ n + 1
-    → IsDone bonds marks b) → AreDone bonds marks n found → AreDone bonds marks (n + 1) found
-AreDone-more bonds marks n found here each none b edge at most =
-    ⊎_elim (λ same. here none b edge at same) (λ other. each none b edge at (omega (arith, other, most))) (cases_eq edge.first (n + 1))
 
 -- behind the last atom all are done
 pub AreDone-all : (atoms : ℕ) (bonds : List Edge) (marks : List Bool) (n : ℕ) → AreBetween atoms bonds → atoms ≤ n → AreDone bonds marks n false → (b : ℕ) → b < length bonds → IsDone bonds marks b

@@ -11,14 +11,6 @@ use Rattle.mk_model.specs.Edges.{AreBetween, IsBetween, Joins}
 use Rattle.mk_rings.proofs.WayLemmas.{same_ends}
 use Rattle.mk_rings.proofs.ForestLemmas.{over-self, over-other, over-parent, over-no_deeper}
 
--- a place whose atom was reached is in the list
-pub reached_within : (nodes : List Node) (x : ℕ) → (node nodes x).root ≢ 0 → x < length nodes
-reached_within nodes x reached =
-    ⊎_elim
-    (λ below. below)
-    (λ past. absurd (reached (ap (λ n. n.root) (get_or_past nodes x (record { parent = 0; via = 0; depth = 0; root = 0 }) past))))
-    (cases_lt x (length nodes))
-
 -- a mark that is set is there
 pub marked-here : (marks : List Bool) (b : ℕ) → b < length marks → IsMarked (set marks b true) b
 marked-here marks b below = get_or-set_same marks b true false below
