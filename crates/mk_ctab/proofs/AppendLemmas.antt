@@ -45,11 +45,6 @@ as_spaced old new z fits one = one ∙ ap (λ (n : ℤ). old ++ spaced n) (passe
 
 -- ---- the last step, where there was memory for it
 
--- a text
-pub slice_last : {E : Type 0} (answer : Result (Unit {0}) E) (new last text : List ℕ) → last ≡ cond (is_ok answer) (new ++ text) new → OnOk answer (last ≡ new ++ text)
-slice_last (Ok done) new last text one = one
-slice_last (Err fault) new last text one = tt
-
 -- LF behind the text
 pub ended_last : {E : Type 0} (answer : Result (Unit {0}) E) (old new last text : List ℕ)
     → last ≡ cond (is_ok answer) (new ++ 10 ∷ []) new → new ≡ old ++ text → OnOk answer (last ≡ old ++ ended text)
@@ -74,13 +69,6 @@ as_last (Ok done) old new text other same one = as_text old new text other same 
 as_last (Err fault) old new text other same one = tt
 
 -- ---- loops
-
--- the text of one entry more
-pub entry_more : {X : Type 0} (text : X → List ℕ) (xs : List X) (i : ℕ) (d : X) (old new last : List ℕ)
-    → new ≡ old ++ flat_map text (take i xs) → last ≡ new ++ text (get_or xs i d) → i < length xs → last ≡ old ++ flat_map text (take (i + 1) xs)
-entry_more text xs i d old new last one two within =
-    two ∙ ap (λ (ys : List ℕ). ys ++ text (get_or xs i d)) one ∙ flat_map_more text old (take i xs) (get_or xs i d)
-    ∙ ap (λ ys. old ++ flat_map text ys) (sym (take_more xs i d within))
 
 -- one blank more
 pub blank_more : (old new last : List ℕ) (n m : ℕ) → new ≡ old ++ replicate n 32 → last ≡ new ++ 32 ∷ [] → m ≡ n + 1 → last ≡ old ++ replicate m 32

@@ -57,12 +57,6 @@ kept_is_no_end (kinds.Passed n) h = absurd h
 kept_is_no_end kinds.End h = absurd h
 kept_is_no_end p h = refl
 
--- and has nothing behind it
-pub after_kept : (p : Property) → IsKept p → after_property p ≡ give (Some p)
-after_kept (kinds.Passed n) h = absurd h
-after_kept kinds.End h = absurd h
-after_kept p h = refl
-
 -- ---- of a line
 
 -- a line before the end doesn't show the end

@@ -26,19 +26,13 @@ mod raw;
 mod rows;
 mod table_lines;
 mod table_reading;
-#[cfg(test)]
-mod table_tests;
 mod table_walk;
 mod values;
 mod writing;
-#[cfg(test)]
-mod writing_checks;
 mod writing_columns;
 mod writing_laws;
 mod writing_lines;
 mod writing_properties;
-#[cfg(test)]
-mod writing_tests;
 
 pub use bonds::{first_crowded_atom, first_no_new_bond};
 pub use charges::{Electrons, charges_and_radicals};

@@ -109,15 +109,6 @@ pub record ArePassed (bytes : List ℕ) (at passed : ℕ) : Type 0 where
   pub symbols : symbols_behind 0 (drop at bytes) ≡ drop passed (symbols_behind 0 bytes)
   pub count : passed + length (symbols_behind 0 (drop at bytes)) ≡ length (symbols_behind 0 bytes)
 
--- none before the first
-pub passed_none : (bytes : List ℕ) → AreWhole 0 bytes → ArePassed bytes 0 0
-passed_none bytes whole = record { within = omega arith; few = omega arith; whole = whole; symbols = refl; count = omega arith }
-
--- a symbol is left where not all are passed
-pub symbol_left : (bytes : List ℕ) (at passed : ℕ) → ArePassed bytes at passed → passed < length (symbols_behind 0 bytes) → at < length bytes
-symbol_left bytes at passed so_far more =
-    omega (arith, so_far.within, length-drop at bytes, some_bytes (drop at bytes) (omega (arith, so_far.count)))
-
 -- one more
 pub passed_more : (bytes : List ℕ) (at passed next : ℕ) → ArePassed bytes at passed → IsSymbolAt bytes at next → ArePassed bytes next (passed + 1)
 passed_more bytes at passed next so_far one =
@@ -130,23 +121,6 @@ passed_more bytes at passed next so_far one =
       symbols = sym (ap (λ (rest : List (List ℕ)). drop 1 rest) left) ∙ drop-drop 1 passed all;
       count = omega (arith, so_far.count, ap length one.symbols);
     }
-
--- all at the end
-pub passed_all : (bytes : List ℕ) (at passed : ℕ) → ArePassed bytes at passed → length bytes ≤ at → passed ≡ length (symbols_behind 0 bytes)
-passed_all bytes at passed so_far end = by_rest (drop at bytes) so_far.count (omega (arith, length-drop at bytes))
-  where
-    by_rest : (rest : List ℕ) → passed + length (symbols_behind 0 rest) ≡ length (symbols_behind 0 bytes) → length rest ≡ 0 → passed ≡ length (symbols_behind 0 bytes)
-    by_rest [] count none = omega (arith, count)
-    by_rest (byte ∷ rest) count none = absurd (omega (arith, none))
-
--- the symbol behind so many
-pub symbol_found : (bytes : List ℕ) (at index next : ℕ)
-    → symbols_behind 0 (drop at bytes) ≡ drop index (symbols_behind 0 bytes) → IsSymbolAt bytes at next
-    → slice_range bytes (at + 1) next ≡ slice_index_or (symbols_behind 0 bytes) index []
-symbol_found bytes at index next passed one =
-    let all = symbols_behind 0 bytes in
-    let here : index + 0 ≡ index = omega arith in
-    ap (λ (left : List (List ℕ)). get_or left 0 []) (sym one.symbols ∙ passed) ∙ get_or-drop index all 0 [] ∙ ap (λ (i : ℕ). get_or all i []) here
 
 -- ---- symbols of a line
 

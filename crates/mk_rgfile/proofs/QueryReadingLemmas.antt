@@ -31,22 +31,6 @@ are_lines text spans are within starts = record { are = are; within = within; st
 
 -- ---- blank lines to the end
 
--- a line that is blank
-pub blank_yes : (lines : List Line) (at : ℕ) → at < length lines → are_blank (get_or lines at []) ≡ true → read_all are_blank (drop at lines) ≡ read_all are_blank (drop (at + 1) lines)
-blank_yes lines at lt blank = ap (read_all are_blank) (drop_more lines at [] lt) ∙ rw blank refl
-
--- a line that isn't
-pub blank_no : (lines : List Line) (at : ℕ) → at < length lines → are_blank (get_or lines at []) ≡ false → StopsAtLine lines false (at + 1) (read_all are_blank (drop at lines))
-blank_no lines at lt blank =
-    let split = drop_more lines at [] lt in
-    let here : (at + 1) - 1 ≡ at = omega arith in
-    let stop : read_all are_blank (drop at lines) ≡ Stop false (drop at lines) = rw split (rw blank refl) in
-    record { counted = (omega arith, omega arith); stop = stop ∙ ap (λ (i : ℕ). let r : Reading Line (Unit {0}) = Stop false (drop i lines) in r) (sym here) }
-
--- none is left
-pub blank_past : (lines : List Line) (at : ℕ) → length lines ≤ at → read_all are_blank (drop at lines) ≡ Took tt []
-blank_past lines at le = ap (read_all are_blank) (drop_all at lines le)
-
 -- ---- a keyword that ends parts
 
 -- it is read

@@ -14,8 +14,6 @@
 mod query_laws;
 mod query_lines;
 mod query_reading;
-#[cfg(test)]
-mod query_tests;
 mod raw_query;
 
 pub use mk_ctab::{RawTable, TableFault};

@@ -14,8 +14,6 @@ mod molecule_file;
 mod raw_record;
 mod sdfile;
 mod sdfile_laws;
-#[cfg(test)]
-mod sdfile_tests;
 
 pub use mk_ctab::{RawTable, TableFault};
 pub use mk_text::{Bytes, Memory};

@@ -44,10 +44,6 @@ same_texts : (lines : List Line) (f g : List Line → List ℕ) → ((ls : List 
 same_texts [] f g same = refl
 same_texts (l ∷ lines) f g same = same_texts_by f g l lines (same (l ∷ [])) (same_texts lines (λ ls. f (l ∷ ls)) (λ ls. g (l ∷ ls)) (λ ls. same (l ∷ ls))) (goes_on l) (closes l)
 
--- nothing has been read
-pub texts_start : (lines : List Line) → texts.read lines ≡ read_behind [] lines
-texts_start lines = refl
-
 -- what the text of a line is in the joint text
 abbrev pub piece : Line → List ℕ
 piece line = piece_of (text_behind line)
@@ -89,13 +85,6 @@ pub one_line : (lines : List Line) (at : ℕ) (d : Line) → at < length lines �
     → TakesLines lines (at + 1) (text_behind (get_or lines at d)) (texts.read (drop at lines))
 one_line lines at d lt logical dash =
     subst (λ (text : List ℕ). TakesLines lines (at + 1) text (texts.read (drop at lines))) (whole_piece (text_behind (get_or lines at d)) dash) (texts_end [] lines at d lt logical dash)
-
--- no line is left
-pub texts_past : (joint : List ℕ) (lines : List Line) (at : ℕ) → at ≡ length lines → StopsAtLine lines false (at + 1) (read_behind joint (drop at lines))
-texts_past joint lines at e =
-    let none : drop at lines ≡ [] = drop_all at lines (omega arith) in
-    let here : (at + 1) - 1 ≡ at = omega arith in
-    record { counted = (omega arith, omega arith); stop = ap (read_behind joint) none ∙ ap (Stop false) (sym (ap (λ (k : ℕ). drop k lines) here ∙ none)) }
 
 -- ---- one step
 

@@ -16,8 +16,6 @@ mod logical_lines;
 mod next_word;
 mod reading;
 mod v3000;
-#[cfg(test)]
-mod v3000_tests;
 mod walk;
 mod word_lines;
 
