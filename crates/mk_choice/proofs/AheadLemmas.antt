@@ -1,18 +1,19 @@
 -- What the open slots can still add, slot by slot.
 --     nothing_is      no slots add nothing
---     link_ahead, site_ahead      one slot more in front
+--     slot_ahead, behind_ahead    one slot more in front, and without it
+--     most_next       how often a group can be filled at one of some slots more
 --     ahead_next      the next of some slots, behind those before it
-use Rattle.std.proofs.Common.{◌≡◌, ℕ, zero, suc, ◌+◌, ◌-◌, ◌*◌, ◌<◌, ◌≤◌, Bool, true, false, cond, List, [], ◌∷◌, ◌++◌, length, get_or, take, replicate, refl, ap, arith}
-use Rattle.std.specs.Prelude.{◌==◌, slice_index}
-use Rattle.std.proofs.lemmas.Bool.Decides.{nat_tests}
+use Rattle.std.proofs.Common.{◌≡◌, ℕ, zero, suc, ◌+◌, ◌-◌, ◌*◌, ◌<◌, ◌≤◌, cond, List, [], ◌∷◌, ◌++◌, length, get_or, take, replicate, refl, ap, arith}
+use Rattle.std.specs.Prelude.{slice_index}
 use Rattle.std.proofs.lemmas.List.{take_more}
 use Rattle.std.proofs.lemmas.List.Sums.{count_by-le-length, sum_by-append, sum_by-cons}
 use Rattle.mk_model.specs.declared.template.Slot.{Slot}
-use Rattle.mk_model.specs.declared.template.Slot.TheVariants.{Link, Site}
-use Rattle.mk_model.specs.Labels.{bears_label}
+use Rattle.mk_model.specs.Labels.{bears_label, site_labels}
+use Rattle.mk_model.specs.Sizes.{greatest}
 use Rattle.mk_choice.specs.declared.pending.Ahead.{Ahead}
 use Rattle.mk_choice.specs.Ahead.{IsAhead, open_sites}
 use Rattle.mk_choice.specs.Bounds.{bound_in, most_filled, most_filled_at}
+use Rattle.mk_choice.specs.Search.{borne}
 
 -- ---- sums over slots
 
@@ -36,13 +37,14 @@ open_few slots g = count_by-le-length (λ slot. bears_label slot g) slots
 
 -- and a slot adds at most 513
 module _ (most : List ℕ) (capped : (i : ℕ) → slice_index most i ≤ 513) where
-  at_one : (slot : Slot) (g : ℕ) → most_filled_at (bound_in most) g slot ≤ 513
-  at_one (Link atom n from to) g = omega arith
-  at_one (Site atom group first second) g = capped ((group - 1) * 32 + (g - 1))
+  -- at any label
+  at_labels : (labels : List ℕ) (g : ℕ) → greatest (λ h. bound_in most h g) labels ≤ 513
+  at_labels [] g = omega arith
+  at_labels (h ∷ labels) g = omega (arith, capped ((h - 1) * 32 + (g - 1)), at_labels labels g)
 
   filled_few : (slots : List Slot) (g : ℕ) → most_filled (bound_in most) slots g ≤ 513 * length slots
   filled_few [] g = omega arith
-  filled_few (slot ∷ slots) g = omega (arith, filled_first (bound_in most) slot slots g, at_one slot g, filled_few slots g)
+  filled_few (slot ∷ slots) g = omega (arith, filled_first (bound_in most) slot slots g, at_labels (site_labels slot) g, filled_few slots g)
 
 -- ---- no slots
 
@@ -54,57 +56,52 @@ at_zero (suc n) (suc i) = at_zero n i
 pub nothing_is : (most : List ℕ) → IsAhead most [] (record { sites = replicate 32 0; filled = replicate 32 0 })
 nothing_is most = record { sites = λ i below. at_zero 32 i; filled = λ i below. at_zero 32 i }
 
--- ---- a link adds nothing
+-- ---- a slot adds one of each of its labels, and of their bounds the greatest
 
-module _ (most : List ℕ) (atom n from to : ℕ) (ahead : Ahead) (slots : List Slot) where
-  pub link_ahead : IsAhead most slots ahead → IsAhead most (Link atom n from to ∷ slots) ahead
-  link_ahead is = record {
-    sites = λ i below. omega (arith, is.sites i below, open_first (Link atom n from to) slots (i + 1));
-    filled = λ i below. omega (arith, is.filled i below, filled_first (bound_in most) (Link atom n from to) slots (i + 1));
-  }
+module _ (most : List ℕ) (slot : Slot) (labels : List ℕ) (are : labels ≡ site_labels slot) (ahead : Ahead) (sites filled : List ℕ) (slots : List Slot) where
+  sites_first : (g : ℕ) → open_sites (slot ∷ slots) g ≡ borne labels g + open_sites slots g
+  sites_first g = (let same : borne labels g ≡ borne (site_labels slot) g = ap (λ (gs : List ℕ). borne gs g) are in omega (arith, open_first slot slots g, same))
 
--- ---- a site adds one of its group, and a row of bounds
+  most_first : (g : ℕ) → most_filled (bound_in most) (slot ∷ slots) g ≡ greatest (λ h. bound_in most h g) labels + most_filled (bound_in most) slots g
+  most_first g =
+      let same : greatest (λ h. bound_in most h g) labels ≡ greatest (λ h. bound_in most h g) (site_labels slot) = ap (greatest (λ h. bound_in most h g)) are in
+      omega (arith, filled_first (bound_in most) slot slots g, same)
 
--- the number of a group, and its place
-same_label : (group i : ℕ) → 1 ≤ group → ◌≡◌ {A = ℕ} (cond (group == i + 1) 1 0) (cond (group - 1 == i) 1 0)
-same_label group i least = by_test (group == i + 1) refl
-  where
-    by_test : (b : Bool) → (group == i + 1) ≡ b → ◌≡◌ {A = ℕ} (cond b 1 0) (cond (group - 1 == i) 1 0)
-    by_test true e = (let test : (group - 1 == i) ≡ true = grind (arith, nat_tests) in rw test refl)
-    by_test false e = (let test : (group - 1 == i) ≡ false = grind (arith, nat_tests) in rw test refl)
-
-module _ (most : List ℕ) (atom group first second : ℕ) (least : 1 ≤ group) (ahead : Ahead) (sites filled : List ℕ) (slots : List Slot) where
-  -- the row of bounds at a place
-  in_row : (i : ℕ) → bound_in most group (i + 1) ≡ slice_index most ((group - 1) * 32 + i)
-  in_row i = (let place : i + 1 - 1 ≡ i = omega arith in ap (λ (j : ℕ). slice_index most ((group - 1) * 32 + j)) place)
-
-  pub site_ahead : ((i : ℕ) → slice_index most i ≤ 513)
-      → ((i : ℕ) → i < 32 → slice_index ahead.sites i ≤ 511 → slice_index sites i ≡ slice_index ahead.sites i + cond (group - 1 == i) 1 0)
-      → ((i : ℕ) → i < 32 → slice_index ahead.filled i + slice_index most ((group - 1) * 32 + i) ≤ 1000000
-      → slice_index filled i ≡ slice_index ahead.filled i + slice_index most ((group - 1) * 32 + i))
-      → length slots ≤ 511 → IsAhead most slots ahead → IsAhead most (Site atom group first second ∷ slots) (record { sites = sites; filled = filled })
-  site_ahead capped more raised few is = record {
+  pub slot_ahead : ((i : ℕ) → slice_index most i ≤ 513)
+      → ((i : ℕ) → i < 32 → slice_index ahead.sites i ≤ 511 → slice_index sites i ≡ slice_index ahead.sites i + borne labels (i + 1))
+      → ((i : ℕ) → i < 32 → slice_index ahead.filled i + greatest (λ h. bound_in most h (i + 1)) labels ≤ 1000000
+      → slice_index filled i ≡ slice_index ahead.filled i + greatest (λ h. bound_in most h (i + 1)) labels)
+      → length slots ≤ 511 → IsAhead most slots ahead → IsAhead most (slot ∷ slots) (record { sites = sites; filled = filled })
+  slot_ahead capped more raised few is = record {
     sites = λ i below.
         let here = is.sites i below in
-        omega (arith, here, more i below (omega (arith, here, open_few slots (i + 1), few)), open_first (Site atom group first second) slots (i + 1), same_label group i least);
+        omega (arith, here, more i below (omega (arith, here, open_few slots (i + 1), few)), sites_first (i + 1));
     filled = λ i below.
         let here = is.filled i below in
         omega (
           arith,
           here,
-          raised i below (omega (
-            arith,
-            here,
-            filled_few most capped slots (i + 1),
-            few,
-            capped ((group - 1) * 32 + i),
-          )),
-          filled_first (bound_in most) (Site atom group first second) slots (i + 1),
-          in_row i,
+          raised i below (omega (arith, here, filled_few most capped slots (i + 1), few, at_labels most capped labels (i + 1))),
+          most_first (i + 1),
         );
   }
 
+  -- and takes them away again
+  pub behind_ahead : ((i : ℕ) → i < 32 → slice_index sites i ≡ slice_index ahead.sites i - borne labels (i + 1))
+      → ((i : ℕ) → i < 32 → slice_index filled i ≡ slice_index ahead.filled i - greatest (λ h. bound_in most h (i + 1)) labels)
+      → IsAhead most (slot ∷ slots) ahead → IsAhead most slots (record { sites = sites; filled = filled })
+  behind_ahead less lowered is = record {
+    sites = λ i below. omega (arith, is.sites i below, less i below, sites_first (i + 1));
+    filled = λ i below. omega (arith, is.filled i below, lowered i below, most_first (i + 1));
+  }
+
 -- ---- the next of some slots
+
+pub most_next : (bound : ℕ → ℕ → ℕ) (slots : List Slot) (i : ℕ) (d : Slot) (g : ℕ) → i < length slots
+    → most_filled bound (take (i + 1) slots) g ≡ most_filled bound (take i slots) g + most_filled_at bound g (get_or slots i d)
+most_next bound slots i d g below =
+    let more : most_filled bound (take (i + 1) slots) g ≡ most_filled bound (take i slots ++ get_or slots i d ∷ []) g = ap (λ (xs : List Slot). most_filled bound xs g) (take_more slots i d below) in
+    omega (arith, more, filled_both bound (take i slots) (get_or slots i d ∷ []) g, filled_first bound (get_or slots i d) [] g)
 
 pub ahead_next : (most : List ℕ) (slots behind : List Slot) (i : ℕ) (d : Slot) (ahead : Ahead) → i < length slots
     → IsAhead most (get_or slots i d ∷ (take i slots ++ behind)) ahead → IsAhead most (take (i + 1) slots ++ behind) ahead

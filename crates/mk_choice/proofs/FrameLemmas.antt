@@ -5,14 +5,14 @@
 --     goes_with                   what begins behind the numbers goes on with a number at the first open slot
 --     begins_at, valid_behind, completes_behind      codes that begin with the numbers
 --     IsSought, IsWentBack, HasNoneUpTo      what loops over frames keep
-use Rattle.std.proofs.Common.{◌≡◌, ℕ, zero, suc, ◌+◌, ◌-◌, ◌<◌, ◌≤◌, ◌&&◌, List, [], ◌∷◌, ◌++◌, length, get_or, replicate, Some, refl, sym, ap, subst, ◌∙◌, arith, append_assoc, length-append, take}
+use Rattle.std.proofs.Common.{◌≡◌, ℕ, zero, suc, ◌+◌, ◌-◌, ◌<◌, ◌≤◌, List, [], ◌∷◌, ◌++◌, length, get_or, replicate, Some, refl, sym, ap, subst, ◌∙◌, arith, append_assoc, length-append, take}
 use Rattle.std.specs.Prelude.{false, slice_get}
 use Rattle.std.proofs.lemmas.List.Sums.{count_by-le-length}
 use Rattle.mk_text.specs.Rising.{IsBelow}
 use Rattle.mk_model.specs.declared.query.Count.{Count}
 use Rattle.mk_model.specs.declared.template.Slot.{Slot}
 use Rattle.mk_model.specs.declared.template.Slot.TheVariants.{Link, Site}
-use Rattle.mk_model.specs.Labels.{bears_label, is_filled_by}
+use Rattle.mk_model.specs.Labels.{bears_label, holds_member_of}
 use Rattle.mk_model.specs.Logic.{IsValid, Standing, filled_of, sites_of}
 use Rattle.mk_model.specs.Nodes.{BeginsCode, SameFrom}
 use Rattle.mk_model.specs.OpenSlots.{Chooses, most_at, opened, standing_at, standing_by}
@@ -112,7 +112,7 @@ module _ (query : QueryView) where
   -- no more sites stand than numbers are chosen
   at_most_one : (slot : Slot) (k : ℕ) → length (standing_at slot k) ≤ 1
   at_most_one (Link atom most from to) k = omega arith
-  at_most_one (Site atom group first second) k = omega arith
+  at_most_one (Site atom groups first second) k = omega arith
 
   pub standing_few : (slots : List Slot) (numbers : List ℕ) → length (standing_by query slots numbers) ≤ length numbers
   standing_few slots [] = omega arith
@@ -148,7 +148,7 @@ counts_few query counts standing k all few sites filled = record {
       let sites_here = sites_there counts (i + 1) (get_or counts i d) here in
       let filled_here = filled_there counts (i + 1) (get_or counts i d) here in (
         omega (arith, few, sites_here, sites (i + 1) (omega arith), count_by-le-length (λ (one : Standing). bears_label one.site (i + 1)) standing),
-        omega (arith, few, filled_here, filled (i + 1) (omega arith), count_by-le-length (λ (one : Standing). bears_label one.site (i + 1) && is_filled_by query one.site one.number) standing),
+        omega (arith, few, filled_here, filled (i + 1) (omega arith), count_by-le-length (λ (one : Standing). holds_member_of query one.site one.number (i + 1)) standing),
       );
 }
 

@@ -1,3 +1,5 @@
+pub mod SlotListLemmas
+pub mod LabelLemmas
 pub mod FrontLemmas
 pub mod SlotLemmas
 pub mod CountLemmas

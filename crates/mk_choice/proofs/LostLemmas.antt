@@ -1,6 +1,6 @@
 -- Where a group can't be filled as often as its range says, nothing that is chosen further is allowed.
 --     lost        its range is asked for, a site of it stands or will stand, and the range is missed
-use Rattle.std.proofs.Common.{◌≡◌, ℕ, ◌+◌, ◌<◌, ◌≤◌, ◌&&◌, ◌||◌, inl, inr, Bool, true, false, cond, List, [], ◌∷◌, ◌++◌, refl, arith}
+use Rattle.std.proofs.Common.{◌≡◌, ℕ, ◌+◌, ◌<◌, ◌≤◌, ◌&&◌, ◌||◌, inl, inr, Bool, true, false, List, [], ◌∷◌, ◌++◌, refl, arith, All}
 use Rattle.std.specs.Prelude.{nat_le, nat_lt}
 use Rattle.std.specs.List.{list_all}
 use Rattle.std.proofs.lemmas.Bool.Decides.{nat_tests}
@@ -9,19 +9,18 @@ use Rattle.mk_model.specs.declared.group.Group.{Group}
 use Rattle.mk_model.specs.declared.group.Interval.{Interval}
 use Rattle.mk_model.specs.declared.query.Count.{Count}
 use Rattle.mk_model.specs.declared.template.Slot.{Slot}
-use Rattle.mk_model.specs.declared.template.Slot.TheVariants.{Link, Site}
 use Rattle.mk_model.specs.Queries.{QueryView}
-use Rattle.mk_model.specs.Labels.{bears_label}
+use Rattle.mk_model.specs.QueryFits.{QueryFits}
 use Rattle.mk_model.specs.Logic.{IsAsked, IsGroupAt, is_in_range, sites_of}
 use Rattle.mk_model.specs.OpenSlots.{Chooses, opened, standing_at, standing_by}
 use Rattle.mk_model.proofs.ForCallers.{all_pass, some_passes}
 use Rattle.mk_logic.specs.Counts.{filled_at, sites_at}
 use Rattle.mk_choice.specs.Ahead.{open_sites}
 use Rattle.mk_choice.specs.Bounds.{AreBounds, Misses, bound_in, lies_apart, most_filled}
-use Rattle.mk_choice.specs.Search.{CantComplete, Completes, filled_with, sites_with}
+use Rattle.mk_choice.specs.Search.{CantComplete, Completes, IsKnown, filled_with, sites_with}
 use Rattle.mk_choice.proofs.AheadLemmas.{open_both, open_first}
 use Rattle.mk_choice.proofs.BoundLemmas.{filled_within}
-use Rattle.mk_choice.proofs.CountLemmas.{sites_both}
+use Rattle.mk_choice.proofs.CountLemmas.{sites_both, stands_at}
 
 -- ---- where more is filled
 
@@ -54,11 +53,6 @@ apart_all range low high n from to apart within =
 
 -- ---- the open sites will stand
 
--- a slot stands whatever number is chosen there
-stands_at : (slot : Slot) (k g : ℕ) → ◌≡◌ {A = ℕ} (sites_of (standing_at slot k) g) (cond (bears_label slot g) 1 0)
-stands_at (Link atom most from to) k g = refl
-stands_at (Site atom group first second) k g = omega arith
-
 sites_stand : (query : QueryView) (g : ℕ) (slots : List Slot) (code : List ℕ) → Chooses query slots code → open_sites slots g ≤ sites_of (standing_by query slots code) g
 sites_stand query g [] code chooses = omega arith
 sites_stand query g (slot ∷ slots) [] chooses = absurd chooses
@@ -70,7 +64,7 @@ sites_stand query g (slot ∷ slots) (k ∷ code) chooses =
 
 -- ---- what can't be completed
 
-module _ (query : QueryView) (counts : List Count) (slots : List Slot) (g : ℕ) (group : Group) (at : IsGroupAt query g group)
+module _ (query : QueryView) (fits : QueryFits query) (counts : List Count) (slots : List Slot) (known : All IsKnown slots) (g : ℕ) (group : Group) (at : IsGroupAt query g group)
     (stands : 0 < sites_at counts g + open_sites slots g) (asked : IsAsked query (filled_at counts) g) where
   -- in the end the number of its filled sites is in the range
   in_range : (others : List ℕ) → Completes query counts slots others → is_in_range group.range (filled_with query counts (standing_by query slots others) g) ≡ true
@@ -82,6 +76,6 @@ module _ (query : QueryView) (counts : List Count) (slots : List Slot) (g : ℕ)
   lost most are high (inl above) others is =
       above_all group.range (filled_at counts g) (filled_with query counts (standing_by query slots others) g) (omega arith) above (in_range others is)
   lost most are high (inr (small, apart)) others is =
-      let within = filled_within query (bound_in most) are.bounds g at.0 high slots others is.chooses small in
+      let within = filled_within query fits (bound_in most) are.bounds g at.0 high slots known others is.chooses small in
       apart_all group.range (filled_at counts g) (filled_at counts g + most_filled (bound_in most) slots g) (filled_with query counts (standing_by query slots others) g)
       (omega arith) (omega (arith, within)) apart (in_range others is)

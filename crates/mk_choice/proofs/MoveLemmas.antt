@@ -233,7 +233,7 @@ module _ (query : QueryView) (most : List ℕ) (frames : Frames) (are : AreFrame
   pub counts_within : (k : ℕ) → frames.depth ≤ k → AreCounts k frames.counts
   counts_within k up =
       counts_grow (length (numbers_of frames)) k frames.counts (omega (arith, length_is, up))
-      (counts_at query most (numbers_of frames) (take frames.depth frames.slots.items) (open_of frames) frames.counts frames.ahead are.stands)
+      (counts_at query most (numbers_of frames) (take frames.depth frames.slots) (open_of frames) frames.counts frames.ahead are.stands)
 
   -- with a number at the first open slot there is room for it
   pub room_for_more : 1 ≤ most_first query (open_of frames) → frames.depth < 512
@@ -247,6 +247,6 @@ module _ (query : QueryView) (most : List ℕ) (frames : Frames) (are : AreFrame
             length_is,
             room_left query slot rest (length (numbers_of frames)) (subst (All IsKnown) is are.stands.known)
                 (subst (λ (slots : List Slot). LeavesRoom query slots (length (numbers_of frames))) is
-                (room_at query most (numbers_of frames) (take frames.depth frames.slots.items) (open_of frames)
+                (room_at query most (numbers_of frames) (take frames.depth frames.slots) (open_of frames)
                 frames.counts frames.ahead are.stands)),
           )

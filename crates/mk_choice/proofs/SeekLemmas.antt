@@ -28,7 +28,7 @@ use Rattle.mk_choice.proofs.TurnLemmas.{no_empty_code}
 module _ (query : QueryView) (most : List ℕ) where
   -- the frames of no numbers
   pub frames_none : (new : Frames) → QueryFits query → AreBounds query most → All IsKnown (slots_of query 0) → new.depth ≡ 0 → open_of new ≡ slots_of query 0
-      → length new.numbers.items ≡ 512 → length new.slots.items ≡ 512 → length new.waiting.items ≡ 512 → new.first ≤ 512
+      → length new.numbers.items ≡ 512 → length new.slots ≡ 512 → length new.waiting ≡ 512 → new.first ≤ 512
       → length new.counts ≡ 32 → AreNone new.counts → HasRows new.ahead → IsAhead most (slots_of query 0) new.ahead → AreFrames query most new
   frames_none new fits bounds known depth rest numbers_room slots_room open_room first_within groups none rows is_ahead = record {
     stands = rw (depth, rest) (stands_none query most new.counts new.ahead fits bounds known groups none rows is_ahead);

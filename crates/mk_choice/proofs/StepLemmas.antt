@@ -3,8 +3,10 @@
 --     first_known, ahead_is, few_down, frames_down      one number more
 --     last_is, slot_known, few_up, number_least, frames_up      one number less
 --     few_before, few_onward, room_onward, frames_onward      another last number
-use Rattle.std.proofs.Common.{◌≡◌, ℕ, ◌+◌, ◌-◌, ◌≤◌, inl, inr, List, [], ◌∷◌, ◌++◌, drop, length, get_or, take, refl, sym, ap, subst, ◌∙◌, arith, length-append, All}
+use Rattle.std.proofs.Common.{◌≡◌, ℕ, ◌+◌, ◌-◌, ◌<◌, ◌≤◌, inl, inr, List, [], ◌∷◌, ◌++◌, drop, length, get_or, take, Some, refl, sym, ap, subst, ◌∙◌, arith, length-append, All}
+use Rattle.std.specs.Prelude.{IfSome, slice_get}
 use Rattle.std.proofs.lemmas.Bool.{cases_lt}
+use Rattle.std.proofs.lemmas.Option.{get_or_from_slice_get}
 use Rattle.std.proofs.lemmas.List.{drop-drop, drop_all, drop_at, drop_more, length-drop, length-take-le, take_more}
 use Rattle.mk_model.specs.declared.query.Count.{Count}
 use Rattle.mk_model.specs.declared.template.Slot.{Slot}
@@ -18,28 +20,46 @@ use Rattle.mk_choice.specs.Frames.{AreFrames, StandsAt, most_first, numbers_of, 
 use Rattle.mk_choice.specs.Search.{AreCounts, IsKnown}
 use Rattle.mk_choice.proofs.FrameLemmas.{LastOf, opens_last, room_at, room_behind}
 use Rattle.mk_choice.proofs.MoveLemmas.{all_behind, counts_before, last_known, room_for_more, stands_down, stands_onward, stands_up}
-use Rattle.mk_choice.proofs.SlotLemmas.{few_open, known_first, known_next, leaves_more}
+use Rattle.mk_choice.proofs.SlotLemmas.{few_open, known_dropped, known_first, known_next, known_taken, leaves_more}
 use Rattle.std.proofs.lemmas.List.Elements.{All-cons}
 
 -- the slots chosen
 abbrev pub chosen_of : Frames → List Slot
-chosen_of frames = take frames.depth frames.slots.items
+chosen_of frames = take frames.depth frames.slots
 
 module _ (query : QueryView) (most : List ℕ) (frames : Frames) (are : AreFrames query most frames) where
   -- ---- one number more
 
   -- the first open slot, and those behind it
-  pub open_first : (slot : Slot) → 1 ≤ most_first query (open_of frames) → slot ≡ get_or frames.waiting.items frames.first slot
-      → open_of frames ≡ slot ∷ drop (frames.first + 1) frames.waiting.items
+  pub open_first : (slot : Slot) → 1 ≤ most_first query (open_of frames) → slice_get frames.waiting frames.first ≡ Some slot
+      → open_of frames ≡ slot ∷ drop (frames.first + 1) frames.waiting
   open_first slot some is =
       elim (cases_lt frames.first 512) [
         | inl below ↦
-            drop_more frames.waiting.items frames.first slot (omega (arith, below, are.open_room))
-            ∙ ap (λ (s : Slot). s ∷ drop (frames.first + 1) frames.waiting.items) (sym is)
+            drop_more frames.waiting frames.first slot (omega (arith, below, are.open_room))
+            ∙ ap (λ (s : Slot). s ∷ drop (frames.first + 1) frames.waiting) (get_or_from_slice_get frames.waiting frames.first slot slot is)
         | inr past ↦
-            let none : open_of frames ≡ [] = drop_all frames.first frames.waiting.items (omega (arith, past, are.open_room)) in
+            let none : open_of frames ≡ [] = drop_all frames.first frames.waiting (omega (arith, past, are.open_room)) in
             absurd (omega (arith, some, ap (most_first query) none))
       ]
+
+  -- it is known
+  pub known_open : IfSome (slice_get frames.waiting frames.first) IsKnown
+  known_open = known_dropped frames.waiting frames.first are.stands.known
+
+  -- and within the list
+  pub within_open : 1 ≤ most_first query (open_of frames) → frames.first < length frames.waiting
+  within_open some =
+      elim (cases_lt frames.first (length frames.waiting)) [
+        | inl below ↦ below
+        | inr past ↦
+            let none : open_of frames ≡ [] = drop_all frames.first frames.waiting past in
+            absurd (omega (arith, some, ap (most_first query) none))
+      ]
+
+  -- a slot that was chosen at is known
+  pub known_chosen : 1 ≤ frames.depth → IfSome (slice_get frames.slots (frames.depth - 1)) IsKnown
+  known_chosen some = known_taken frames.slots frames.depth (frames.depth - 1) (omega (arith, some)) are.stands.chosen_known
 
   module _ (slot : Slot) (behind : List Slot) (is : open_of frames ≡ slot ∷ behind) where
     stands_is : StandsAt query most (numbers_of frames) (chosen_of frames) (slot ∷ behind) frames.counts frames.ahead
@@ -63,7 +83,7 @@ module _ (query : QueryView) (most : List ℕ) (frames : Frames) (are : AreFrame
           (room_at query most (numbers_of frames) (chosen_of frames) (slot ∷ behind) frames.counts frames.ahead stands_is))
 
       pub frames_down : (new : Frames) → numbers_of new ≡ numbers_of frames ++ number ∷ [] → chosen_of new ≡ chosen_of frames ++ slot ∷ [] → open_of new ≡ opened query slot number ++ behind
-          → new.depth ≡ frames.depth + 1 → length new.numbers.items ≡ 512 → length new.slots.items ≡ 512 → length new.waiting.items ≡ 512 → new.first ≤ 512
+          → new.depth ≡ frames.depth + 1 → length new.numbers.items ≡ 512 → length new.slots ≡ 512 → length new.waiting ≡ 512 → new.first ≤ 512
           → length new.counts ≡ 32 → ((g : ℕ) → 1 ≤ g → sites_at new.counts g ≡ sites_at frames.counts g + sites_of (standing_at slot number) g)
           → ((g : ℕ) → 1 ≤ g → filled_at new.counts g ≡ filled_at frames.counts g + filled_of query (standing_at slot number) g)
           → HasRows new.ahead → IsAhead most (opened query slot number ++ behind) new.ahead → AreFrames query most new
@@ -82,12 +102,12 @@ module _ (query : QueryView) (most : List ℕ) (frames : Frames) (are : AreFrame
 
   module _ (some : 1 ≤ frames.depth) (number : ℕ) (slot : Slot)
       (number_is : number ≡ get_or frames.numbers.items (frames.depth - 1) number)
-      (slot_is : slot ≡ get_or frames.slots.items (frames.depth - 1) slot) where
+      (slot_is : slice_get frames.slots (frames.depth - 1) ≡ Some slot) where
     abbrev pub before : List ℕ
     before = take (frames.depth - 1) frames.numbers.items
 
     abbrev pub chosen_before : List Slot
-    chosen_before = take (frames.depth - 1) frames.slots.items
+    chosen_before = take (frames.depth - 1) frames.slots
 
     one_more : frames.depth ≡ frames.depth - 1 + 1
     one_more = omega (arith, some)
@@ -100,9 +120,9 @@ module _ (query : QueryView) (most : List ℕ) (frames : Frames) (are : AreFrame
 
     chosen_are : chosen_of frames ≡ chosen_before ++ slot ∷ []
     chosen_are =
-        ap (λ (n : ℕ). take n frames.slots.items) one_more
-        ∙ take_more frames.slots.items (frames.depth - 1) slot (omega (arith, are.within, are.slots_room, some))
-        ∙ ap (λ (s : Slot). take (frames.depth - 1) frames.slots.items ++ s ∷ []) (sym slot_is)
+        ap (λ (n : ℕ). take n frames.slots) one_more
+        ∙ take_more frames.slots (frames.depth - 1) slot (omega (arith, are.within, are.slots_room, some))
+        ∙ ap (λ (s : Slot). take (frames.depth - 1) frames.slots ++ s ∷ []) (get_or_from_slice_get frames.slots (frames.depth - 1) slot slot slot_is)
 
     stands_last : StandsAt query most (before ++ number ∷ []) (chosen_before ++ slot ∷ []) (open_of frames) frames.counts frames.ahead
     stands_last =
@@ -144,7 +164,7 @@ module _ (query : QueryView) (most : List ℕ) (frames : Frames) (are : AreFrame
           arith,
           length-append (opened query slot number) last.behind,
           ap length last.whole,
-          length-drop frames.first frames.waiting.items,
+          length-drop frames.first frames.waiting,
           are.open_room,
           are.first_within,
         )
@@ -159,9 +179,9 @@ module _ (query : QueryView) (most : List ℕ) (frames : Frames) (are : AreFrame
     ahead_last = subst (λ (rest : List Slot). IsAhead most rest frames.ahead) (sym last.whole) stands_last.is_ahead
 
     -- behind the slots that the number opens
-    pub rest_last : drop (frames.first + length (opened query slot number)) frames.waiting.items ≡ behind_last_slot
+    pub rest_last : drop (frames.first + length (opened query slot number)) frames.waiting ≡ behind_last_slot
     rest_last =
-        sym (drop-drop (length (opened query slot number)) frames.first frames.waiting.items)
+        sym (drop-drop (length (opened query slot number)) frames.first frames.waiting)
         ∙ ap (drop (length (opened query slot number))) (sym last.whole)
         ∙ drop_at (opened query slot number) last.behind (length (opened query slot number)) refl
 
@@ -187,14 +207,14 @@ module _ (query : QueryView) (most : List ℕ) (frames : Frames) (are : AreFrame
         pub room_onward : length (opened query slot j) ≤ frames.first + length (opened query slot number)
         room_onward = omega (arith, few_onward, open_long, length-append (opened query slot j) last.behind)
 
-        pub frames_onward : (new : Frames) → numbers_of new ≡ before ++ j ∷ [] → new.slots.items ≡ frames.slots.items → open_of new ≡ opened query slot j ++ last.behind
-            → new.depth ≡ frames.depth → length new.numbers.items ≡ 512 → length new.waiting.items ≡ 512 → new.first ≤ 512
+        pub frames_onward : (new : Frames) → numbers_of new ≡ before ++ j ∷ [] → new.slots ≡ frames.slots → open_of new ≡ opened query slot j ++ last.behind
+            → new.depth ≡ frames.depth → length new.numbers.items ≡ 512 → length new.waiting ≡ 512 → new.first ≤ 512
             → length new.counts ≡ 32 → ((g : ℕ) → 1 ≤ g → sites_at new.counts g ≡ sites_at first g + sites_of (standing_at slot j) g)
             → ((g : ℕ) → 1 ≤ g → filled_at new.counts g ≡ filled_at first g + filled_of query (standing_at slot j) g)
             → HasRows new.ahead → IsAhead most (opened query slot j ++ last.behind) new.ahead → AreFrames query most new
         frames_onward new numbers slots rest depth numbers_room open_room first_within groups' sites' filled' rows is_ahead =
-            let chosen : take new.depth new.slots.items ≡ chosen_before ++ slot ∷ [] =
-            ap (λ (n : ℕ). take n new.slots.items) depth ∙ ap (take frames.depth) slots ∙ chosen_are in
+            let chosen : take new.depth new.slots ≡ chosen_before ++ slot ∷ [] =
+            ap (λ (n : ℕ). take n new.slots) depth ∙ ap (take frames.depth) slots ∙ chosen_are in
             record {
               stands = rw (numbers, chosen, rest)
                   (stands_onward query most before chosen_before slot last.behind number frames.counts first new.counts
@@ -207,8 +227,8 @@ module _ (query : QueryView) (most : List ℕ) (frames : Frames) (are : AreFrame
               first_within = first_within;
             }
 
-    pub frames_up : (new : Frames) → new.numbers.items ≡ frames.numbers.items → new.slots.items ≡ frames.slots.items → open_of new ≡ slot ∷ behind_last_slot
-        → new.depth ≡ frames.depth - 1 → length new.waiting.items ≡ 512 → new.first ≤ 512
+    pub frames_up : (new : Frames) → new.numbers.items ≡ frames.numbers.items → new.slots ≡ frames.slots → open_of new ≡ slot ∷ behind_last_slot
+        → new.depth ≡ frames.depth - 1 → length new.waiting ≡ 512 → new.first ≤ 512
         → length new.counts ≡ 32 → ((g : ℕ) → 1 ≤ g → sites_at new.counts g ≡ sites_at frames.counts g - sites_of (standing_at slot number) g)
         → ((g : ℕ) → 1 ≤ g → filled_at new.counts g ≡ filled_at frames.counts g - filled_of query (standing_at slot number) g)
         → HasRows new.ahead → IsAhead most (slot ∷ behind_last_slot) new.ahead → AreFrames query most new

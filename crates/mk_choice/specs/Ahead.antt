@@ -3,14 +3,14 @@
 --     HasRows ahead               the lists are of 32 numbers
 --     IsAhead most slots ahead    they are those of these slots, by these bounds
 --     IsLost query counts ahead   whatever the open slots are, nothing completes the counts
-use Rattle.std.specs.Prelude.{◌≡◌, ◌<◌, ◌+◌, ℕ, List, length, count_by, slice_index}
+use Rattle.std.specs.Prelude.{◌≡◌, ◌<◌, ◌+◌, ℕ, List, length, All, count_by, slice_index}
 use Rattle.mk_model.specs.declared.template.Slot.{Slot}
 use Rattle.mk_model.specs.declared.query.Count.{Count}
 use Rattle.mk_model.specs.Queries.{QueryView}
 use Rattle.mk_model.specs.Labels.{bears_label}
 use Rattle.mk_choice.specs.declared.pending.Ahead.{Ahead}
 use Rattle.mk_choice.specs.Bounds.{AreBounds, bound_in, most_filled}
-use Rattle.mk_choice.specs.Search.{CantComplete}
+use Rattle.mk_choice.specs.Search.{CantComplete, IsKnown}
 
 -- how many of the slots are sites of group g
 abbrev pub open_sites : List Slot → ℕ → ℕ
@@ -31,4 +31,4 @@ pub record IsAhead (most : List ℕ) (slots : List Slot) (ahead : Ahead) : Type 
 -- allowed
 abbrev pub IsLost : QueryView → List Count → Ahead → Type 0
 IsLost query counts ahead =
-    (most : List ℕ) (slots : List Slot) → AreBounds query most → IsAhead most slots ahead → CantComplete query counts slots
+    (most : List ℕ) (slots : List Slot) → AreBounds query most → All IsKnown slots → IsAhead most slots ahead → CantComplete query counts slots

@@ -9,17 +9,18 @@ use Rattle.std.specs.Prelude.{◌≡◌, ◌≤◌, ◌<◌, ◌+◌, ◌-◌, �
 use Rattle.std.specs.List.{list_all}
 use Rattle.mk_model.specs.declared.group.Interval.{Interval}
 use Rattle.mk_model.specs.declared.template.Slot.{Slot}
-use Rattle.mk_model.specs.declared.template.Slot.TheVariants.{Link, Site}
+use Rattle.mk_model.specs.Labels.{site_labels}
 use Rattle.mk_model.specs.Queries.{QueryView, slots_of, members_of}
+use Rattle.mk_model.specs.Sizes.{greatest}
 
 -- the bound for groups h and g
 abbrev pub bound_in : List ℕ → ℕ → ℕ → ℕ
 bound_in most h g = slice_index most ((h - 1) * 32 + (g - 1))
 
--- at one slot group g is filled at most so often
+-- at one slot group g is filled at most so often: as often as by a member of that label by which
+-- it is filled most often
 abbrev pub most_filled_at : (ℕ → ℕ → ℕ) → ℕ → Slot → ℕ
-most_filled_at bound g (Link atom most from to) = 0
-most_filled_at bound g (Site atom group first second) = bound group g
+most_filled_at bound g slot = greatest (λ h. bound h g) (site_labels slot)
 
 -- at these slots group g is filled at most so often
 abbrev pub most_filled : (ℕ → ℕ → ℕ) → List Slot → ℕ → ℕ

@@ -52,15 +52,15 @@ numbers_of frames = take frames.depth frames.numbers.items
 
 -- the slots that are open behind them
 abbrev pub open_of : Frames → List Slot
-open_of frames = drop frames.first frames.waiting.items
+open_of frames = drop frames.first frames.waiting
 
 -- the frames are those of the numbers, with room for 512
 pub record AreFrames (query : QueryView) (most : List ℕ) (frames : Frames) : Type 0 where
-  pub stands : StandsAt query most (numbers_of frames) (take frames.depth frames.slots.items) (open_of frames) frames.counts frames.ahead
+  pub stands : StandsAt query most (numbers_of frames) (take frames.depth frames.slots) (open_of frames) frames.counts frames.ahead
   pub within : frames.depth ≤ 512
   pub numbers_room : length frames.numbers.items ≡ 512
-  pub slots_room : length frames.slots.items ≡ 512
-  pub open_room : length frames.waiting.items ≡ 512
+  pub slots_room : length frames.slots ≡ 512
+  pub open_room : length frames.waiting ≡ 512
   pub first_within : frames.first ≤ 512
 
 -- the greatest number at the first open slot

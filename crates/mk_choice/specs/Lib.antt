@@ -1,4 +1,5 @@
 pub mod Pending
+pub mod SlotLists
 pub mod Search
 pub mod Bounds
 pub mod Ahead

@@ -1,5 +1,6 @@
 -- For the code: what is asked of the numbers that are chosen behind others.
 --     IsKnown slot                    a slot as queries have them
+--     borne labels g                  how often a group is among the labels: once, or not
 --     Completes query counts slots others    the others choose at the open slots, and make the
 --                                            counts allowed
 --     CantComplete query counts slots        nothing does
@@ -7,19 +8,31 @@
 --     AreNone counts                  counts of nothing
 --     LeavesRoom query slots k        what can be chosen at the open slots has room behind k
 --                                     numbers
-use Rattle.std.specs.Prelude.{◌≡◌, ◌≤◌, ◌+◌, ℕ, List, length, All}
+use Rattle.std.specs.Prelude.{◌≡◌, ◌≤◌, ◌+◌, ◌==◌, ℕ, List, length, All, if◌then◌else◌}
+use Rattle.std.specs.List.{list_any}
 use Rattle.mk_model.specs.declared.query.Count.{Count}
 use Rattle.mk_model.specs.declared.template.Slot.{Slot}
 use Rattle.mk_model.specs.declared.template.Slot.TheVariants.{Link, Site}
+use Rattle.mk_model.specs.Labels.{site_labels}
 use Rattle.mk_model.specs.Queries.{QueryView}
+use Rattle.mk_model.specs.QueryFits.{AreRisingLabels}
 use Rattle.mk_model.specs.Logic.{IsAllowed, Standing, sites_of, filled_of}
 use Rattle.mk_model.specs.OpenSlots.{Chooses, standing_by}
 use Rattle.mk_logic.specs.Counts.{filled_at, sites_at}
 
--- a link may stand once, and a site bears the label of one of 32 groups
-abbrev pub IsKnown : Slot → Type 0
-IsKnown (Link atom most from to) = 1 ≤ most
-IsKnown (Site atom group first second) = (1 ≤ group) × (group ≤ 32)
+-- a link may stand once; nothing is asked of a site here
+abbrev pub MayStand : Slot → Type 0
+MayStand (Link atom most from to) = 1 ≤ most
+MayStand (Site atom groups first second) = Unit {0}
+
+-- a link may stand once, and the labels of a site rise and are numbers of the 32 groups
+pub record IsKnown (slot : Slot) : Type 0 where
+  pub labels : AreRisingLabels (site_labels slot)
+  pub stands : MayStand slot
+
+-- 1 where group g is among the labels, and 0 where it isn't
+abbrev pub borne : List ℕ → ℕ → ℕ
+borne labels g = if list_any (λ h. h == g) labels then 1 else 0
 
 -- the sites of group g that are counted, and those among some more
 abbrev pub sites_with : List Count → List Standing → ℕ → ℕ

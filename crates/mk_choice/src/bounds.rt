@@ -1,9 +1,12 @@
 // How often each group can be filled at most by what fills a site of each other.
-ghost use Rattle.std.specs.Prelude.{◌≡◌, ◌≤◌, ◌<◌, ◌+◌, ◌*◌, ◌==◌, ℕ, Contains, IfOk, IsTrue, length, min, slice_index, if◌then◌else◌};
+ghost use Rattle.std.specs.Prelude.{◌≡◌, ◌≤◌, ◌<◌, ◌+◌, ◌*◌, ◌==◌, ℕ, All, Contains, IfOk, IsTrue, length, min, slice_index, if◌then◌else◌};
 ghost use Rattle.mk_model.specs.Queries.{members_of, slots_of};
-ghost use Rattle.mk_choice.specs.Bounds.{AreBounds, IsBound, IsRowOfBounds, bound_in, most_filled, most_filled_at};
+ghost use Rattle.mk_model.specs.QueryFits.{AreRisingLabels};
+ghost use Rattle.mk_model.specs.Sizes.{greatest};
+ghost use Rattle.mk_choice.specs.Bounds.{AreBounds, IsBound, IsRowOfBounds, bound_in, most_filled};
+ghost use Rattle.mk_choice.specs.Search.{IsKnown};
 
-use crate::numbers::{members_of, slots_of};
+use crate::numbers::slots_of;
 use mk_model::{Memory, Query, Slot};
 use std::alloc::Global;
 
@@ -105,8 +108,8 @@ fn needed(query: &Query, most: &[u32], h: usize, g: usize) -> u32
 {
     let own = if h == g { 1u32 } else { 0 };
     let mut greatest = 0u32;
-    for u in members_of(query, h as u8 + 1) {
-        let here = (own + most_at_slots(slots_of(query, *u), most, g)).min(513);
+    for u in query.members_of(h as u32 + 1) {
+        let here = (own + most_at_slots(slots_of(query, *u as usize), most, g)).min(513);
         greatest = greatest.max(here);
     }
     greatest
@@ -116,26 +119,28 @@ fn needed(query: &Query, most: &[u32], h: usize, g: usize) -> u32
 fn most_at_slots(slots: &[Slot], most: &[u32], g: usize) -> u32
     requires size { length most.now ≡ 1024 }
     requires column { g < 32 }
+    requires known { All IsKnown slots.now }
     ensures { result ≡ min 513 (most_filled (bound_in most.now) slots.now (g + 1)) }
 {
     let mut sum = 0u32;
     for slot in slots {
-        sum = sum.saturating_add(most_at_slot(*slot, most, g)).min(513);
+        sum = sum
+            .saturating_add(most_at_labels(slot.labels(), most, g))
+            .min(513);
     }
     sum
 }
 
-// How often it can be filled at one.
-fn most_at_slot(slot: Slot, most: &[u32], g: usize) -> u32
+/// How often it can be filled at a site of some labels.
+pub fn most_at_labels(labels: &[u32], most: &[u32], g: usize) -> u32
     requires size { length most.now ≡ 1024 }
     requires column { g < 32 }
-    ensures { result ≡ most_filled_at (bound_in most.now) (g + 1) slot }
+    requires labels { AreRisingLabels labels.now }
+    ensures { result ≡ greatest (λ h. bound_in most.now h (g + 1)) labels.now }
 {
-    match slot {
-        Slot::Link { .. } => 0,
-        Slot::Site { group, .. } => most
-            .get((group as usize).saturating_sub(1) * 32 + g)
-            .copied()
-            .unwrap_or(0),
+    let mut greatest = 0u32;
+    for h in labels {
+        greatest = greatest.max(most[(*h as usize - 1) * 32 + g]);
     }
+    greatest
 }

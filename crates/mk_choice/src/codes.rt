@@ -1,10 +1,12 @@
 // The valid codes of a query: the least from a front on, and all from a place on, one after
 // another.
-ghost use Rattle.std.specs.Prelude.{◌≡◌, ◌+◌, ◌<◌, ◌≤◌, ◌⊎◌, ◌∷◌, ◌++◌, [], IfOk, IsTrue, false, length, take};
+ghost use Rattle.std.specs.Prelude.{◌≡◌, ◌+◌, ◌<◌, ◌≤◌, ◌==◌, ◌⊎◌, ◌∷◌, ◌++◌, [], ℕ, List, IfErr, IfOk, IsOk, IsTrue, false, if◌then◌else◌, length, take};
 ghost use Rattle.mk_model.specs.Queries.{slots_of};
 ghost use Rattle.std.specs.Borrow.{sem};
 ghost use Rattle.mk_text.specs.Rising.{IsLeastFrom};
 ghost use Rattle.mk_model.specs.Logic.{IsValid};
+ghost use Rattle.mk_choice.specs.Codes.{IsReady};
+ghost use Rattle.mk_choice.specs.Frames.{AreFrames};
 
 use crate::bounds::bounds_of;
 use crate::frames::Frames;
@@ -30,7 +32,7 @@ pub fn least_code(alloc: Global, query: &Query, front: &[u32]) -> Result<Option<
 /// on.
 #[derive(Debug, Drop)]
 pub struct Codes<'a> {
-    frames: Frames,
+    frames: Frames<'a>,
     place: Vec<u32>,
     most: Vec<u32>,
     query: &'a Query,
@@ -62,25 +64,30 @@ impl<'a> Codes<'a> {
         put(&mut kept, place);
         let most = bounds_of(alloc, query)?;
         let mut frames = Frames::of(alloc, query, &most)?;
-        if begins_all(query, place) {
-            return Ok(Codes {
-                frames,
-                place: kept,
-                most,
-                query,
-                len: 0,
-                debt: 0,
-            });
-        }
-        frames.seek(query, &most, place);
+        let debt = go_to(&mut frames, query, &most, place);
         Ok(Codes {
             frames,
             place: kept,
             most,
             query,
             len: place.len(),
-            debt: 1,
+            debt,
         })
+    }
+
+    /// Goes to another place: the valid codes that aren't below it. Up to 514 numbers it takes no
+    /// memory. After `Memory` all is as before.
+    pub fn rewind(&mut self, place: &[u32]) -> Result<(), Memory>
+        ensures left { IfOk result (λ _. IsMadeFrom self.old.query place.now self.new) }
+        ensures room { length place.now ≤ 514 → IsOk result }
+        ensures same { IfErr result (λ _. self.new ≡ self.old) }
+    {
+        make_room(&mut self.place, place.len())?;
+        put(&mut self.place, place);
+        self.frames.restart(self.query, &self.most);
+        self.debt = go_to(&mut self.frames, self.query, &self.most, place);
+        self.len = place.len();
+        Ok(())
     }
 
     /// Gives the place: the last code followed by 0, or the one that the codes were made from; after
@@ -166,6 +173,34 @@ fn put_last(place: &mut Vec<u32>, n: usize)
     ensures put { take (n + 1) place.new.items ≡ take n place.old.items ++ 0 ∷ [] }
 {
     place[n] = 0;
+}
+
+// Makes room for so many numbers, where there is too little.
+fn make_room(place: &mut Vec<u32>, len: usize) -> Result<(), Memory>
+    ensures room { IfOk result (λ _. (len ≤ length place.new.items) × (length place.old.items ≤ length place.new.items)) }
+    ensures enough { len ≤ length place.old.items → IsOk result }
+    ensures same { IfErr result (λ _. place.new.items ≡ place.old.items) }
+{
+    if len <= place.len() {
+        return Ok(());
+    }
+    place.resize(len, 0)?;
+    Ok(())
+}
+
+// Goes to what isn't below the place, from frames of no numbers, and gives what is owed there.
+fn go_to<'a>(frames: &mut Frames<'a>, query: &'a Query, most: &[u32], place: &[u32]) -> u32
+    requires frames { AreFrames query.now most.now frames.old }
+    requires none { (frames.old.depth ≡ 0) × (frames.old.above ≡ 0) × (frames.old.once ≡ false) }
+    ensures few { result ≤ length place.now + (if length (slots_of query.now 0) == 0 then 1 else 0) }
+    ensures ready { (kept : List ℕ) → 514 ≤ length kept → length place.now ≤ length kept → take (length place.now) kept ≡ place.now
+        → IsReady query.now most.now frames.new kept (length place.now) result }
+{
+    if begins_all(query, place) {
+        return 0;
+    }
+    frames.seek(query, most, place);
+    1
 }
 
 // Tells that the place is the empty one, and that it is no code: then nothing is owed, since what

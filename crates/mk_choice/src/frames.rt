@@ -1,40 +1,42 @@
 // The frames of a search for codes: the numbers chosen so far, the slot of each, what is open
 // behind them, and what is counted. They are reserved once, and a number is put on or taken off in
 // place.
-ghost use Rattle.std.specs.Prelude.{◌≡◌, ◌≤◌, ◌<◌, ◌+◌, ◌-◌, ◌∷◌, ◌++◌, [], ℕ, List, IfNone, IfOk, IfSome, IsTrue, None, false, length, drop, take};
+ghost use Rattle.std.specs.Prelude.{◌≡◌, ◌≤◌, ◌<◌, ◌+◌, ◌-◌, ◌∷◌, ◌++◌, [], ℕ, List, All, IfNone, IfOk, IfSome, IsTrue, None, false, length, drop, take};
 ghost use Rattle.mk_text.specs.Rising.{IsBelow, IsLeast, IsLeastFrom};
 ghost use Rattle.mk_model.specs.Logic.{IsValid};
 ghost use Rattle.mk_model.specs.Nodes.{BeginsCode, SameFrom};
 ghost use Rattle.mk_choice.specs.Bounds.{AreBounds};
 ghost use Rattle.mk_choice.specs.Frames.{AreFrames, IsOnward, from_of, most_first, numbers_of, open_of};
+ghost use Rattle.mk_choice.specs.Search.{IsKnown};
 
 use crate::numbers::{counted, most_at, no_counts, opened, slots_of, uncounted};
 use crate::outlook::{nothing_ahead, with_slot, with_slots, without_first, without_slots};
 use crate::pending::Ahead;
 use crate::pruning::cant_complete;
+use crate::slot_list::SlotList;
 use mk_logic::allowed;
-use mk_model::{Count, Memory, Query, Slot};
+use mk_model::{Count, Memory, Query};
 use std::alloc::Global;
 
 /// The frames of the first `depth` numbers. The slots that are open behind them stand in `waiting`
 /// from `first` on. What is still to come goes on with a number above `above`; but where `once`
 /// says so, the numbers themselves come first.
 #[derive(Debug, Drop)]
-pub struct Frames {
+pub struct Frames<'a> {
     pub counts: [Count; 32],
     pub ahead: Ahead,
     pub numbers: Vec<u32>,
-    pub slots: Vec<Slot>,
-    pub waiting: Vec<Slot>,
+    pub slots: SlotList<'a>,
+    pub waiting: SlotList<'a>,
     pub first: usize,
     pub depth: usize,
     pub above: u32,
     pub once: bool,
 }
 
-impl Frames {
+impl<'a> Frames<'a> {
     /// The frames of no numbers. Only numbers behind them are still to come.
-    pub fn of(alloc: Global, query: &Query, most: &[u32]) -> Result<Frames, Memory>
+    pub fn of(alloc: Global, query: &'a Query, most: &[u32]) -> Result<Frames<'a>, Memory>
         requires { AreBounds query.now most.now }
         ensures kept { IfOk result (AreFrames query.now most.now) }
         ensures none { IfOk result (λ frames. (frames.depth ≡ 0) × (frames.above ≡ 0) × (frames.once ≡ false)) }
@@ -42,15 +44,9 @@ impl Frames {
         let slots = slots_of(query, 0);
         let ahead = with_slots(most, nothing_ahead(), slots);
         let numbers = vec![in alloc; 0u32; 512]?;
-        let filler = Slot::Link {
-            atom: 0,
-            most: 0,
-            from: 0,
-            to: 0,
-        };
-        let chosen = vec![in alloc; filler; 512]?;
-        let mut waiting = vec![in alloc; filler; 512]?;
-        let first = put_in_front(&mut waiting, 512, slots);
+        let chosen = SlotList::with_places(alloc, 512)?;
+        let mut waiting = SlotList::with_places(alloc, 512)?;
+        let first = waiting.put_in_front(512, slots);
         Ok(Frames {
             counts: no_counts(),
             ahead,
@@ -64,8 +60,21 @@ impl Frames {
         })
     }
 
+    /// Takes all numbers off. Only numbers behind them are still to come.
+    pub fn restart(&mut self, query: &'a Query, most: &[u32])
+        requires { AreFrames query.now most.now self.old }
+        ensures frames { AreFrames query.now most.now self.new }
+        ensures none { (self.new.depth ≡ 0) × (self.new.above ≡ 0) × (self.new.once ≡ false) }
+    {
+        while self.depth > 0 {
+            self.up(query, most);
+        }
+        self.above = 0;
+        self.once = false;
+    }
+
     /// Goes to the numbers of the front, as far as they fit.
-    pub fn seek(&mut self, query: &Query, most: &[u32], front: &[u32])
+    pub fn seek(&mut self, query: &'a Query, most: &[u32], front: &[u32])
         requires frames { AreFrames query.now most.now self.old }
         requires start { (self.old.depth ≡ 0) × (self.old.once ≡ false) }
         ensures frames { AreFrames query.now most.now self.new }
@@ -88,7 +97,7 @@ impl Frames {
     }
 
     /// Goes on to the next numbers with which a structural code begins, where there are some.
-    pub fn next_node(&mut self, query: &Query, most: &[u32]) -> bool
+    pub fn next_node(&mut self, query: &'a Query, most: &[u32]) -> bool
         requires { AreFrames query.now most.now self.old }
         ensures frames { AreFrames query.now most.now self.new }
         ensures found { IsTrue result → IsLeast (from_of self.old) (BeginsCode query.now) (numbers_of self.new) }
@@ -118,7 +127,7 @@ impl Frames {
 
     /// Tells whether the numbers are a valid code, and passes all that goes on behind numbers with
     /// which no valid code can begin.
-    pub fn settle(&mut self, query: &Query, most: &[u32]) -> bool
+    pub fn settle(&mut self, query: &'a Query, most: &[u32]) -> bool
         requires frames { AreFrames query.now most.now self.old }
         requires passed { self.old.once ≡ false }
         ensures frames { AreFrames query.now most.now self.new }
@@ -142,7 +151,7 @@ impl Frames {
     }
 
     /// Goes on to the next valid code, where there is one.
-    pub fn next_code(&mut self, query: &Query, most: &[u32]) -> bool
+    pub fn next_code(&mut self, query: &'a Query, most: &[u32]) -> bool
         requires { AreFrames query.now most.now self.old }
         ensures frames { AreFrames query.now most.now self.new }
         ensures found { IsTrue result → IsLeast (from_of self.old) (IsValid query.now) (numbers_of self.new) }
@@ -164,6 +173,7 @@ impl Frames {
 
     // Tells whether a number above this one can be chosen behind those chosen so far.
     fn has_above(&self, query: &Query, above: u32) -> bool
+        requires { All IsKnown (open_of self.now) }
         ensures yes { IsTrue result → above + 1 ≤ most_first query.now (open_of self.now) }
         ensures none { result ≡ false → most_first query.now (open_of self.now) ≤ above }
         ensures within { IsTrue result → above < 4294967295 }
@@ -171,12 +181,12 @@ impl Frames {
         if self.first >= self.waiting.len() {
             return false;
         }
-        above < most_at(query, self.waiting[self.first])
+        above < most_at(query, self.waiting.at(self.first))
     }
 
     // Raises the last number by one, where it isn't the greatest at its slot: it is as if it were taken
     // off, and the next one put on.
-    fn onward(&mut self, query: &Query, most: &[u32]) -> bool
+    fn onward(&mut self, query: &'a Query, most: &[u32]) -> bool
         requires frames { AreFrames query.now most.now self.old }
         requires some { 1 ≤ self.old.depth }
         ensures frames { AreFrames query.now most.now self.new }
@@ -186,7 +196,7 @@ impl Frames {
     {
         let depth = self.depth - 1;
         let number = self.numbers[depth];
-        let slot = self.slots[depth];
+        let slot = self.slots.at(depth);
         if number >= most_at(query, slot) {
             return false;
         }
@@ -197,12 +207,12 @@ impl Frames {
         let left = without_slots(most, self.ahead, closed);
         self.ahead = with_slots(most, left, slots);
         self.numbers[depth] = number + 1;
-        self.first = put_in_front(&mut self.waiting, self.first + closed.len(), slots);
+        self.first = self.waiting.put_in_front(self.first + closed.len(), slots);
         true
     }
 
     // Puts a number on.
-    fn down(&mut self, query: &Query, most: &[u32], number: u32)
+    fn down(&mut self, query: &'a Query, most: &[u32], number: u32)
         requires frames { AreFrames query.now most.now self.old }
         requires least { 1 ≤ number }
         requires most { number ≤ most_first query.now (open_of self.old) }
@@ -211,19 +221,19 @@ impl Frames {
         ensures depth { self.new.depth ≡ self.old.depth + 1 }
         ensures once { self.new.once ≡ self.old.once }
     {
-        let slot = self.waiting[self.first];
+        let slot = self.waiting.at(self.first);
         let slots = opened(query, slot, number);
         self.counts = counted(query, slot, number, self.counts);
         let left = without_first(most, self.ahead, slot);
         self.ahead = with_slots(most, left, slots);
         self.numbers[self.depth] = number;
-        self.slots[self.depth] = slot;
+        self.slots.put(self.depth, slot);
         self.depth += 1;
-        self.first = put_in_front(&mut self.waiting, self.first + 1, slots);
+        self.first = self.waiting.put_in_front(self.first + 1, slots);
     }
 
     // Takes the last number off, and gives it.
-    fn up(&mut self, query: &Query, most: &[u32]) -> u32
+    fn up(&mut self, query: &'a Query, most: &[u32]) -> u32
         requires frames { AreFrames query.now most.now self.old }
         requires some { 1 ≤ self.old.depth }
         ensures frames { AreFrames query.now most.now self.new }
@@ -233,33 +243,15 @@ impl Frames {
     {
         let depth = self.depth - 1;
         let number = self.numbers[depth];
-        let slot = self.slots[depth];
+        let slot = self.slots.at(depth);
         let slots = opened(query, slot, number);
         self.counts = uncounted(query, slot, number, self.counts);
         let left = without_slots(most, self.ahead, slots);
         self.ahead = with_slot(most, left, slot);
         let first = self.first + slots.len() - 1;
-        self.waiting[first] = slot;
+        self.waiting.put(first, slot);
         self.first = first;
         self.depth = depth;
         number
     }
-}
-
-// Puts slots in front of those from a place on, and gives the place of the first.
-fn put_in_front(waiting: &mut Vec<Slot>, first: usize, slots: &[Slot]) -> usize
-    requires room { length slots.now ≤ first }
-    requires within { first ≤ length waiting.old.items }
-    ensures size { length waiting.new.items ≡ length waiting.old.items }
-    ensures within { result ≤ length waiting.new.items }
-    ensures put { drop result waiting.new.items ≡ slots.now ++ drop first waiting.old.items }
-{
-    let mut left = slots.len();
-    let mut at = first;
-    while left > 0 {
-        left -= 1;
-        at -= 1;
-        waiting[at] = slots[left];
-    }
-    at
 }

@@ -20,6 +20,7 @@ mod numbers;
 mod outlook;
 mod pending;
 mod pruning;
+mod slot_list;
 #[cfg(test)]
 mod tests;
 mod within;

@@ -41,6 +41,24 @@ fn codes_in_order(rt: HostRuntime) -> Result<(), Fail> {
     Ok(())
 }
 
+// One `Codes` goes to each front in turn, from wherever it stands, and to one that is longer than
+// its room.
+#[test]
+fn rewound(rt: HostRuntime) -> Result<(), Fail> {
+    let query = query_of_two_sites(rt.alloc())?;
+    let mut codes = Codes::from_place(rt.alloc(), &query, &[2, 2, 0])?;
+    for (name, front, want) in &ROWS {
+        codes.rewind(front)?;
+        assert_eq!(rt; codes.place(rt.alloc())?.as_slice(), *front, "{name}");
+        assert!(rt; is_code(codes.next(), want), "{name}");
+    }
+    codes.rewind(&[1; 600])?;
+    assert!(rt; is_code(codes.next(), &[2, 1]));
+    codes.rewind(&[2, 2, 0])?;
+    assert!(rt; codes.next().is_none());
+    Ok(())
+}
+
 // Places, and the turns from each: `M` comes to a beginning of a code, `I` takes the code out that
 // stands behind it, and `E` finds nothing left. The beginnings are 1, 1 1, 1 2, 2, 2 1 and 2 2.
 static TURNS: [(&str, &[u32], &str); 9] = [
@@ -103,6 +121,13 @@ fn turns_from(alloc: Global, query: &Query, place: &[u32]) -> Result<Vec<u8>, Me
         }
     }
     Ok(told)
+}
+
+fn is_code(found: Option<&[u32]>, want: &[u32]) -> bool {
+    match found {
+        Some(code) => code == want,
+        None => false,
+    }
 }
 
 fn is_least(alloc: Global, query: &Query, front: &[u32], want: &[u32]) -> Result<bool, Memory> {

@@ -1,5 +1,7 @@
 // The structural code with which numbers begin.
+ghost use Rattle.std.specs.Prelude.{All};
 ghost use Rattle.mk_choice.specs.Pending.{open_slots};
+ghost use Rattle.mk_choice.specs.Search.{IsKnown};
 ghost use Rattle.mk_choice.specs.Within.{AreChosenWithin, IsCodeWithin};
 
 use crate::numbers::{first, most_at, opened, slots_of};
@@ -17,6 +19,7 @@ pub fn code_within(query: &Query, numbers: &[u32]) -> Option<usize>
 
 // How many of the first numbers choose at the open slots.
 fn chosen_within(query: &Query, pending: &Pending<'_>, numbers: &[u32]) -> Option<usize>
+    requires { All IsKnown (open_slots pending.now) }
     ensures { AreChosenWithin query.now (open_slots pending.now) numbers.now result }
 {
     let Some((slot, behind)) = first(pending) else {

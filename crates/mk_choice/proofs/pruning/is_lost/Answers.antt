@@ -14,7 +14,7 @@ abbrev no_sites : Count
 no_sites = record { sites = 0; filled = 0 }
 
 pub returns : goal.returns
-returns c = λ asked most slots bounds ahead.
+returns c = λ asked most slots bounds known ahead.
     let list = c.groups-groups.ensures.list in
     let within : c.args.i < length c.args.query.now.groups = omega (arith, c.requires.within, c.groups-groups.ensures.kept.few_members.all_groups) in
     let here = rw list at c.index-groups-i.is in
@@ -27,5 +27,6 @@ returns c = λ asked most slots bounds ahead.
     (let test = sym (c.if-not-stands.ensures) in grind (arith, nat_tests, sites, opens)) in
     let missed : Misses c.index-groups-i.result.range (filled_at c.args.counts.now (c.args.i + 1)) (most_filled (bound_in most) slots (c.args.i + 1)) =
     rw (filled, sym (ahead.filled c.args.i c.requires.within)) (rw (list, sym here) at (c.if-not-misses.ensures refl)) in
-    lost c.args.query.now c.args.counts.now slots (c.args.i + 1) c.index-groups-i.result (group_at c.args.query.now c.args.counts.now c.args.i c.index-groups-i.result group) stands
+    lost c.args.query.now c.groups-groups.ensures.kept c.args.counts.now slots known (c.args.i + 1) c.index-groups-i.result
+    (group_at c.args.query.now c.args.counts.now c.args.i c.index-groups-i.result group) stands
     (asked_found c.args.query.now c.args.counts.now (c.args.i + 1) (rw list at (sym c.is_asked.ensures ∙ asked))) most bounds (omega (arith, c.requires.within)) missed

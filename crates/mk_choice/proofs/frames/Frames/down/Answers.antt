@@ -1,19 +1,32 @@
-use Rattle.std.proofs.Common.{◌≤◌, ◌+◌, ◌++◌, List, drop, length, length-append, length-set, refl, sym, ap, subst, ◌∙◌, arith, All}
+use Rattle.std.proofs.Common.{◌≤◌, ◌+◌, ◌++◌, List, drop, length, length-append, length-set, take, refl, sym, ap, subst, ◌∙◌, arith, All}
 use Rattle.std.proofs.lemmas.List.{length-drop, take_more_set}
 use Rattle.mk_model.specs.declared.template.Slot.{Slot}
 use Rattle.mk_model.specs.OpenSlots.{opened}
 use Rattle.mk_choice.specs.Ahead.{IsAhead}
 use Rattle.mk_choice.specs.Search.{IsKnown}
 use Rattle.mk_choice.proofs.MoveLemmas.{counts_within, room_for_more}
-use Rattle.mk_choice.proofs.StepLemmas.{ahead_is, few_down, first_known, frames_down, open_first}
+use Rattle.mk_choice.proofs.StepLemmas.{ahead_is, few_down, first_known, frames_down, known_open, open_first, within_open}
 use Rattle.mk_choice.proofs.frames.Frames.down.Goals as goal
+
+pub at-slot-requires-clause-within : goal.at-slot-requires-clause-within
+at-slot-requires-clause-within c = within_open c.args.query.now c.args.most.now c.args.self.now c.requires.frames (omega (arith, c.requires.least, c.requires.most))
+
+pub at-slot-requires-clause-known : goal.at-slot-requires-clause-known
+at-slot-requires-clause-known c = known_open c.args.query.now c.args.most.now c.args.self.now c.requires.frames
+
+pub opened-slots-requires-clause-known : goal.opened-slots-requires-clause-known
+opened-slots-requires-clause-known c =
+    let f = c.args.self.now in
+    let slot = c.at-slot.result.now in
+    let is = open_first c.args.query.now c.args.most.now f c.requires.frames slot (omega (arith, c.requires.least, c.requires.most)) c.at-slot.ensures in
+    first_known c.args.query.now c.args.most.now f c.requires.frames slot (drop (f.first + 1) f.waiting) is
 
 pub counted-self-requires-clause-known : goal.counted-self-requires-clause-known
 counted-self-requires-clause-known c =
     let f = c.args.self.now in
-    let slot = c.index-slot.result.now in
-    let is = open_first c.args.query.now c.args.most.now f c.requires.frames slot (omega (arith, c.requires.least, c.requires.most)) c.index-slot.ensures in
-    first_known c.args.query.now c.args.most.now f c.requires.frames slot (drop (f.first + 1) f.waiting.items) is
+    let slot = c.at-slot.result.now in
+    let is = open_first c.args.query.now c.args.most.now f c.requires.frames slot (omega (arith, c.requires.least, c.requires.most)) c.at-slot.ensures in
+    first_known c.args.query.now c.args.most.now f c.requires.frames slot (drop (f.first + 1) f.waiting) is
 
 pub counted-self-requires-clause-few : goal.counted-self-requires-clause-few
 counted-self-requires-clause-few c =
@@ -24,9 +37,9 @@ counted-self-requires-clause-few c =
 pub without_first-left-requires-clause-known : goal.without_first-left-requires-clause-known
 without_first-left-requires-clause-known c =
     let f = c.args.self.now in
-    let slot = c.index-slot.result.now in
-    let is = open_first c.args.query.now c.args.most.now f c.requires.frames slot (omega (arith, c.requires.least, c.requires.most)) c.index-slot.ensures in
-    first_known c.args.query.now c.args.most.now f c.requires.frames slot (drop (f.first + 1) f.waiting.items) is
+    let slot = c.at-slot.result.now in
+    let is = open_first c.args.query.now c.args.most.now f c.requires.frames slot (omega (arith, c.requires.least, c.requires.most)) c.at-slot.ensures in
+    first_known c.args.query.now c.args.most.now f c.requires.frames slot (drop (f.first + 1) f.waiting) is
 
 pub index_mut-requires : goal.index_mut-requires
 index_mut-requires c =
@@ -38,29 +51,28 @@ index_mut-requires c =
       f.numbers.ok.0,
     )
 
-pub index_mut-requires-2 : goal.index_mut-requires-2
-index_mut-requires-2 c =
+pub put-requires : goal.put-requires
+put-requires c =
     let f = c.args.self.now in
     omega (
       arith,
       room_for_more c.args.query.now c.args.most.now f c.requires.frames (omega (arith, c.requires.least, c.requires.most)),
       c.requires.frames.slots_room,
-      f.slots.ok.0,
     )
 
 pub put_in_front-self-requires-clause-room : goal.put_in_front-self-requires-clause-room
 put_in_front-self-requires-clause-room c =
     let f = c.args.self.now in
-    let slot = c.index-slot.result.now in
-    let is = open_first c.args.query.now c.args.most.now f c.requires.frames slot (omega (arith, c.requires.least, c.requires.most)) c.index-slot.ensures in
+    let slot = c.at-slot.result.now in
+    let is = open_first c.args.query.now c.args.most.now f c.requires.frames slot (omega (arith, c.requires.least, c.requires.most)) c.at-slot.ensures in
     let opens : All IsKnown (opened c.args.query.now slot c.args.number) = subst (All IsKnown) c.opened-slots.ensures.slots c.opened-slots.ensures.known in
-    let few = few_down c.args.query.now c.args.most.now f c.requires.frames slot (drop (f.first + 1) f.waiting.items) is c.args.number c.requires.least c.requires.most opens in
+    let few = few_down c.args.query.now c.args.most.now f c.requires.frames slot (drop (f.first + 1) f.waiting) is c.args.number c.requires.least c.requires.most opens in
     omega (
       arith,
       few,
       ap length c.opened-slots.ensures.slots,
-      length-append (opened c.args.query.now slot c.args.number) (drop (f.first + 1) f.waiting.items),
-      length-drop (f.first + 1) f.waiting.items,
+      length-append (opened c.args.query.now slot c.args.number) (drop (f.first + 1) f.waiting),
+      length-drop (f.first + 1) f.waiting,
       c.requires.frames.open_room,
     )
 
@@ -73,9 +85,9 @@ returns-clause-numbers c =
 pub returns-clause-frames : goal.returns-clause-frames
 returns-clause-frames c =
     let f = c.args.self.now in
-    let slot = c.index-slot.result.now in
-    let behind = drop (f.first + 1) f.waiting.items in
-    let is = open_first c.args.query.now c.args.most.now f c.requires.frames slot (omega (arith, c.requires.least, c.requires.most)) c.index-slot.ensures in
+    let slot = c.at-slot.result.now in
+    let behind = drop (f.first + 1) f.waiting in
+    let is = open_first c.args.query.now c.args.most.now f c.requires.frames slot (omega (arith, c.requires.least, c.requires.most)) c.at-slot.ensures in
     let slots_are = c.opened-slots.ensures.slots in
     let opens : All IsKnown (opened c.args.query.now slot c.args.number) = subst (All IsKnown) slots_are c.opened-slots.ensures.known in
     let few = few_down c.args.query.now c.args.most.now f c.requires.frames slot behind is c.args.number c.requires.least c.requires.most opens in
@@ -84,13 +96,13 @@ returns-clause-frames c =
     let ahead = c.with_slots-self.ensures.ahead behind few_slots (c.without_first-left.ensures.ahead behind (ahead_is c.args.query.now c.args.most.now f c.requires.frames slot behind is)) in
     frames_down c.args.query.now c.args.most.now f c.requires.frames slot behind is c.args.number c.requires.least c.requires.most opens _
     (take_more_set f.numbers.items f.depth c.args.number (omega (arith, below, c.requires.frames.numbers_room)))
-    (take_more_set f.slots.items f.depth slot (omega (arith, below, c.requires.frames.slots_room)))
+    (ap (take (f.depth + 1)) c.put.ensures ∙ take_more_set f.slots f.depth slot (omega (arith, below, c.requires.frames.slots_room)))
     (c.put_in_front-self.ensures.put ∙ ap (λ (slots : List Slot). slots ++ behind) slots_are)
     refl
     (length-set f.numbers.items f.depth c.args.number ∙ c.requires.frames.numbers_room)
-    (length-set f.slots.items f.depth slot ∙ c.requires.frames.slots_room)
+    (ap length c.put.ensures ∙ length-set f.slots f.depth slot ∙ c.requires.frames.slots_room)
     (c.put_in_front-self.ensures.size ∙ c.requires.frames.open_room)
     (omega (arith, c.put_in_front-self.ensures.within, c.put_in_front-self.ensures.size, c.requires.frames.open_room))
-    (c.counted-self.ensures.few 511 (counts_within c.args.query.now c.args.most.now f c.requires.frames 511 (omega (arith, below)))).all
+    c.counted-self.ensures.size
     c.counted-self.ensures.sites c.counted-self.ensures.filled c.with_slots-self.ensures.rows
     (subst (λ (slots : List Slot). IsAhead c.args.most.now (slots ++ behind) c.with_slots-self.result) slots_are ahead)

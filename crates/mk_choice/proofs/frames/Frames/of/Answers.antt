@@ -23,10 +23,10 @@ returns-clause-kept c =
     let known : All IsKnown (slots_of query 0) = subst (All IsKnown) slots_are c.slots_of-slots.ensures.known in
     let few = few_open query (slots_of query 0) 0 known (root_room query c.slots_of-slots.ensures.kept) in
     let waiting = c.in_ok-waiting.waiting in
-    let long : length waiting.items ≡ 512 = omega (arith, c.in_ok-waiting.ensures.len, waiting.ok.0) in
-    let none : drop 512 waiting.items ≡ [] = drop_all 512 waiting.items (omega (arith, long)) in
+    let long : length waiting ≡ 512 = c.in_ok-waiting.ensures in
+    let none : drop 512 waiting ≡ [] = drop_all 512 waiting (omega (arith, long)) in
     let slots = c.slots_of-slots.result.now in
-    let rest : drop c.put_in_front-first.result c.put_in_front-first.new.waiting.items ≡ slots_of query 0 =
+    let rest : drop c.put_in_front-first.result c.put_in_front-first.new.self ≡ slots_of query 0 =
     c.put_in_front-first.ensures.put ∙ ap (λ (behind : List Slot). slots ++ behind) none ∙ append-nil slots ∙ slots_are in
     let few_slots : length (slots ++ []) ≤ 512 = omega (arith, ap length (append-nil slots), ap length slots_are, few) in
     let ahead : IsAhead c.args.most.now (slots_of query 0) c.with_slots-ahead.result =
@@ -34,7 +34,7 @@ returns-clause-kept c =
     (c.with_slots-ahead.ensures.ahead [] few_slots (c.nothing_ahead.ensures.none c.args.most.now)) in
     frames_none query c.args.most.now _ c.slots_of-slots.ensures.kept c.requires known refl rest
     (omega (arith, c.in_ok-numbers.ensures.len, c.in_ok-numbers.numbers.ok.0))
-    (omega (arith, c.in_ok-chosen.ensures.len, c.in_ok-chosen.chosen.ok.0))
+    c.in_ok-chosen.ensures
     (omega (arith, c.put_in_front-first.ensures.size, long))
     (omega (arith, c.put_in_front-first.ensures.within, c.put_in_front-first.ensures.size, long))
     c.no_counts.ensures.counts.all c.no_counts.ensures.none c.with_slots-ahead.ensures.rows ahead

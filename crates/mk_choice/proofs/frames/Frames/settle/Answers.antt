@@ -18,8 +18,8 @@ returns-then-cant_complete-clause-moved c = λ _.
     let f = c.args.self.now in
     let is = c.requires.frames.stands in
     rw c.requires.passed
-    (settled_dead c.args.query.now c.args.most.now (numbers_of f) (take f.depth f.slots.items) (open_of f) f.counts f.ahead is 4294967295
-    (c.if-cant_complete.ensures refl c.args.most.now (open_of f) is.bounds is.is_ahead))
+    (settled_dead c.args.query.now c.args.most.now (numbers_of f) (take f.depth f.slots) (open_of f) f.counts f.ahead is 4294967295
+    (c.if-cant_complete.ensures refl c.args.most.now (open_of f) is.bounds is.known is.is_ahead))
 
 -- ---- where slots are open
 
@@ -30,10 +30,10 @@ pub returns-then-self-len-clause-moved : goal.returns-then-self-len-clause-moved
 returns-then-self-len-clause-moved c = λ _.
     let f = c.args.self.now in
     let is = c.requires.frames.stands in
-    let some : 0 < length (open_of f) = omega (arith, length-drop f.first f.waiting.items, c.if-self-len.true, f.waiting.ok.0) in
+    let some : 0 < length (open_of f) = omega (arith, length-drop f.first f.waiting, c.if-self-len.true) in
     rw c.requires.passed
-    (settled_open c.args.query.now c.args.most.now (numbers_of f) (take f.depth f.slots.items) (open_of f) f.counts f.ahead is
-    (open_none c.args.query.now c.args.most.now (numbers_of f) (take f.depth f.slots.items) (open_of f) f.counts f.ahead is some))
+    (settled_open c.args.query.now c.args.most.now (numbers_of f) (take f.depth f.slots) (open_of f) f.counts f.ahead is
+    (open_none c.args.query.now c.args.most.now (numbers_of f) (take f.depth f.slots) (open_of f) f.counts f.ahead is some))
 
 -- ---- where none is
 
@@ -47,8 +47,8 @@ pub returns-clause-valid : goal.returns-clause-valid
 returns-clause-valid c = λ yes.
     let f = c.args.self.now in
     let is = c.requires.frames.stands in
-    let none : open_of f ≡ [] = drop_all f.first f.waiting.items (omega (arith, c.if-self-len.false, f.waiting.ok.0)) in
-    allowed_valid c.args.query.now c.args.most.now (numbers_of f) (take f.depth f.slots.items) (open_of f) f.counts f.ahead is none (c.allowed.ensures.0 yes)
+    let none : open_of f ≡ [] = drop_all f.first f.waiting (omega (arith, c.if-self-len.false)) in
+    allowed_valid c.args.query.now c.args.most.now (numbers_of f) (take f.depth f.slots) (open_of f) f.counts f.ahead is none (c.allowed.ensures.0 yes)
 
 pub returns-clause-over : goal.returns-clause-over
 returns-clause-over c = λ _. rw c.requires.passed (below_next (numbers_of c.args.self.now) 0 1 [] [] (omega arith))
@@ -56,15 +56,15 @@ returns-clause-over c = λ _. rw c.requires.passed (below_next (numbers_of c.arg
 pub returns-clause-behind : goal.returns-clause-behind
 returns-clause-behind c = λ _.
     let f = c.args.self.now in
-    rw c.requires.passed (settled_same c.args.query.now c.args.most.now (numbers_of f) (take f.depth f.slots.items) (open_of f) f.counts f.ahead c.requires.frames.stands)
+    rw c.requires.passed (settled_same c.args.query.now c.args.most.now (numbers_of f) (take f.depth f.slots) (open_of f) f.counts f.ahead c.requires.frames.stands)
 
 pub returns-clause-moved : goal.returns-clause-moved
 returns-clause-moved c = λ not_allowed.
     let f = c.args.self.now in
     let is = c.requires.frames.stands in
-    let none : open_of f ≡ [] = drop_all f.first f.waiting.items (omega (arith, c.if-self-len.false, f.waiting.ok.0)) in
+    let none : open_of f ≡ [] = drop_all f.first f.waiting (omega (arith, c.if-self-len.false)) in
     rw c.requires.passed
-    (settled_open c.args.query.now c.args.most.now (numbers_of f) (take f.depth f.slots.items) (open_of f) f.counts f.ahead is
+    (settled_open c.args.query.now c.args.most.now (numbers_of f) (take f.depth f.slots) (open_of f) f.counts f.ahead is
     (λ valid.
-    let never = c.allowed.ensures.1 (valid_allowed c.args.query.now c.args.most.now (numbers_of f) (take f.depth f.slots.items) (open_of f) f.counts f.ahead is none valid) in
+    let never = c.allowed.ensures.1 (valid_allowed c.args.query.now c.args.most.now (numbers_of f) (take f.depth f.slots) (open_of f) f.counts f.ahead is none valid) in
     absurd cc))
