@@ -60,9 +60,9 @@ parted query (Link atom most from to) slots (repeated n others) is = record {
 }
 parted query (Link atom most from to) slots (unfilled n others) is = absurd is
 parted query (Link atom most from to) slots (filled k inside others) is = absurd is
-parted query (Site atom group first second) slots done is = absurd is
-parted query (Site atom group first second) slots (repeated n others) is = absurd is
-parted query (Site atom group first second) slots (unfilled n others) is = record {
+parted query (Site atom groups first second) slots done is = absurd is
+parted query (Site atom groups first second) slots (repeated n others) is = absurd is
+parted query (Site atom groups first second) slots (unfilled n others) is = record {
   one = unfilled n done;
   more = others;
   made_one = (is.0, tt);
@@ -70,7 +70,7 @@ parted query (Site atom group first second) slots (unfilled n others) is = recor
   spelt = refl;
   are = refl;
 }
-parted query (Site atom group first second) slots (filled k inside others) is = record {
+parted query (Site atom groups first second) slots (filled k inside others) is = record {
   one = filled k inside done;
   more = others;
   made_one = (is.0, is.1, is.2, tt);

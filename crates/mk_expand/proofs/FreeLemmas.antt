@@ -43,10 +43,10 @@ there_small template pieces p site x = grind arith
 
 slot_small : (template : TemplateView) (pieces : List Piece) (p : ℕ) (slot : Slot) (piece : Piece) → frees_of template pieces p slot piece ≤ 2
 slot_small template pieces p (Link atom most from to) piece = omega arith
-slot_small template pieces p (Site atom group first second) (Copies n) = omega arith
-slot_small template pieces p (Site atom group first second) (Member part) = omega arith
-slot_small template pieces p (Site atom group first second) (Hydrogens n) = omega arith
-slot_small template pieces p (Site atom group first second) Nothing =
+slot_small template pieces p (Site atom groups first second) (Copies n) = omega arith
+slot_small template pieces p (Site atom groups first second) (Member part) = omega arith
+slot_small template pieces p (Site atom groups first second) (Hydrogens n) = omega arith
+slot_small template pieces p (Site atom groups first second) Nothing =
     (let one = there_small template pieces p atom first in let two = there_small template pieces p atom second in omega (arith, one, two))
 
 ends_more : (template : TemplateView) (pieces : List Piece) (slots : List Slot) (ps : List Piece) (k p : ℕ) (slot : Slot) (piece : Piece) → k < length slots → k < length ps

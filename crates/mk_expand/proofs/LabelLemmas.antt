@@ -127,7 +127,7 @@ module _ (template : TemplateView) (kept : IsTemplate template) (labels : List �
     (are : AreLabels (filter (stay template.slots) template.bonds) labels) where
   by_slot : (slot : Slot) (k : ℕ) → k < length template.slots → get_or template.slots k slot ≡ slot → (1 ≤ slot_atom slot) × (slot_atom slot ≤ length template.atoms) → (i : ℕ) → i < length labels
       → takes labels slot (i + 1) ≡ takes_atom template (i + 1) slot
-  by_slot (Site atom group first second) k below at stands i inside = by (eqb atom (i + 1))
+  by_slot (Site atom groups first second) k below at stands i inside = by (eqb atom (i + 1))
     where
       by : (b : Bool) → b ≡ (b || false)
       by true = refl

@@ -1,4 +1,5 @@
 -- Where the atoms of a template stand.
+--     slot_at                         a slot that was read
 --     befores_none, befores_more      the list of what stands before each atom grows
 --     ending_plain, ending_slot       where a bond ends
 use Rattle.std.proofs.Common.{◌≡◌, ◌∙◌, ℕ, zero, suc, ◌+◌, ◌-◌, ◌<◌, ◌≤◌, ◌≢◌, List, [], ◌∷◌, ◌++◌, Some, length, get_or, refl, sym, ap, arith, inl, inr}
@@ -8,11 +9,18 @@ use Rattle.std.proofs.lemmas.List.{length_push, get_or_push, get_or_append_left,
 use Rattle.mk_model.specs.Pieces.{Piece}
 use Rattle.mk_model.specs.Pieces.Piece.{Copies}
 use Rattle.mk_model.specs.declared.template.Slot.{Slot}
+use Rattle.mk_model.specs.declared.template.Slot.TheVariants.{Link}
 use Rattle.mk_model.specs.Templates.{TemplateView}
 use Rattle.mk_model.specs.Pieces.{taker, room, piece_numbered, end_of, ending, is_far}
 use Rattle.mk_model.proofs.ForCallers.{at_place}
 use Rattle.mk_expand.specs.Laid.{IsLaid}
 use Rattle.mk_pieces.proofs.ForCallers.{room_none, room_within}
+
+-- ---- the slots that are read
+
+-- a slot that was read at a place of the template's slots
+pub slot_at : (read slots : List Slot) (k : ℕ) (slot : Slot) → read ≡ slots → k < length read → slot ≡ get_or read k slot → slot ≡ get_or slots k (Link 0 0 0 0)
+slot_at read slots k slot same below is = is ∙ get_or_default read k slot (Link 0 0 0 0) below ∙ ap (λ (xs : List Slot). get_or xs k (Link 0 0 0 0)) same
 
 -- ---- the list of what stands before
 

@@ -16,7 +16,7 @@ use Rattle.mk_model.specs.Templates.{hang_together, joins}
 -- the bond stays where those from a link to the two neighbours that it names are taken away
 abbrev pub stays : Slot → QueryBond → Bool
 stays (Link atom most from to) bond = not (joins atom from bond || joins atom to bond)
-stays (Site atom group first second) bond = true
+stays (Site atom groups first second) bond = true
 
 -- the bond stays where those of all links are taken away
 abbrev pub stay : List Slot → QueryBond → Bool
@@ -34,7 +34,7 @@ AreLabels bonds labels =
 -- the slot takes atom x: it stands there, or it is a link with the label of x
 abbrev pub takes : List ℕ → Slot → ℕ → Bool
 takes labels (Link atom most from to) x = (atom == x) || (slice_index labels (atom - 1) == slice_index labels (x - 1))
-takes labels (Site atom group first second) x = atom == x
+takes labels (Site atom groups first second) x = atom == x
 
 -- the slot that takes an atom, where it was `taker` so far and the slot of this number takes it or
 -- doesn't

@@ -1,17 +1,17 @@
 -- For the code: a code from a place on.
 --     AreChosen query slots code rest pieces    the slots have become these pieces by the choice
 --                                               before the rest
---     MayBeFilledSmall query slot           each member of a site is small
+--     MayBeFilledSmall query slot           the labels of a slot rise, and each member is small
 --     left_open_by rest count               what an unfilled site becomes
-use Rattle.std.specs.Prelude.{◌≡◌, ◌≤◌, ◌++◌, ◌==◌, ℕ, Bool, List, Contains, if◌then◌else◌}
+use Rattle.std.specs.Prelude.{◌≡◌, ◌++◌, ◌==◌, ℕ, Bool, List, Contains, if◌then◌else◌}
 use Rattle.mk_model.specs.Pieces.{Piece}
 use Rattle.mk_model.specs.Pieces.Piece.{Hydrogens, Nothing}
 use Rattle.mk_model.specs.declared.template.Slot.{Slot}
-use Rattle.mk_model.specs.declared.template.Slot.TheVariants.{Link, Site}
 use Rattle.mk_model.specs.Codes.{Choice, IsChoice, spelling}
 use Rattle.mk_model.specs.Expansions.{pieces_of}
-use Rattle.mk_model.specs.Labels.{members_at}
+use Rattle.mk_model.specs.Labels.{members_at, site_labels}
 use Rattle.mk_model.specs.Queries.{QueryView}
+use Rattle.mk_model.specs.QueryFits.{AreRisingLabels}
 use Rattle.mk_pieces.specs.Rooms.{IsSmallTemplate}
 
 -- the slots have become these pieces by the choice in front of the rest
@@ -21,12 +21,10 @@ pub record AreChosen (query : QueryView) (slots : List Slot) (code rest : List �
   pub spelt : spelling choice ++ rest ≡ code
   pub are : pieces ≡ pieces_of query slots choice
 
--- a site bears the label of a group from 1 to 32, and each member is small
-abbrev pub MayBeFilledSmall : QueryView → Slot → Type 0
-MayBeFilledSmall query (Link atom most from to) = Unit {0}
-MayBeFilledSmall query (Site atom group first second) =
-    (1 ≤ group) × (group ≤ 32)
-    × ((u : ℕ) → Contains (members_at query (Site atom group first second)) u → IsSmallTemplate query u)
+-- the labels of a slot rise, and each member is small
+pub record MayBeFilledSmall (query : QueryView) (slot : Slot) : Type 0 where
+  pub labels : AreRisingLabels (site_labels slot)
+  pub members : (u : ℕ) → Contains (members_at query slot) u → IsSmallTemplate query u
 
 -- what an unfilled site between so many neighbours becomes, where hydrogens are drawn there or not
 abbrev pub left_open_by : Bool → ℕ → Piece

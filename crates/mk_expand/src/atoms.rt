@@ -120,8 +120,8 @@ fn put_hydrogens(out: &mut Vec<GraphAtom>, count: u32) -> Result<(), Memory>
     Ok(())
 }
 
-// A hydrogen, with every other test off.
-fn hydrogen() -> GraphAtom
+/// A hydrogen, with every other test off.
+pub fn hydrogen() -> GraphAtom
     ensures { result ≡ hydrogen }
 {
     GraphAtom {

@@ -99,8 +99,8 @@ fn put_spanned(
     Ok(())
 }
 
-// Nothing stands where the slot is.
-fn is_nothing(pieces: &[Piece], number: u32) -> bool
+/// Nothing stands where the slot is.
+pub fn is_nothing(pieces: &[Piece], number: u32) -> bool
     requires { number ≤ length pieces.now }
     ensures { result ≡ is_nothing (piece_numbered pieces.now number) }
 {

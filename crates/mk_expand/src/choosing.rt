@@ -1,5 +1,6 @@
 // What a code chooses.
 ghost use Rattle.std.specs.Prelude.{◌≡◌, ◌≤◌, ◌<◌, ◌∷◌, [], IfOk, length, drop};
+ghost use Rattle.mk_model.specs.Labels.{asks_rest_hydrogens, draws_rest_hydrogens};
 ghost use Rattle.mk_model.specs.Queries.{slots_of};
 ghost use Rattle.mk_model.specs.QueryFits.{QueryFits};
 ghost use Rattle.mk_expand.specs.Choosing.{AreChosen, MayBeFilledSmall, left_open_by};
@@ -9,7 +10,7 @@ ghost use Rattle.mk_pieces.specs.Rooms.{IsSmallTemplate};
 use crate::joining::joined;
 use crate::part::{Part, Shape};
 use crate::piece::Piece;
-use mk_model::{Group, Memory, Query, Slot};
+use mk_model::{Memory, Query, Slot};
 use std::alloc::Global;
 
 /// What template t becomes by the choice with which the code goes on at a place, and the place
@@ -80,25 +81,47 @@ fn chosen_at(
     let number = code[at];
     match slot {
         Slot::Link { .. } => Ok((Piece::of(Shape::Copies(number)), at + 1)),
-        Slot::Site { group, second, .. } => {
-            let group = &query.groups()[*group as usize - 1];
-            let members = group.members.as_slice();
-            if number as usize <= members.len() {
-                let member = members[number as usize - 1] as usize;
+        Slot::Site { second, .. } => {
+            let count = query.member_count(slot);
+            if number <= count {
+                let member = query.member_at(slot, number);
                 let (part, next) = expanded(alloc, query, member, code, at + 1)?;
                 return Ok((Piece::of(Shape::Member(part)), next));
             }
-            Ok((left_open(group, *second), at + 1))
+            let rest = draws_rest_hydrogens(query, slot);
+            Ok((left_open(rest, *second), at + 1))
         }
     }
 }
 
-// What an unfilled site becomes.
-fn left_open(group: &Group, second: u32) -> Piece
-    ensures { result ≡ left_open_by group.now.rest_hydrogen second }
+/// What an unfilled site becomes.
+pub fn left_open(rest: bool, second: u32) -> Piece
+    ensures { result ≡ left_open_by rest second }
 {
-    if !group.rest_hydrogen {
+    if !rest {
         return Piece::of(Shape::Nothing);
     }
     Piece::of(Shape::Hydrogens(if second == 0 { 1 } else { 2 }))
+}
+
+/// Hydrogens stand in the place of an unfilled site where one of its labels says so.
+pub fn draws_rest_hydrogens(query: &Query, slot: &Slot) -> bool
+    ensures { result ≡ draws_rest_hydrogens query.now slot.now }
+{
+    for g in slot.labels() {
+        if asks_rest_hydrogens(query, *g) {
+            return true;
+        }
+    }
+    false
+}
+
+// Group g asks for hydrogens.
+fn asks_rest_hydrogens(query: &Query, g: u32) -> bool
+    ensures { result ≡ asks_rest_hydrogens query.now g }
+{
+    match query.groups().get((g as usize).saturating_sub(1)) {
+        Some(group) => group.rest_hydrogen,
+        None => false,
+    }
 }

@@ -10,19 +10,20 @@
 //! (`places`). Then each list of the graph is written in one go (`atoms`, `bonds`, `frees`). Bonds
 //! are put in order and get their marks once, for the whole.
 //!
-//! Which codes are valid isn't known here, nor is any molecule.
+//! Which codes are valid isn't known here, nor is any molecule. The modules of its parts serve mk_open
+//! too, which makes the graphs of open codes; no other crate uses them.
 #![tactic(auto)]
 
-mod atoms;
-mod blocks;
-mod bonds;
-mod choosing;
+pub mod atoms;
+pub mod blocks;
+pub mod bonds;
+pub mod choosing;
 mod expanding;
 mod frees;
 mod joining;
-mod part;
-mod piece;
-mod places;
+pub mod part;
+pub mod piece;
+pub mod places;
 #[cfg(test)]
 mod tests;
 

@@ -1,11 +1,12 @@
-use Rattle.std.proofs.Common.{rules, ◌∙◌, ◌≤◌, ◌<◌, length, ◌-◌, get_or, arith}
+use Rattle.std.proofs.Common.{rules, ◌∙◌, ◌<◌, length, get_or, arith}
 use Rattle.std.proofs.lemmas.List.{get_or_default}
-use Rattle.mk_model.specs.declared.template.Slot.TheVariants.{Link, Site}
+use Rattle.mk_model.specs.declared.template.Slot.TheVariants.{Link}
 use Rattle.mk_model.specs.Expansions.{expansion}
 use Rattle.mk_model.specs.Labels.{members_at}
 use Rattle.mk_model.specs.Queries.{slots_of}
 use Rattle.mk_expand.proofs.ChosenLemmas.{left_none, left_begins, left_more, left_all}
-use Rattle.mk_expand.proofs.SlotLemmas.{there_is, link_chosen, open_chosen, member_begins, member_chosen, group_members, group_rest, slots_read, template_read, filled_small}
+use Rattle.mk_expand.proofs.SlotLemmas.{there_is, link_chosen, open_chosen, member_begins, member_chosen, member_small, slots_read, template_read, filled_small, is_within}
+use Rattle.mk_expand.proofs.LaidLemmas.{slot_at}
 use Rattle.mk_pieces.proofs.ForCallers.{have_room, kept_template}
 use Rattle.mk_expand.proofs.choosing.+expansion.Goals as goal
 
@@ -23,7 +24,8 @@ chosen-chosen_at-requires t c =
     let below : k < length (slots_of query c.args.t) = rw slots at c.loop-slot-test.true in
     let small = filled_small query c.requires.kept c.args.t c.requires.small (get_or (slots_of query c.args.t) k (Link 0 0 0 0)) (k, below, get_or_default (slots_of query c.args.t) k _ _ below) in
     let begins = left_begins query (slots_of query c.args.t) k _ _ _ (Link 0 0 0 0) below c.loop-slot.invariant.2 in
-    (search rules, (c.requires.kept, (rw slots small, (c.loop-slot.invariant.1, rw slots begins))))
+    let slot = slot_at c.slots-slots.result.now (slots_of query c.args.t) k c.slot-item.result slots c.loop-slot-test.true c.slot-item.is in
+    (search rules, (c.requires.kept, (rw slot small, (c.loop-slot.invariant.1, rw slot begins))))
 
 pub chosen-loop-slot-preserved : goal.chosen-loop-slot-preserved
 chosen-loop-slot-preserved t c =
@@ -31,10 +33,11 @@ chosen-loop-slot-preserved t c =
     let k = c.loop-slot.slot-index in
     let slots = slots_read query c.args.t c.requires.small.there c.templates.result.now c.index-templates-t.result c.templates.ensures.list c.index-templates-t.is c.slots-slots.result.now
     c.slots-slots.ensures in
-    let below : k < length (slots_of query c.args.t) = rw slots at c.loop-slot-test.true in (
+    let below : k < length (slots_of query c.args.t) = rw slots at c.loop-slot-test.true in
+    let slot = slot_at c.slots-slots.result.now (slots_of query c.args.t) k c.slot-item.result slots c.loop-slot-test.true c.slot-item.is in (
       omega (arith, c.in_ok-piece.ensures.within, c.loop-slot.invariant.0),
       c.in_ok-piece.ensures.within.1,
-      rw c.in_ok-push.ensures.items (left_more query (slots_of query c.args.t) k _ _ _ (Link 0 0 0 0) below c.loop-slot.invariant.2 _ _ (rw slots at c.in_ok-piece.ensures.are)),
+      rw c.in_ok-push.ensures.items (left_more query (slots_of query c.args.t) k _ _ _ (Link 0 0 0 0) below c.loop-slot.invariant.2 _ _ (rw slot at c.in_ok-piece.ensures.are)),
     )
 
 pub chosen-returns-clause-are : goal.chosen-returns-clause-are
@@ -46,68 +49,55 @@ chosen-returns-clause-are t c =
 
 -- ---- one slot
 
+pub chosen_at-member_at-member-requires : goal.chosen_at-member_at-member-requires
+chosen_at-member_at-member-requires t c =
+    let within = is_within c.args.query.now c.args.slot.now _ _ c.member_count-count.ensures.count c.if-number-count.true in
+    record {
+      labels = c.requires.small.labels;
+      least = (member_begins c.args.query.now _ _ _ _ c.args.code.now c.args.at (rw c.in-Site.is at c.requires.begins) (rw c.in-Site.is at within)).0;
+      most = within;
+    }
+
 pub chosen_at-expanded-requires : goal.chosen_at-expanded-requires
 chosen_at-expanded-requires t c =
+    let query = c.args.query.now in
     let code = c.args.code.now in
     let at = c.args.at in
-    let group = c.in-Site.group in
-    let begins = rw c.in-Site.is at c.requires.begins in
-    let small = rw c.in-Site.is at c.requires.small in
-    let members = group_members c.args.query.now c.requires.kept c.in-Site.atom group c.in-Site.first c.in-Site.second small.0 small.1 c.groups.result.now c.index-groups-group.result
-    c.as_slice-members.result.now c.groups.ensures.list c.index-groups-group.is c.as_slice-members.ensures in
-    let within : get_or code at 0 ≤ length (members_at c.args.query.now (Site c.in-Site.atom group c.in-Site.first c.in-Site.second)) = rw members at c.if-number-members.true in
-    let member = member_begins c.args.query.now c.in-Site.atom group c.in-Site.first c.in-Site.second code at begins within in
-    let there : at < length code = there_is c.args.query.now c.args.slot.now code at c.requires.begins in
-    let below : get_or code at 0 - 1 < length (members_at c.args.query.now (Site c.in-Site.atom group c.in-Site.first c.in-Site.second)) = omega (arith, member.0) in (
+    let within = is_within query c.args.slot.now _ _ c.member_count-count.ensures.count c.if-number-count.true in
+    let member = member_begins query _ _ _ _ code at (rw c.in-Site.is at c.requires.begins) (rw c.in-Site.is at within) in
+    let there : at < length code = there_is query c.args.slot.now code at c.requires.begins in (
       search rules,
       (
         c.requires.kept,
         (
-          rw members
-              (small.2 (get_or (members_at c.args.query.now (Site c.in-Site.atom group c.in-Site.first c.in-Site.second)) (get_or code at 0 - 1) 0)
-              (get_or code at 0 - 1, below, get_or_default (members_at c.args.query.now (Site c.in-Site.atom group c.in-Site.first c.in-Site.second)) (get_or code at 0 - 1) _ 0 below)),
-          (omega arith, rw members member.1),
+          rw c.member_at-member.ensures.member (member_small query c.args.slot.now (get_or code at 0) c.requires.small member.0 within),
+          (omega (arith, there), rw (c.member_at-member.ensures.member, c.in-Site.is) member.1),
         ),
       ),
     )
 
-pub chosen_at-returns-then-number-members-clause-within :
-    goal.chosen_at-returns-then-number-members-clause-within
-chosen_at-returns-then-number-members-clause-within t c = (omega (arith, c.in_ok-part-in-Site.ensures.within), c.in_ok-part-in-Site.ensures.within.1)
+pub chosen_at-returns-then-number-count-clause-within :
+    goal.chosen_at-returns-then-number-count-clause-within
+chosen_at-returns-then-number-count-clause-within t c = (omega (arith, c.in_ok-part-in-Site.ensures.within), c.in_ok-part-in-Site.ensures.within.1)
 
-pub chosen_at-returns-then-number-members-clause-are :
-    goal.chosen_at-returns-then-number-members-clause-are
-chosen_at-returns-then-number-members-clause-are t c =
-    let code = c.args.code.now in
-    let at = c.args.at in
-    let group = c.in-Site.group in
-    let begins = rw c.in-Site.is at c.requires.begins in
-    let small = rw c.in-Site.is at c.requires.small in
-    let members = group_members c.args.query.now c.requires.kept c.in-Site.atom group c.in-Site.first c.in-Site.second small.0 small.1 c.groups.result.now c.index-groups-group.result
-    c.as_slice-members.result.now c.groups.ensures.list c.index-groups-group.is c.as_slice-members.ensures in
-    let within : get_or code at 0 ≤ length (members_at c.args.query.now (Site c.in-Site.atom group c.in-Site.first c.in-Site.second)) = rw members at c.if-number-members.true in
-    rw (c.in-Site.is, c.of-then-number-members.ensures)
-    (member_chosen c.args.query.now c.in-Site.atom group c.in-Site.first c.in-Site.second code at begins within c.in_ok-part-in-Site.next c.in_ok-part-in-Site.part
-    (rw members at c.in_ok-part-in-Site.ensures.is))
+pub chosen_at-returns-then-number-count-clause-are :
+    goal.chosen_at-returns-then-number-count-clause-are
+chosen_at-returns-then-number-count-clause-are t c =
+    let within = is_within c.args.query.now c.args.slot.now _ _ c.member_count-count.ensures.count c.if-number-count.true in
+    rw (c.in-Site.is, c.of-then-number-count.ensures)
+    (member_chosen c.args.query.now _ _ _ _ c.args.code.now c.args.at (rw c.in-Site.is at c.requires.begins) (rw c.in-Site.is at within) c.in_ok-part-in-Site.next c.in_ok-part-in-Site.part
+    (rw (c.member_at-member.ensures.member, c.in-Site.is) at c.in_ok-part-in-Site.ensures.is))
 
 pub chosen_at-returns-in-Link-clause-are : goal.chosen_at-returns-in-Link-clause-are
 chosen_at-returns-in-Link-clause-are t c =
     rw (c.in-Link.is, c.of.ensures) (link_chosen c.args.query.now c.in-Link.atom c.in-Link.most c.in-Link.from c.in-Link.to c.args.code.now c.args.at (rw c.in-Link.is at c.requires.begins))
 
-pub chosen_at-returns-else-number-members-clause-are :
-    goal.chosen_at-returns-else-number-members-clause-are
-chosen_at-returns-else-number-members-clause-are t c =
-    let code = c.args.code.now in
-    let at = c.args.at in
-    let group = c.in-Site.group in
-    let begins = rw c.in-Site.is at c.requires.begins in
-    let small = rw c.in-Site.is at c.requires.small in
-    let members = group_members c.args.query.now c.requires.kept c.in-Site.atom group c.in-Site.first c.in-Site.second small.0 small.1 c.groups.result.now c.index-groups-group.result
-    c.as_slice-members.result.now c.groups.ensures.list c.index-groups-group.is c.as_slice-members.ensures in
-    let rest = group_rest c.args.query.now c.requires.kept c.in-Site.atom group c.in-Site.first c.in-Site.second small.0 small.1 c.groups.result.now c.index-groups-group.result
-    c.groups.ensures.list c.index-groups-group.is in
-    let above : length (members_at c.args.query.now (Site c.in-Site.atom group c.in-Site.first c.in-Site.second)) < get_or code at 0 = rw members at c.if-number-members.false in
-    rw (c.in-Site.is, c.left_open.ensures, rest) (open_chosen c.args.query.now c.in-Site.atom group c.in-Site.first c.in-Site.second code at begins above)
+pub chosen_at-returns-else-number-count-clause-are :
+    goal.chosen_at-returns-else-number-count-clause-are
+chosen_at-returns-else-number-count-clause-are t c =
+    let above : length (members_at c.args.query.now c.args.slot.now) < get_or c.args.code.now c.args.at 0 = omega (arith, c.member_count-count.ensures.count, c.if-number-count.false) in
+    rw (c.left_open.ensures, c.draws_rest_hydrogens-rest.ensures, c.in-Site.is)
+    (open_chosen c.args.query.now _ _ _ _ c.args.code.now c.args.at (rw c.in-Site.is at c.requires.begins) (rw c.in-Site.is at above))
 
 -- ---- a template
 

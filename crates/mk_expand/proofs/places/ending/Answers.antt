@@ -1,7 +1,5 @@
 use Rattle.std.proofs.Common.{rules, ◌≤◌, ◌<◌, ◌-◌, length, refl, ap, get_or, arith}
-use Rattle.std.proofs.lemmas.List.{get_or_default}
 use Rattle.mk_model.specs.Pieces.{end_of}
-use Rattle.mk_model.specs.declared.template.Slot.TheVariants.{Link}
 use Rattle.mk_pieces.specs.Rooms.{IsSmall}
 use Rattle.mk_expand.proofs.LaidLemmas.{before_small, ending_plain, ending_slot, taker_within}
 use Rattle.mk_expand.proofs.places.ending.Goals as goal
@@ -24,11 +22,6 @@ small_end c =
     let small : end_of (get_or c.args.pieces.now (n - 1) c.index-pieces-number.result) c.is_far.result ≤ 512 = piece.ends c.is_far.result in
     omega (arith, c.end_of.ensures, ap (λ p. end_of p c.is_far.result) c.index-pieces-number.is)
 
-slot_within : (c : goal.After-end_of) → get_or c.args.takers.now (c.args.x - 1) 0 - 1 < length c.args.template.now.slots
-slot_within c =
-    let within = taker_within _ _ _ _ c.requires.laid c.args.x 0 c.requires.least c.requires.most in
-    omega (arith, c.if-number-eq0.false, c.requires.laid.fits.size)
-
 pub overflow_add-result-2 : goal.overflow_add-result-2
 overflow_add-result-2 c =
     let small = before_small _ _ _ _ c.requires.laid c.args.x 0 c.requires.least c.requires.most in
@@ -36,9 +29,9 @@ overflow_add-result-2 c =
     search rules
 
 pub returns-clause-is : goal.returns-clause-is
-returns-clause-is c = rw (c.end_of.ensures, c.is_far.ensures) (rw c.slots.ensures
+returns-clause-is c = rw (c.end_of.ensures, c.is_far.ensures)
     (ending_slot _ _ _ _ c.requires.laid c.args.x c.args.y c.requires.least c.requires.most _ refl c.if-number-eq0.false _ _ c.index-pieces-number.is
-    (get_or_default c.args.template.now.slots (get_or c.args.takers.now (c.args.x - 1) 0 - 1) (Link 0 0 0 0) _ (slot_within c))))
+    (rw c.slots.ensures at c.index-slots-number.is))
 
 pub returns-clause-small : goal.returns-clause-small
 returns-clause-small c =
