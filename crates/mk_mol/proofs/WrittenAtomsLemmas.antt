@@ -17,9 +17,6 @@ pub record AreWrittenTo (table : RawTable) (k : ℕ) (atoms : List Atom) : Type 
   pub size : length atoms ≡ k
   pub each : (i : ℕ) (line : RawAtom) (d : Atom) → i < k → slice_get table.atoms i ≡ Some line → IsWrittenAtom table (i + 1) line (get_or atoms i d)
 
-pub written-none : (table : RawTable) (atoms : List Atom) → atoms ≡ [] → AreWrittenTo table 0 atoms
-written-none table atoms is = record { size = ap length is; each = λ i line d below. absurd (omega arith) }
-
 -- one atom with its charge and its radical
 pub written-one : (table : RawTable) (list : List Electrons) (k : ℕ) (line : RawAtom) (d electrons : Electrons)
     (atom : Atom) → AreElectrons table list → slice_get table.atoms k ≡ Some line → electrons ≡ get_or list k d

@@ -15,7 +15,7 @@ use Rattle.mk_model.proofs.ForCallers.{hangs, hangs_tested, hangs_same, hangs_cl
 use Rattle.mk_ctab.proofs.ForCallers.{numbers_are, numbers-within}
 use Rattle.mk_query.specs.declared.atom_marks.Standing.{Standing}
 use Rattle.mk_query.specs.declared.blocks.LinkEnds.{LinkEnds}
-use Rattle.mk_query.specs.BlockSearch.{AreNumbersOf, HasPlainBlock, IsBlock, IsLed, IsLonger, IsReached, KeepReached, LeadsOn, MayHold, is_reached, others}
+use Rattle.mk_query.specs.BlockSearch.{AreNumbersOf, HasPlainBlock, IsBlock, IsLonger, IsReached, KeepReached, LeadsOn, MayHold, is_reached, others}
 
 -- ---- the link alone
 

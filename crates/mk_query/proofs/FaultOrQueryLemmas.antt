@@ -1,8 +1,8 @@
 -- A raw query in range has a query that passes every check, or a first fault.
 --     in_tables, across    what is found in the tables, and across them
 --     fault_or_query       the law
-use Rattle.std.proofs.Common.{◌≡◌, ◌<◌, ◌≤◌, ◌+◌, ◌-◌, ℕ, zero, suc, Bool, true, false, List, [], ◌∷◌, Option, Some, None, refl, sym, ap, subst, ◌∙◌, arith, inl, inr, length, get_or, sum_by, cond, All, ⊎_elim}
-use Rattle.std.specs.Prelude.{◌⊎◌, ◌==◌, Contains, IsTrue, slice_get}
+use Rattle.std.proofs.Common.{◌≡◌, ◌<◌, ◌≤◌, ◌+◌, ℕ, zero, suc, Bool, true, false, List, [], ◌∷◌, Option, Some, None, refl, sym, ap, subst, ◌∙◌, arith, inl, inr, length, get_or, cond, All, ⊎_elim}
+use Rattle.std.specs.Prelude.{◌⊎◌, ◌==◌, Contains, slice_get}
 use Rattle.std.proofs.lemmas.Bool.{cases_lt, eqb-true}
 use Rattle.std.proofs.lemmas.List.Elements.{All-cons, All-contains, All-head, All-tail, Contains-get_or}
 use Rattle.std.proofs.lemmas.List.Sums.{sum_by-cons}
@@ -10,7 +10,7 @@ use Rattle.std.proofs.lemmas.Option.{slice_get_within}
 use Rattle.mk_text.specs.Items.{IsLeastFailing}
 use Rattle.mk_model.specs.declared.group.Group.{Group}
 use Rattle.mk_model.specs.declared.template.Slot.{Slot}
-use Rattle.mk_model.specs.Labels.{IsChain, PutsIn, members_at}
+use Rattle.mk_model.specs.Labels.{PutsIn, members_at}
 use Rattle.mk_model.specs.Queries.{QueryView, members_of, slots_of}
 use Rattle.mk_model.specs.QueryFits.{FitsPoints}
 use Rattle.mk_model.specs.Templates.{TemplateView, neighbour_count, slot_atom}
@@ -19,19 +19,18 @@ use Rattle.mk_ctab.specs.declared.raw.RawTable.{RawTable}
 use Rattle.mk_rgfile.specs.declared.raw_query.RawGroup.{RawGroup}
 use Rattle.mk_rgfile.specs.declared.raw_query.RawQuery.{RawQuery}
 use Rattle.mk_rgfile.specs.QueryFacts.{member_count}
-use Rattle.mk_query.specs.declared.checking.Fault.{Fault}
 use Rattle.mk_query.specs.declared.compile_fault.FaultAt.{FaultAt}
 use Rattle.mk_query.specs.Compiled.{IsQueryOf, query_tables}
 use Rattle.mk_query.specs.CompileFaults.{FitsAt, FitsTable, IsAcross, IsFirstCompileFault, IsFirstInTables, IsNoCycle, IsSmall, IsWhole, PassAcross, PassChecks, PassEach, across_tables, groups_of_number, in_a_table, points, recursion, size, whole}
-use Rattle.mk_query.specs.FirstFault.{IsFirstFault, PassesAll}
+use Rattle.mk_query.specs.FirstFault.{PassesAll}
 use Rattle.mk_query.specs.InRange.{IsGroupInRange, IsQueryInRange}
 use Rattle.mk_query.specs.Laws.{FaultOrQuery}
-use Rattle.mk_query.specs.Recursion.{comes_back, leads}
+use Rattle.mk_query.specs.Recursion.{MembersWithin, comes_back, leads}
 use Rattle.mk_query.proofs.KnownCheckLemmas.{first_in_table}
-use Rattle.mk_query.proofs.KnownLemmas.{Known, SomeBelow, known_all, known_as, known_both, known_equal, known_if, known_most, known_not, known_some, known_some_below, known_some_items, known_true, least_failing}
+use Rattle.mk_query.proofs.KnownLemmas.{Known, known_all, known_as, known_both, known_equal, known_if, known_most, known_not, known_some, known_some_below, known_some_items, known_true, least_failing}
 use Rattle.mk_query.proofs.QueryLemmas.{count_of, labels_in, members_within}
 use Rattle.mk_query.proofs.QueryThereLemmas.{query_there}
-use Rattle.mk_query.proofs.RecursionLemmas.{HasGroups, chain_leads, has_groups, leads_chain, rank_of, ranked}
+use Rattle.mk_query.proofs.RecursionLemmas.{HasGroups, all_within, chain_leads, has_groups, leads_chain, rank_of, ranked}
 use Rattle.mk_query.proofs.RootSizesLemmas.{one_size}
 use Rattle.mk_query.proofs.TableWalkLemmas.{pass_nested}
 
@@ -97,14 +96,14 @@ module _ (query : QueryView) where
   known_held xs t =
       known_as (known_some (λ (x : ℕ). x ≡ t) (λ x. known_equal x t) xs) (λ some. subst (Contains xs) some.2 some.1) (λ held. (t, held, refl))
 
-  known_cycle : HasGroups query → (t : ℕ) → Known (IsNoCycle query t)
+  known_cycle : HasGroups query → MembersWithin query → (t : ℕ) → Known (IsNoCycle query t)
   unfolding Back
-  known_cycle has t =
+  known_cycle has within t =
       known_as (known_not (known_some_below (Back t) (λ g. known_both (known_most 1 g)
       (known_both (known_held (members_of query g) t)
       (known_true (comes_back (leads query 32) g (slots_of query t))))) 33))
       (λ none via chain. let back = chain_leads query 32 (omega arith) has t via t chain in none (back.0, omega (arith, back.2), (back.1, (back.3, back.4))))
-      (λ none some. let chain = leads_chain query 32 t some.0 t some.2.1.0 some.2.1.1 in none chain.0 chain.1)
+      (λ none some. let chain = leads_chain query within 32 t some.0 t some.2.1.0 some.2.1.1 in none chain.0 chain.1)
 
   -- points
   known_member : (slot : Slot) (u : ℕ) → Known ((template : TemplateView) → slice_get query.templates u ≡ Some template → length template.points ≡ neighbour_count slot)
@@ -200,19 +199,24 @@ module _ (raw : RawQuery) (is : IsQueryInRange raw) (passed : PassEach raw) (que
   has : HasGroups query
   has = has_groups query.templates query.groups (labels_in raw is (pass_nested raw passed) query.templates of.templates)
 
+  within : All (λ (group : Group). All (λ (u : ℕ). u < length query.templates) group.members) query.groups
+  within = members_within raw is (pass_nested raw passed) query.templates of.templates query.groups of.groups
+
+  inside : MembersWithin query
+  inside = all_within query.templates query.groups within
+
   known_small : ((t : ℕ) → IsNoCycle query t) → Known (IsSmall query)
   known_small none =
       let rank = rank_of query 32 in
-      let ranks = ranked query 32 (omega arith) has none in
+      let ranks = ranked query 32 (omega arith) has inside none in
       known_as (known_most (size_by_rank query rank 0) 512) (λ small. record { size = size_by_rank query rank; adds_up = sizing_of query rank ranks; small = small })
       (λ small.
-      let within = members_within raw is (pass_nested raw passed) query.templates of.templates query.groups of.groups in
       let some = count_of raw is (pass_nested raw passed) query.templates of.templates in
       let same = one_size query.templates query.groups 32 (omega arith) has within rank ranks small.size small.adds_up (suc (rank 0)) 0 (omega arith) (omega (arith, some)) in
       omega (arith, same, small.small))
 
   across : PassAcross raw query ⊎ ((fault : FaultAt) × IsAcross raw query fault)
-  across = by_cycle (least_failing (IsNoCycle query) (known_cycle query has) (length query.templates) (λ before t past. past_cycle query t past))
+  across = by_cycle (least_failing (IsNoCycle query) (known_cycle query has inside) (length query.templates) (λ before t past. past_cycle query t past))
     where
       by_whole : ((t : ℕ) → IsNoCycle query t) → ((t : ℕ) → FitsTable query t) → IsSmall query
           → ((k : ℕ) → IsWhole raw k) ⊎ ((k : ℕ) × IsLeastFailing (IsWhole raw) k) → PassAcross raw query ⊎ ((fault : FaultAt) × IsAcross raw query fault)

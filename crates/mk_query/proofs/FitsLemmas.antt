@@ -1,7 +1,7 @@
 -- What the template of a table that passes keeps of what a query asks of each template.
 --     pairs_once, slots_rising, names_neighbours, points_free, sites_apart, blocks_closed
 --     in_range             all its numbers are in range
---     has_groups, is_sized
+--     labels_rising, has_groups, is_sized
 use Rattle.std.proofs.Common.{◌≡◌, ◌≢◌, ◌≤◌, ℕ, List, [], ◌∷◌, Some, refl, ap, sym, subst, ◌∙◌, length, get_or, arith, ⊎_elim}
 use Rattle.std.specs.Prelude.{ℤ, pos, negsuc, ◌≤ℤ◌, All, Contains, IsTrue}
 use Rattle.std.proofs.lemmas.Int.{ints}
@@ -12,24 +12,24 @@ use Rattle.mk_model.specs.declared.atom_test.AtomTest.{AtomTest}
 use Rattle.mk_model.specs.declared.template.QueryBond.{QueryBond}
 use Rattle.mk_model.specs.declared.template.Slot.{Slot}
 use Rattle.mk_model.specs.declared.template.Slot.TheVariants.{Link, Site}
-use Rattle.mk_model.specs.QueryFits.{AreApart, HasClosedBlocks, HasFreePoints, HasPairsOnce, HasRisingSlots, HasSitesApart, IsAtomOf, HoldsItsBlock, IsInRange, IsMarked, IsSlotOf, NamesItsNeighbours, NamesNeighbours}
+use Rattle.mk_model.specs.QueryFits.{AreApart, HasClosedBlocks, HasFreePoints, HasPairsOnce, HasRisingLabels, HasRisingSlots, HasSitesApart, IsAtomOf, HoldsItsBlock, IsInRange, IsMarked, IsSlotOf, NamesItsNeighbours, NamesNeighbours}
 use Rattle.mk_model.specs.Tests.{IsBondInRange}
 use Rattle.mk_model.specs.Templates.{TemplateView, is_in_block, slot_atom}
 use Rattle.mk_ctab.specs.declared.raw.RawTable.{RawTable}
-use Rattle.mk_ctab.specs.Numbers.{byte, natural}
+use Rattle.mk_ctab.specs.Numbers.{natural}
 use Rattle.mk_ctab.proofs.ForCallers.{atoms_differ}
-use Rattle.mk_query.specs.Compiled.{IsTemplateOf, ordered_neighbours, points_of, slot_at, slot_with, table_slots}
+use Rattle.mk_query.specs.Compiled.{IsTemplateOf, labelled_groups, ordered_neighbours, points_of, slot_at, slot_with, table_slots}
 use Rattle.mk_query.specs.Drawn.{labels_at, links_at, query_bond, query_bonds}
 use Rattle.mk_query.specs.InRange.{IsTableInRange}
 use Rattle.mk_query.specs.OwnSizes.{IsSized}
 use Rattle.mk_query.specs.Passed.{HasPassed}
-use Rattle.mk_query.specs.Recursion.{HasGroup}
+use Rattle.mk_query.specs.Recursion.{NamesGroups}
 use Rattle.mk_query.proofs.FitsBondLemmas.{bonds_in_range, each_between, simple}
-use Rattle.mk_query.proofs.FitsNeighbourLemmas.{StandsAsLink, StandsAtSite, links_stand, placed_at, same_number, sites_apart_at, sites_stand}
+use Rattle.mk_query.proofs.FitsNeighbourLemmas.{StandsAsLink, StandsAtSite, links_stand, placed_at, sites_apart_at, sites_stand}
 use Rattle.mk_query.proofs.FitsOrderLemmas.{joined_names, site_names}
 use Rattle.mk_query.proofs.FitsPointLemmas.{IsBearer, points_few, points_in_range}
 use Rattle.mk_query.proofs.FitsTestLemmas.{tests_in_range}
-use Rattle.mk_query.proofs.FitsSlotLemmas.{atom_of_slot, each_slot, free_at, no_slot_at, same_slot, slots_have_groups, slots_rise, slots_stand}
+use Rattle.mk_query.proofs.FitsSlotLemmas.{atom_of_slot, each_slot, free_at, no_slot_at, same_slot, slots_labels_rise, slots_rise, slots_stand}
 
 -- what holds of all holds of one that is there
 all_contained : {X : Type 0} (P : X → Type 0) (xs : List X) (x : X) → All P xs → Contains xs x → P x
@@ -77,9 +77,10 @@ points_free table template passed is =
     free_at table (slot_atom slot) slot passed own.1 own.2 own.0 bearer.1)
 
 apart : (table : RawTable) (tests : List AtomTest) (slot other : Slot) → HasPassed table → StandsAtSite table slot → StandsAtSite table other → AreApart (view table tests) slot other
-apart table tests (Site atom group first second) (Site atom' group' first' second') passed one two = λ joined. sites_apart_at table atom atom' joined.0 passed one.1 one.2 one.0 two.0 joined.1 joined.2
+apart table tests (Site atom groups first second) (Site atom' groups' first' second') passed one two =
+    λ joined. sites_apart_at table atom atom' joined.0 passed one.1 one.2 one.0 two.0 joined.1 joined.2
 apart table tests (Link atom most from to) other passed one two = tt
-apart table tests (Site atom group first second) (Link atom' most from to) passed one two = tt
+apart table tests (Site atom groups first second) (Link atom' most from to) passed one two = tt
 
 pub sites_apart : (table : RawTable) (template : TemplateView) → HasPassed table → IsTemplateOf table template → HasSitesApart template
 sites_apart table template passed is =
@@ -118,7 +119,7 @@ closed_link table tests atom most from to passed (link, most_is, from_is, to_is,
     )
 
 closed : (table : RawTable) (tests : List AtomTest) (slot : Slot) → HasPassed table → StandsAsLink table slot → HoldsItsBlock (view table tests) slot
-closed table tests (Site atom group first second) passed stands = tt
+closed table tests (Site atom groups first second) passed stands = tt
 closed table tests (Link atom most from to) passed stands = λ y inside. closed_link table tests atom most from to passed stands y inside
 
 pub blocks_closed : (table : RawTable) (template : TemplateView) → HasPassed table → IsTemplateOf table template → HasClosedBlocks template
@@ -132,13 +133,10 @@ twice (pos n) is = omega (arith, ints, is)
 twice (negsuc n) is = absurd (omega (arith, ints, is))
 
 slot_of : (table : RawTable) (tests : List AtomTest) (slot : Slot) → length tests ≡ length table.atoms
-    → StandsAsLink table slot → HasGroup slot → (1 ≤ slot_atom slot) × (slot_atom slot ≤ length table.atoms)
+    → StandsAsLink table slot → (1 ≤ slot_atom slot) × (slot_atom slot ≤ length table.atoms)
     → IsSlotOf (view table tests) slot
-slot_of table tests (Site atom group first second) size stands group_is at = (
-  (at.0, omega (arith, at.1, size)),
-  λ g bears. (let same = same_number group g bears in (omega (arith, same, group_is.0), omega (arith, same, group_is.1))),
-)
-slot_of table tests (Link atom most from to) size (link, most_is, from_is, to_is, right, least, few) group_is at = (
+slot_of table tests (Site atom groups first second) size stands at = (at.0, omega (arith, at.1, size))
+slot_of table tests (Link atom most from to) size (link, most_is, from_is, to_is, right, least, few) at = (
   (at.0, omega (arith, at.1, size)),
   record {
     twice = omega (arith, most_is, twice link.most right.twice);
@@ -157,11 +155,11 @@ slot_of table tests (Link atom most from to) size (link, most_is, from_is, to_is
 )
 
 -- the slots are in range
-pub links_and_labels : (table : RawTable) (template : TemplateView) → HasPassed table → IsTemplateOf table template → All (IsSlotOf template) template.slots
-links_and_labels table template passed is =
+pub slots_in_range : (table : RawTable) (template : TemplateView) → HasPassed table → IsTemplateOf table template → All (IsSlotOf template) template.slots
+slots_in_range table template passed is =
     by_view (λ (t : TemplateView). All (IsSlotOf t) t.slots) table template is
     (λ k d below. slot_of table template.atoms (get_or (table_slots table) k d) is.atoms.size
-    (links_stand table passed k d below) (slots_have_groups table passed k d below) (slots_stand table k d below))
+    (links_stand table passed k d below) (slots_stand table k d below))
 
 -- the points are, and there are two at most
 pub points_within : (table : RawTable) (template : TemplateView) → HasPassed table → IsTemplateOf table template → All (IsAtomOf template) template.points × (length template.points ≤ 2)
@@ -169,8 +167,12 @@ points_within table template passed is =
     by_view (λ (t : TemplateView). All (IsAtomOf t) t.points × (length t.points ≤ 2)) table template is
     (λ k d below. (let at = (points_in_range table k d below).0 in (at.0, omega (arith, at.1, is.atoms.size))), points_few table passed)
 
-pub has_groups : (table : RawTable) (template : TemplateView) → HasPassed table → IsTemplateOf table template → All HasGroup template.slots
-has_groups table template passed is = by_view (λ (t : TemplateView). All HasGroup t.slots) table template is (slots_have_groups table passed)
+-- the labels of sites rise, and are from 1 to 32
+pub labels_rising : (table : RawTable) (template : TemplateView) → IsTemplateOf table template → HasRisingLabels template
+labels_rising table template is = by_view HasRisingLabels table template is (slots_labels_rise table)
+
+pub has_groups : (table : RawTable) (template : TemplateView) → IsTemplateOf table template → All NamesGroups template.slots
+has_groups table template is k d below = (labels_rising table template is k d below).in_range
 
 pub is_sized : (table : RawTable) (template : TemplateView) → IsTableInRange table → HasPassed table → IsTemplateOf table template → IsSized template
 is_sized table template raw passed is =
@@ -191,7 +193,7 @@ in_range table template raw passed is = record {
       (λ k d below.
       let ends = each_between table passed k d below in
       ((ends.first.0, omega (arith, ends.first.1, is.atoms.size)), (ends.second.0, omega (arith, ends.second.1, is.atoms.size))));
-  slots = links_and_labels table template passed is;
+  slots = slots_in_range table template passed is;
   points = (points_within table template passed is).0;
   few_points = (points_within table template passed is).1;
 }
@@ -201,11 +203,12 @@ in_range table template raw passed is = record {
 -- a site names the neighbours in the order that holds
 abbrev NamesOrder : RawTable → Slot → Type 0
 NamesOrder table (Link atom most from to) = Unit {0}
-NamesOrder table (Site atom group first second) = (first ≡ (ordered_neighbours table atom).0) × (second ≡ (ordered_neighbours table atom).1)
+NamesOrder table (Site atom groups first second) = (first ≡ (ordered_neighbours table atom).0) × (second ≡ (ordered_neighbours table atom).1)
 
 order_with : (table : RawTable) (x : ℕ) (links : List LinkEntry) (labels : List ℤ) (slot : Slot) → slot_with x links labels (ordered_neighbours table x) ≡ Some slot → NamesOrder table slot
 order_with table x (link ∷ links) labels slot is = subst (NamesOrder table) (same_slot (Link x (natural link.most) (natural link.from) (natural link.to)) slot is) tt
-order_with table x [] (label ∷ labels) slot is = subst (NamesOrder table) (same_slot (Site x (byte label) (ordered_neighbours table x).0 (ordered_neighbours table x).1) slot is) (refl, refl)
+order_with table x [] (label ∷ labels) slot is =
+    subst (NamesOrder table) (same_slot (Site x (labelled_groups (label ∷ labels)) (ordered_neighbours table x).0 (ordered_neighbours table x).1) slot is) (refl, refl)
 order_with table x [] [] slot is = absurd cc
 
 orders_named : (table : RawTable) → All (NamesOrder table) (table_slots table)
@@ -213,7 +216,7 @@ orders_named table = each_slot (NamesOrder table) table (λ x slot least most is
 
 named : (table : RawTable) (tests : List AtomTest) (slot : Slot) → HasPassed table → StandsAtSite table slot → NamesOrder table slot → NamesItsNeighbours (view table tests) slot
 named table tests (Link atom most from to) passed stands order = tt
-named table tests (Site atom group first second) passed stands order =
+named table tests (Site atom groups first second) passed stands order =
     let placed = placed_at table atom passed stands.1 stands.2 stands.0 in
     let names = site_names table atom passed placed in
     rw (order.0, order.1) (record { some = names.0; differ = names.1; neighbours = joined_names table atom passed placed })

@@ -13,8 +13,8 @@ use Rattle.mk_model.specs.declared.template.Slot.{Slot}
 use Rattle.mk_model.specs.declared.template.Slot.TheVariants.{Link, Site}
 use Rattle.mk_model.specs.Templates.{joins}
 use Rattle.mk_ctab.specs.declared.raw.RawTable.{RawTable}
-use Rattle.mk_ctab.specs.Numbers.{byte, natural}
-use Rattle.mk_query.specs.Compiled.{ordered_neighbours, slot_with, table_slots}
+use Rattle.mk_ctab.specs.Numbers.{natural}
+use Rattle.mk_query.specs.Compiled.{labelled_groups, ordered_neighbours, slot_with, table_slots}
 use Rattle.mk_query.specs.Drawn.{drawn_neighbours, is_site_at, labels_at, links_at, neighbours_at, query_bonds}
 use Rattle.mk_query.specs.FirstFault.{link_atoms, site_places}
 use Rattle.mk_query.specs.LinkChecks.{AreRightLinks, CanBeLink}
@@ -74,13 +74,14 @@ neighbour_of (b ∷ bonds) x y bond (suc k, below, is) joined =
 -- the atom of a site is one
 abbrev pub StandsAtSite : RawTable → Slot → Type 0
 StandsAtSite table (Link atom most from to) = Unit {0}
-StandsAtSite table (Site atom group first second) = IsTrue (is_site_at table atom) × (1 ≤ atom) × (atom ≤ length table.atoms)
+StandsAtSite table (Site atom groups first second) = IsTrue (is_site_at table atom) × (1 ≤ atom) × (atom ≤ length table.atoms)
 
 site_with : (table : RawTable) (x : ℕ) (links : List LinkEntry) (labels : List ℤ) (both : ℕ × ℕ) (slot : Slot) → 1 ≤ x
     → x ≤ length table.atoms → (labels ≢ [] → IsTrue (is_site_at table x)) → slot_with x links labels both ≡ Some slot
     → StandsAtSite table slot
 site_with table x (link ∷ links) labels both slot least most site is = subst (StandsAtSite table) (same_slot (Link x (natural link.most) (natural link.from) (natural link.to)) slot is) tt
-site_with table x [] (label ∷ labels) both slot least most site is = subst (StandsAtSite table) (same_slot (Site x (byte label) both.0 both.1) slot is) (site (λ e. absurd cc), least, most)
+site_with table x [] (label ∷ labels) both slot least most site is =
+    subst (StandsAtSite table) (same_slot (Site x (labelled_groups (label ∷ labels)) both.0 both.1) slot is) (site (λ e. absurd cc), least, most)
 site_with table x [] [] both slot least most site is = absurd cc
 
 pub sites_stand : (table : RawTable) → HasPassed table → All (StandsAtSite table) (table_slots table)
@@ -107,7 +108,7 @@ sites_apart_at table x y bond passed least most site other at joined =
 abbrev pub StandsAsLink : RawTable → Slot → Type 0
 StandsAsLink table (Link atom most from to) =
     (link : LinkEntry) × (most ≡ natural link.most) × (from ≡ natural link.from) × (to ≡ natural link.to) × CanBeLink table atom link × (1 ≤ atom) × (atom ≤ length table.atoms)
-StandsAsLink table (Site atom group first second) = Unit {0}
+StandsAsLink table (Site atom groups first second) = Unit {0}
 
 link_with : (table : RawTable) (x : ℕ) (links : List LinkEntry) (labels : List ℤ) (both : ℕ × ℕ) (slot : Slot) → 1 ≤ x
     → x ≤ length table.atoms → AreRightLinks table x links → slot_with x links labels both ≡ Some slot
@@ -115,7 +116,7 @@ link_with : (table : RawTable) (x : ℕ) (links : List LinkEntry) (labels : List
 link_with table x (link ∷ []) labels both slot least most right is =
     subst (StandsAsLink table) (same_slot (Link x (natural link.most) (natural link.from) (natural link.to)) slot is) (link, refl, refl, refl, right, least, most)
 link_with table x (link ∷ second ∷ links) labels both slot least most right is = absurd right
-link_with table x [] (label ∷ labels) both slot least most right is = subst (StandsAsLink table) (same_slot (Site x (byte label) both.0 both.1) slot is) tt
+link_with table x [] (label ∷ labels) both slot least most right is = subst (StandsAsLink table) (same_slot (Site x (labelled_groups (label ∷ labels)) both.0 both.1) slot is) tt
 link_with table x [] [] both slot least most right is = absurd cc
 
 -- each link is such as a query may have

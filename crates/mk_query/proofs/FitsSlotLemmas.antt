@@ -1,35 +1,30 @@
 -- The slots of a table that passes, as its template has them.
 --     slots_rise         they stand by rising atom
 --     each_slot          what holds of the slot of each atom holds of all
---     slots_have_groups  the labels of sites are from 1 to 32
+--     slots_labels_rise  the labels of sites rise, and are from 1 to 32
 --     free_at, site_at   what stands at a slot
-use Rattle.std.proofs.Common.{◌≡◌, ◌≢◌, ◌≤◌, ◌<◌, ◌+◌, ℕ, zero, suc, true, false, cond, eqb, List, [], ◌∷◌, ◌++◌, Option, Some, None, refl, ap, sym, subst, ◌∙◌, length, get_or, arith}
-use Rattle.std.specs.Prelude.{ℤ, pos, All, AllPairs, IsTrue}
+use Rattle.std.proofs.Common.{◌≡◌, ◌≢◌, ◌≤◌, ◌<◌, ◌+◌, ℕ, zero, suc, List, [], ◌∷◌, ◌++◌, Option, Some, None, refl, ap, sym, subst, ◌∙◌, length, arith}
+use Rattle.std.specs.Prelude.{ℤ, All, AllPairs, IsTrue}
 use Rattle.std.specs.List.{range_with_len}
 use Rattle.std.proofs.lemmas.List.{append-nil}
 use Rattle.std.proofs.lemmas.List.Elements.{All-append, All-cons, All-nil}
 use Rattle.std.proofs.lemmas.List.Quantifiers.{all_pairs_push}
-use Rattle.mk_text.proofs.ForCallers.{all_of}
 use Rattle.mk_props.specs.declared.property.LinkEntry.{LinkEntry}
-use Rattle.mk_props.specs.declared.property.Pair.{Pair}
-use Rattle.mk_props.specs.declared.property.Property.{Property}
-use Rattle.mk_props.specs.declared.property.Property.TheVariants as kinds
 use Rattle.mk_model.specs.declared.template.Slot.{Slot}
 use Rattle.mk_model.specs.declared.template.Slot.TheVariants.{Link, Site}
+use Rattle.mk_model.specs.Labels.{site_labels as slot_labels}
+use Rattle.mk_model.specs.QueryFits.{AreRisingLabels}
 use Rattle.mk_model.specs.Templates.{slot_atom}
 use Rattle.mk_ctab.specs.declared.raw.RawTable.{RawTable}
-use Rattle.mk_ctab.specs.Charges.{values_for}
-use Rattle.mk_ctab.specs.Numbers.{IsWithin, byte, natural}
-use Rattle.mk_query.specs.Checks.{HasQueryValues, IsQueryProperty}
-use Rattle.mk_query.specs.Compiled.{ordered_neighbours, slot_at, slot_with, slots_at, slots_in, table_slots}
-use Rattle.mk_query.specs.Drawn.{is_site_at, labels_at, labels_of, links_at, pairs_by}
-use Rattle.mk_query.specs.FirstFault.{query_properties, site_labels}
+use Rattle.mk_ctab.specs.Numbers.{natural}
+use Rattle.mk_query.specs.Compiled.{labelled_groups, ordered_neighbours, slot_at, slot_with, slots_at, slots_in, table_slots}
+use Rattle.mk_query.specs.Drawn.{is_site_at, labels_at, links_at}
+use Rattle.mk_query.specs.FirstFault.{site_labels}
 use Rattle.mk_query.specs.LinkChecks.{BearsSome}
 use Rattle.mk_query.specs.Passed.{HasPassed}
-use Rattle.mk_query.specs.Recursion.{HasGroup}
 use Rattle.mk_query.specs.SiteChecks.{IsLabelled}
-use Rattle.mk_query.proofs.FitsBondLemmas.{byte_within}
 use Rattle.mk_query.proofs.FitsPointLemmas.{atom_line, pointed_at}
+use Rattle.mk_query.proofs.LabelMarkLemmas.{groups_rise}
 use Rattle.mk_query.proofs.RangeLemmas.{numbers_more}
 use Rattle.mk_query.proofs.SlotMarkLemmas.{slots_at-push}
 
@@ -63,7 +58,7 @@ each_slot P table each = each_to P table (length table.atoms) each
 
 atom_with : (x : ℕ) (links : List LinkEntry) (labels : List ℤ) (both : ℕ × ℕ) (slot : Slot) → slot_with x links labels both ≡ Some slot → slot_atom slot ≡ x
 atom_with x (link ∷ links) labels both slot is = sym (ap slot_atom (same_slot (Link x (natural link.most) (natural link.from) (natural link.to)) slot is))
-atom_with x [] (label ∷ labels) both slot is = sym (ap slot_atom (same_slot (Site x (byte label) both.0 both.1) slot is))
+atom_with x [] (label ∷ labels) both slot is = sym (ap slot_atom (same_slot (Site x (labelled_groups (label ∷ labels)) both.0 both.1) slot is))
 atom_with x [] [] both slot is = absurd cc
 
 pub atom_of_slot : (table : RawTable) (x : ℕ) (slot : Slot) → slot_at table x ≡ Some slot → slot_atom slot ≡ x
@@ -97,39 +92,22 @@ slots_stand table =
 
 -- ---- labels
 
-abbrev IsLabel : ℤ → Type 0
-IsLabel label = IsWithin (pos 1) (pos 32) label
+-- the labels of a slot rise, and are from 1 to 32
+abbrev HasRising : Slot → Type 0
+HasRising slot = AreRisingLabels (slot_labels slot)
 
-values_all : (x : ℕ) (pairs : List Pair) → All (λ pair. IsLabel pair.value) pairs → All IsLabel (values_for x pairs)
-values_all x [] all = All-nil IsLabel
-values_all x (pair ∷ pairs) all =
-    let later = values_all x pairs (λ k d below. all (suc k) d (omega (arith, below))) in
-    elim (eqb (natural pair.atom) x) as (λ t. All IsLabel (cond t (pair.value ∷ values_for x pairs) (values_for x pairs)))
-    [ true ↦ All-cons IsLabel pair.value (values_for x pairs) (all 0 pair (omega arith)) later | false ↦ later ]
+-- a link has none
+none_rise : AreRisingLabels []
+none_rise = record { rise = λ i j d less below. absurd (omega (arith, below)); in_range = λ k d below. absurd (omega (arith, below)) }
 
-pairs_all : (props : List Property) → All (λ p. All (λ (pair : Pair). IsLabel pair.value) (labels_of p)) props → All (λ (pair : Pair). IsLabel pair.value) (pairs_by labels_of props)
-pairs_all [] all = All-nil (λ (pair : Pair). IsLabel pair.value)
-pairs_all (p ∷ props) all =
-    All-append (λ (pair : Pair). IsLabel pair.value) (labels_of p) (pairs_by labels_of props) (all 0 p (omega arith)) (pairs_all props (λ k d below. all (suc k) d (omega (arith, below))))
+rising_with : (x : ℕ) (links : List LinkEntry) (labels : List ℤ) (both : ℕ × ℕ) (slot : Slot) → slot_with x links labels both ≡ Some slot → HasRising slot
+rising_with x (link ∷ links) labels both slot is = subst HasRising (same_slot (Link x (natural link.most) (natural link.from) (natural link.to)) slot is) none_rise
+rising_with x [] (label ∷ labels) both slot is = subst HasRising (same_slot (Site x (labelled_groups (label ∷ labels)) both.0 both.1) slot is) (groups_rise (label ∷ labels))
+rising_with x [] [] both slot is = absurd cc
 
-labels_known : (p : Property) → HasQueryValues p → All (λ (pair : Pair). IsLabel pair.value) (labels_of p)
-labels_known (kinds.Label pairs) h = h
-labels_known p h = All-nil (λ (pair : Pair). IsLabel pair.value)
-
-labels_right : (table : RawTable) (x : ℕ) → HasPassed table → All IsLabel (labels_at table x)
-labels_right table x passed =
-    values_all x (pairs_by labels_of table.props)
-    (pairs_all table.props (λ k d below. labels_known (get_or table.props k d) (all_of (IsQueryProperty (length table.atoms)) table.props (passed.passes query_properties) k d below).values))
-
-group_with : (x : ℕ) (links : List LinkEntry) (labels : List ℤ) (both : ℕ × ℕ) (slot : Slot) → All IsLabel labels → slot_with x links labels both ≡ Some slot → HasGroup slot
-group_with x (link ∷ links) labels both slot right is = subst HasGroup (same_slot (Link x (natural link.most) (natural link.from) (natural link.to)) slot is) tt
-group_with x [] (label ∷ labels) both slot right is = subst HasGroup (same_slot (Site x (byte label) both.0 both.1) slot is) (byte_within label 1 32 (omega arith) (right 0 label (omega arith)))
-group_with x [] [] both slot right is = absurd cc
-
--- the label of a site is a group's number
-pub slots_have_groups : (table : RawTable) → HasPassed table → All HasGroup (table_slots table)
-slots_have_groups table passed =
-    each_slot HasGroup table (λ x slot least most is. group_with x (links_at table x) (labels_at table x) (ordered_neighbours table x) slot (labels_right table x passed) is)
+-- the labels of each slot rise, and are from 1 to 32
+pub slots_labels_rise : (table : RawTable) → All (λ slot. AreRisingLabels (slot_labels slot)) (table_slots table)
+slots_labels_rise table = each_slot HasRising table (λ x slot least most is. rising_with x (links_at table x) (labels_at table x) (ordered_neighbours table x) slot is)
 
 -- ---- what stands at a slot
 

@@ -2,7 +2,7 @@
 --     table_in_range   a table that is read is in range
 --     in_range         a raw query that is read is in range
 --     few_by_lines     a raw query of a text of at most 2^32 lines has few members and few properties
-use Rattle.std.proofs.Common.{◌+◌, ◌<◌, ◌≤◌, ◌^◌, ℕ, All, arith}
+use Rattle.std.proofs.Common.{◌+◌, ◌<◌, ◌≤◌, ℕ, arith}
 use Rattle.mk_ctab.specs.declared.raw.RawTable.{RawTable}
 use Rattle.mk_ctab.specs.TableFacts.{IsRawTable}
 use Rattle.mk_rgfile.specs.declared.raw_query.RawQuery.{RawQuery}

@@ -2,20 +2,18 @@
 -- ends with CR.
 --     keeps_texts          the tables keep their text
 --     kept_text            the law
-use Rattle.std.proofs.Common.{◌≡◌, ◌≤◌, ◌+◌, ◌-◌, ℕ, zero, suc, Bool, true, false, not, ◌&&◌, eqb, List, [], ◌∷◌, ◌++◌, Some, refl, sym, ap, subst, ◌∙◌, arith, inl, inr, length, get_or, take, drop, map, All, IsTrue}
-use Rattle.std.specs.Prelude.{Contains, codes, slice_get, pos, ◌⊎◌, ◌==◌}
+use Rattle.std.proofs.Common.{◌≡◌, ◌+◌, ◌-◌, ℕ, zero, suc, true, false, not, eqb, List, [], ◌∷◌, ◌++◌, Some, refl, sym, ap, subst, ◌∙◌, arith, inl, inr, length, get_or, drop, map, All}
+use Rattle.std.specs.Prelude.{Contains, slice_get, pos, ◌⊎◌, ◌==◌}
 use Rattle.std.specs.List.{list_all}
 use Rattle.std.specs.Char.{is_ascii_digit}
 use Rattle.std.proofs.lemmas.Bool.{eq-eqb}
 use Rattle.std.proofs.lemmas.List.Elements.{All-contains, Contains-append_right}
-use Rattle.std.proofs.lemmas.Option.{slice_get-get_or, slice_get_within}
+use Rattle.std.proofs.lemmas.Option.{slice_get-get_or}
 use Rattle.mk_elements.specs.Symbols.{NamesElement, symbols}
-use Rattle.mk_text.specs.Columns.{are_blank}
 use Rattle.mk_text.specs.KeptLines.{kept_lines, without_crs}
-use Rattle.mk_text.specs.Lines.{EndsWith, lines_of}
+use Rattle.mk_text.specs.Lines.{lines_of}
 use Rattle.mk_text.proofs.ForCallers.{all_of, both, kept_lines_are_read, lines_hold_no_lf}
 use Rattle.mk_props.specs.declared.property.AtomList.{AtomList}
-use Rattle.mk_props.specs.declared.property.LogicLine.{LogicLine}
 use Rattle.mk_props.specs.declared.property.Property.{Property}
 use Rattle.mk_props.specs.declared.property.Property.TheVariants as kinds
 use Rattle.mk_model.specs.declared.group.Interval.{Interval}
@@ -26,16 +24,14 @@ use Rattle.mk_logic.specs.RangeTexts.IsRangeText.{blank_text, item_text}
 use Rattle.mk_ctab.specs.declared.raw.RawAtom.{RawAtom}
 use Rattle.mk_ctab.specs.declared.raw.RawTable.{RawTable}
 use Rattle.mk_ctab.specs.KeptTables.{EndsWithoutCr, KeepsItsText}
-use Rattle.mk_ctab.specs.Numbers.{IsAtom, natural}
+use Rattle.mk_ctab.specs.Numbers.{natural}
 use Rattle.mk_ctab.specs.TableLines.{Line}
 use Rattle.mk_ctab.proofs.ForCallers.{atom_within}
-use Rattle.mk_rgfile.specs.declared.raw_query.RawGroup.{RawGroup}
 use Rattle.mk_rgfile.specs.declared.raw_query.RawQuery.{RawQuery}
 use Rattle.mk_rgfile.specs.KeptQueries.{KeepsItsTexts, KeptLinesAreTheQuery}
 use Rattle.mk_rgfile.specs.QueryFile.{IsQueryFile}
 use Rattle.mk_rgfile.proofs.ForCallers.{all_no_cr, blank_no_cr, both_no_cr, has_no_cr, no_end}
 use Rattle.mk_query.specs.Checks.{IsElementName, IsQueryAtom, IsQueryProperty, IsQueryWord}
-use Rattle.mk_query.specs.Compiled.{query_tables}
 use Rattle.mk_query.specs.CompileFaults.{PassEach}
 use Rattle.mk_query.specs.Drawn.{ElementList, all_lists, by_numbers, by_symbols, listed_atom, lists_at, symbol_lists}
 use Rattle.mk_query.specs.FirstFault.{query_properties, group_logic, query_atoms}
@@ -43,7 +39,6 @@ use Rattle.mk_query.specs.Laws.{KeptTextIsTheQuery}
 use Rattle.mk_query.specs.LinkChecks.{IsLogical}
 use Rattle.mk_query.specs.Passed.{HasPassed}
 use Rattle.mk_query.specs.SiteChecks.{HasKnownMembers}
-use Rattle.mk_query.specs.TableWalk.{PassNested}
 use Rattle.mk_query.proofs.KindLemmas.{listed_at}
 use Rattle.mk_query.proofs.ListMarkLemmas.{lists_of, symbols_first}
 use Rattle.mk_query.proofs.TableWalkLemmas.{pass_nested}

@@ -1,14 +1,14 @@
 -- Whether an item of a table meets a check is known.
 --     known_demand         of every check and every item
 --     first_in_table       so a table passes, or it has a first fault
-use Rattle.std.proofs.Common.{◌≡◌, ◌<◌, ◌≤◌, ◌+◌, ◌-◌, ℕ, zero, suc, Bool, true, false, List, [], ◌∷◌, Option, Some, None, IsTrue, refl, sym, ap, subst, ◌∙◌, arith, inl, inr, length, drop, take, All, ⊎_elim}
+use Rattle.std.proofs.Common.{◌≡◌, ◌<◌, ◌≤◌, ◌+◌, ◌-◌, ℕ, zero, suc, Bool, true, false, List, [], ◌∷◌, Option, Some, None, IsTrue, refl, sym, ap, subst, ◌∙◌, arith, inl, inr, length, drop, take, ⊎_elim}
 use Rattle.std.specs.Int.Signed.{≤ℤ_refl}
-use Rattle.std.specs.Prelude.{ℤ, pos, negsuc, ◌⊎◌, ◌↔◌, ◌≢◌, Contains, codes, slice_get}
-use Rattle.std.proofs.lemmas.Bool.{cases_eq, cases_lt}
+use Rattle.std.specs.Prelude.{ℤ, pos, negsuc, ◌⊎◌, ◌≢◌, AllPairs, codes, slice_get}
+use Rattle.std.proofs.lemmas.Bool.{cases_eq}
 use Rattle.std.proofs.lemmas.List.{take_all}
-use Rattle.std.proofs.lemmas.Option.{slice_get_within}
+use Rattle.std.proofs.lemmas.List.Kept.{AllPairs-cons}
 use Rattle.mk_elements.specs.Symbols.{NamesElement, symbols}
-use Rattle.mk_text.specs.Items.{IsLeastFailing, OfItem}
+use Rattle.mk_text.specs.Items.{IsLeastFailing}
 use Rattle.mk_text.proofs.ForCallers.{of_item-past}
 use Rattle.mk_props.specs.declared.property.LinkEntry.{LinkEntry}
 use Rattle.mk_props.specs.declared.property.LogicLine.{LogicLine}
@@ -24,7 +24,7 @@ use Rattle.mk_model.specs.Templates.{joins}
 use Rattle.mk_ctab.specs.declared.raw.RawAtom.{RawAtom}
 use Rattle.mk_ctab.specs.declared.raw.RawBond.{RawBond}
 use Rattle.mk_ctab.specs.declared.raw.RawTable.{RawTable}
-use Rattle.mk_ctab.specs.Bonds.{HasFewBonds, HasTwoEnds, IsNewBond, IsNewBondAt, JoinSame, edges_of}
+use Rattle.mk_ctab.specs.Bonds.{HasFewBonds, IsNewBond, JoinSame, edges_of}
 use Rattle.mk_ctab.specs.Numbers.{IsAtom, IsWithin, natural}
 use Rattle.mk_ctab.specs.Values.{AreForAtoms, HaveValues}
 use Rattle.mk_logic.specs.RangeReading.{range_of}
@@ -32,11 +32,11 @@ use Rattle.mk_logic.specs.RangeTexts.{IsRangeText}
 use Rattle.mk_logic.proofs.ForCallers.{range_is_read}
 use Rattle.mk_rgfile.specs.declared.raw_query.RawGroup.{RawGroup}
 use Rattle.mk_query.specs.declared.checking.Fault.{Fault}
-use Rattle.mk_query.specs.Checks.{HasQueryType, HasQueryValues, IsElementName, IsQueryAtom, IsQueryBond, IsQueryProperty, IsQueryWord, IsRingBondCount, LeavesFewBonds, NamesItsAtoms}
+use Rattle.mk_query.specs.Checks.{HasQueryType, HasQueryValues, IsElementName, IsQueryAtom, IsQueryBond, IsQueryProperty, IsQueryWord, IsRingBondCount, NamesItsAtoms}
 use Rattle.mk_query.specs.Drawn.{ElementList, bears_point, by_numbers, by_symbols, drawn_neighbours, is_site, is_site_at, labels_at, links_at, lists_at, query_bonds}
-use Rattle.mk_query.specs.FirstFault.{QueryCheck, QueryDemands, IsFirstFault, Passes, PassesAll, PassesBelow, attachment_points, element_lists, group_logic, link_atoms, query_check_number, query_atoms, query_bonds as bonds_checked, query_properties, site_labels, site_orders, site_places}
-use Rattle.mk_query.specs.LinkChecks.{AreRightLinks, BearsSome, HasLink, HasLogic, HasPoint, IsInBlock, CanBeLink, IsLogical, IsPlainBut, IsPointed, IsRightLogic, LeadAlike, SpeaksOfSame}
-use Rattle.mk_query.specs.SiteChecks.{ArePlaced, HasKnownMembers, HasLabel, HasLists, HasMember, HasSiteOrder, HasSitePlace, IsLabelled, IsListed, IsOrdered, IsSiteOrder, OrdersNeighbours, OrdersSame}
+use Rattle.mk_query.specs.FirstFault.{QueryCheck, QueryDemands, IsFirstFault, PassesAll, PassesBelow, attachment_points, element_lists, group_logic, link_atoms, query_check_number, query_atoms, query_bonds as bonds_checked, query_properties, site_labels, site_orders, site_places}
+use Rattle.mk_query.specs.LinkChecks.{AreRightLinks, BearsSome, IsInBlock, CanBeLink, IsLogical, IsPlainBut, IsPointed, LeadAlike, SpeaksOfSame}
+use Rattle.mk_query.specs.SiteChecks.{ArePlaced, HasKnownMembers, HasMember, IsLabelled, IsListed, IsOrdered, OrdersNeighbours, OrdersSame}
 use Rattle.mk_query.proofs.FaultLemmas.{below_all, below_more, below_none}
 use Rattle.mk_query.proofs.KnownLemmas.{Known, SomeBelow, SomeOf, known_all, known_as, known_below, known_both, known_bytes, known_either, known_equal, known_if, known_iff, known_integers, known_item, known_most, known_not, known_some, known_some_below, known_some_items, known_true, known_within, least_failing}
 
@@ -178,11 +178,19 @@ known_member groups label =
     (λ group. known_both (known_integers (pos group.number) label) (known_most 1 (length group.members))) groups)
     (λ some. (some.0, some.1, some.2.0, some.2.1)) (λ has. (has.0, has.1, (has.2, has.3)))
 
+-- no item of a list is alike a later one
+known_apart : (labels : List ℤ) → Known (AllPairs (λ label later. label ≢ later) labels)
+known_apart [] = inl (λ i j d less below. absurd (omega (arith, below)))
+known_apart (label ∷ labels) =
+    known_as (known_both (known_all (λ (later : ℤ). label ≡ later → ⊥) (λ later. known_not (known_integers label later)) labels) (known_apart labels))
+    (λ parts. AllPairs-cons (λ label later. label ≢ later) label labels parts.0 parts.1)
+    (λ all. (λ k d below. all 0 (suc k) d (omega arith) (omega (arith, below)), λ i j d less below. all (suc i) (suc j) d (omega (arith, less)) (omega (arith, below))))
+
 known_labelled : (groups : List RawGroup) (labels : List ℤ) (atom : RawAtom) → Known (IsLabelled groups labels atom)
 known_labelled groups labels atom =
     known_as
-    (known_both (known_iff (known_true (is_site atom)) (known_not (known_some_items labels))) (known_both (known_most (length labels) 1) (known_all (HasMember groups) (known_member groups) labels)))
-    (λ all. record { word = all.0; alone = all.1.0; members = all.1.1 }) (λ is. (is.word, (is.alone, is.members)))
+    (known_both (known_iff (known_true (is_site atom)) (known_not (known_some_items labels))) (known_both (known_apart labels) (known_all (HasMember groups) (known_member groups) labels)))
+    (λ all. record { word = all.0; once = all.1.0; members = all.1.1 }) (λ is. (is.word, (is.once, is.members)))
 
 -- ---- sites
 

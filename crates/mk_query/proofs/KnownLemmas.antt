@@ -3,7 +3,7 @@
 --     Known P              P holds, or it doesn't
 --     known_all, known_some, known_below, known_some_below, known_item     of each of a list or of the numbers below one, or of some
 --     least_failing        the least number that fails, where all behind some number pass
-use Rattle.std.proofs.Common.{refl, ◌≡◌, ◌<◌, ◌≤◌, ◌+◌, ◌-◌, ℕ, zero, suc, Bool, true, false, List, [], ◌∷◌, Option, Some, None, IsTrue, sym, ap, subst, ◌∙◌, arith, inl, inr, length, get_or, All, ⊎_elim}
+use Rattle.std.proofs.Common.{refl, ◌≡◌, ◌<◌, ◌≤◌, ◌-◌, ℕ, zero, suc, Bool, true, false, List, [], ◌∷◌, Option, Some, None, IsTrue, sym, subst, ◌∙◌, arith, inl, inr, All, ⊎_elim}
 use Rattle.std.specs.Prelude.{ℤ, ◌≤ℤ◌, ◌⊎◌, ◌↔◌, Contains, bytes_eq, slice_get}
 use Rattle.std.specs.Ordering.{int_eq}
 use Rattle.std.proofs.lemmas.Bool.{cases_Bool, cases_eq, cases_lt, true≢false}

@@ -16,6 +16,7 @@ pub mod ForCallers
 pub mod GroupLemmas
 pub mod KindLemmas
 pub mod LabelLemmas
+pub mod LabelMarkLemmas
 pub mod LinkLemmas
 pub mod LinkMarkLemmas
 pub mod ListLemmas

@@ -1,7 +1,7 @@
 -- A raw query has at most one first fault, and none where its query passes every check.
 --     one_first_fault      the law
 --     no_fault             and that there is none
-use Rattle.std.proofs.Common.{◌≡◌, ◌<◌, ◌≤◌, ◌+◌, ℕ, Bool, List, Some, refl, sym, ap, subst, ◌∙◌, arith, inl, inr}
+use Rattle.std.proofs.Common.{◌≡◌, ◌<◌, ℕ, Bool, List, Some, sym, ap, subst, ◌∙◌, arith, inl, inr}
 use Rattle.std.specs.Prelude.{slice_get, ◌==◌, ◌⊎◌}
 use Rattle.std.proofs.lemmas.Bool.{cases_order}
 use Rattle.mk_text.specs.Items.{IsLeastFailing}
@@ -12,8 +12,8 @@ use Rattle.mk_rgfile.specs.declared.raw_query.RawGroup.{RawGroup}
 use Rattle.mk_rgfile.specs.declared.raw_query.RawQuery.{RawQuery}
 use Rattle.mk_query.specs.declared.checking.Fault.{Fault}
 use Rattle.mk_query.specs.declared.compile_fault.FaultAt.{FaultAt}
-use Rattle.mk_query.specs.Compiled.{IsQueryOf, query_tables}
-use Rattle.mk_query.specs.CompileFaults.{FitsAt, FitsTable, IsAcross, IsFirstCompileFault, IsFirstInTables, IsNoCycle, IsSmall, IsWhole, PassAcross, PassChecks, PassEach, across_tables, in_a_table, points, recursion, size, whole}
+use Rattle.mk_query.specs.Compiled.{query_tables}
+use Rattle.mk_query.specs.CompileFaults.{FitsAt, FitsTable, IsAcross, IsFirstInTables, IsNoCycle, IsWhole, PassAcross, PassEach, across_tables, in_a_table, points, recursion, size, whole}
 use Rattle.mk_query.specs.FirstFault.{QueryCheck, QueryDemands, IsFirstFault, PassesAll}
 use Rattle.mk_query.specs.Laws.{NoFaultWhereAllPass, OneFirstFault, OneQuery}
 use Rattle.mk_query.proofs.FaultLemmas.{number-once}

@@ -1,10 +1,9 @@
 -- A raw query has at most one query.
 --     one_template         a table has at most one template
 --     one_query            the law
-use Rattle.std.proofs.Common.{◌≡◌, ◌<◌, ◌+◌, ◌-◌, ℕ, zero, suc, Bool, true, false, ◌&&◌, eqb, cond, List, [], ◌∷◌, Option, Some, None, refl, sym, ap, subst, ◌∙◌, arith, inl, inr, length, get_or, map}
-use Rattle.std.specs.Prelude.{ℤ, pos, codes, bytes_eq, slice_get, ◌⊎◌}
+use Rattle.std.proofs.Common.{◌≡◌, ◌+◌, ◌-◌, ℕ, zero, suc, Bool, true, false, cond, List, [], ◌∷◌, Option, Some, None, refl, sym, ap, subst, ◌∙◌, arith, inl, inr, get_or}
+use Rattle.std.specs.Prelude.{ℤ, pos, codes, bytes_eq, slice_get}
 use Rattle.std.specs.List.{list_all}
-use Rattle.std.proofs.lemmas.Bool.{eqb-true}
 use Rattle.std.proofs.lemmas.List.{same_lists}
 use Rattle.std.proofs.lemmas.Option.{slice_get-get_or}
 use Rattle.mk_elements.specs.Symbols.{NamesElement, symbols}
@@ -18,14 +17,12 @@ use Rattle.mk_model.specs.declared.group.Group.{Group}
 use Rattle.mk_model.specs.declared.group.Interval.{Interval}
 use Rattle.mk_model.specs.declared.template.QueryBond.{QueryBond}
 use Rattle.mk_model.specs.declared.template.Slot.{Slot}
-use Rattle.mk_model.specs.Queries.{QueryView}
 use Rattle.mk_model.specs.Templates.{TemplateView}
 use Rattle.mk_ctab.specs.declared.raw.RawAtom.{RawAtom}
 use Rattle.mk_ctab.specs.declared.raw.RawTable.{RawTable}
-use Rattle.mk_ctab.specs.Numbers.{natural}
 use Rattle.mk_logic.specs.RangeTexts.{OneRange}
 use Rattle.mk_rgfile.specs.declared.raw_query.RawQuery.{RawQuery}
-use Rattle.mk_query.specs.Compiled.{AreGroupsOf, AreTemplatesOf, AreTestsOf, HasElements, IsGroupOf, IsKindOf, IsLogicOf, IsQueryOf, IsTemplateOf, IsTestBy, IsTestDrawn, NameElements, kind_by, logic_for, of_any, of_any_heavy, of_element, of_hetero, of_list, query_tables}
+use Rattle.mk_query.specs.Compiled.{AreGroupsOf, AreTemplatesOf, AreTestsOf, HasElements, IsKindOf, IsLogicOf, IsTemplateOf, IsTestBy, NameElements, kind_by, logic_for, of_any, of_any_heavy, of_element, of_hetero, of_list, query_tables}
 use Rattle.mk_query.specs.Drawn.{ElementList, by_numbers, by_symbols, is_site, list_in_force}
 use Rattle.mk_query.specs.Laws.{OneQuery}
 

@@ -1,23 +1,23 @@
 -- Sites whose members don't have as many points as the site has neighbours.
 --     told_more         one group more of which it is told
---     fits_told         what is told of a slot is so
+--     groups_told, fits_told     what is told of the groups of a site, and of a slot, is so
 --     misfit_found, all_fit     a table with a misfit and its lowest atom; a table without one
 use Rattle.std.proofs.Common.{◌≡◌, ℕ, ◌+◌, ◌-◌, ◌<◌, ◌≤◌, Bool, true, false, cond, List, [], ◌∷◌, ◌++◌, Some, refl, sym, subst, ⊎_elim, ◌∙◌, arith, length, get_or, All}
-use Rattle.std.specs.Prelude.{◌==◌, ◌↔◌, AllPairs, Contains, IsTrue, slice_get, slice_index_or}
+use Rattle.std.specs.Prelude.{◌==◌, ◌↔◌, Contains, IsTrue, slice_get, slice_index_or}
 use Rattle.std.proofs.lemmas.Bool.{cases_lt, true≢false}
 use Rattle.std.proofs.lemmas.List.{get_or_append_left, get_or_push}
 use Rattle.std.proofs.lemmas.Option.{slice_get_within, get_or_from_slice_get}
 use Rattle.mk_text.specs.Items.{IsLeastFailing}
-use Rattle.mk_model.specs.declared.group.Group.{Group}
 use Rattle.mk_model.specs.declared.template.Slot.{Slot}
 use Rattle.mk_model.specs.declared.template.Slot.TheVariants.{Link, Site}
+use Rattle.mk_model.specs.Labels.{joint_members}
 use Rattle.mk_model.specs.Queries.{QueryView, members_of}
 use Rattle.mk_model.specs.QueryFits.{FitsPoints, HasRisingSlots}
 use Rattle.mk_model.specs.Templates.{TemplateView, slot_atom}
-use Rattle.mk_model.proofs.ForCallers.{at_place}
+use Rattle.mk_model.proofs.ForCallers.{all_at, all_pass, at_place, is_joint, member_of_label, passes_all}
 use Rattle.mk_query.specs.CompileFaults.{FitsAt, FitsTable}
-use Rattle.mk_query.specs.PointFits.{AllHavePoints, AreTold, FindsUnfit, IsUnfit, told_fit}
-use Rattle.mk_query.specs.Recursion.{HasGroup}
+use Rattle.mk_query.specs.PointFits.{AllHavePoints, AreTold, FindsUnfit, IsUnfit, all_told, told_fit}
+use Rattle.mk_query.specs.Recursion.{NamesGroups}
 
 -- ---- one group more
 
@@ -36,33 +36,52 @@ told_more query n g list x size here before h below =
     rw (same, at) here)
     (cases_lt h g)
 
+-- ---- the groups of a site
+
+module _ (query : QueryView) (n : ℕ) (list : List Bool) (told : AreTold query n list) where
+  -- of a group from 1 on
+  told_of : (g : ℕ) → (1 ≤ g) × (g ≤ 32) → IsTrue (slice_index_or list (g - 1) false) ↔ AllHavePoints query.templates n (members_of query g)
+  told_of g known = (let place : g - 1 + 1 ≡ g = omega (arith, known.0) in rw place at (told.each (g - 1) (omega (arith, known))))
+
+  -- of each of some groups it is told that its members have so many points exactly where all their members have
+  pub groups_told : (groups : List ℕ) → All (λ g. (1 ≤ g) × (g ≤ 32)) groups → all_told list groups ≡ true
+      ↔ ((u : ℕ) (template : TemplateView) → Contains (joint_members query groups) u → slice_get query.templates u ≡ Some template → length template.points ≡ n)
+  groups_told groups known = (there, back)
+    where
+      known_at : (k g : ℕ) → slice_get groups k ≡ Some g → (1 ≤ g) × (g ≤ 32)
+      known_at k g at = all_at (λ (h : ℕ). (1 ≤ h) × (h ≤ 32)) groups k g known at
+
+      there : all_told list groups ≡ true → (u : ℕ) (template : TemplateView) → Contains (joint_members query groups) u → slice_get query.templates u ≡ Some template → length template.points ≡ n
+      there all u template at found =
+          let label = member_of_label query groups u at in
+          let here : slice_index_or list (label.label - 1) false ≡ true = all_pass (λ g. slice_index_or list (g - 1) false) groups label.place label.label all label.at in
+          (told_of label.label (known_at label.place label.label label.at)).0 here u label.has template found
+
+      back : ((u : ℕ) (template : TemplateView) → Contains (joint_members query groups) u → slice_get query.templates u ≡ Some template → length template.points ≡ n) → all_told list groups ≡ true
+      back fits =
+          passes_all (λ g. slice_index_or list (g - 1) false) groups
+          (λ k g at. (told_of g (known_at k g at)).1
+          (λ u member template found. fits u template (is_joint query groups u k g (slice_get_within query.templates u template found) at member) found))
+
 -- ---- one slot
 
 module _ (query : QueryView) (one two : List Bool) (first : AreTold query 1 one) (second : AreTold query 2 two) where
   -- a member of a site's group has as many points as the site has neighbours, by what is told of the group
-  pub fits_told : (slot : Slot) → HasGroup slot → told_fit one two slot ≡ true ↔ FitsPoints query slot
+  pub fits_told : (slot : Slot) → NamesGroups slot → told_fit one two slot ≡ true ↔ FitsPoints query slot
   fits_told (Link atom most from to) has = (λ _ u template at. absurd (let below = at.1 in omega arith), λ _. refl)
-  fits_told (Site atom group x y) has = by_second (y == 0)
+  fits_told (Site atom groups x y) has = by_second (y == 0)
     where
-      place : group - 1 + 1 ≡ group
-      place = omega (arith, has.0)
-
-      by_second : (b : Bool)
-          → cond b (slice_index_or one (group - 1) false) (slice_index_or two (group - 1) false) ≡ true
-          ↔ ((u : ℕ) (template : TemplateView) → Contains (members_of query group) u → slice_get query.templates u ≡ Some template → length template.points ≡ cond b 1 2)
-      by_second true =
-          let told = rw place at (first.each (group - 1) (omega (arith, has))) in
-          (λ is u template at found. told.0 is u at template found, λ fits. told.1 (λ u at template found. fits u template at found))
-      by_second false =
-          let told = rw place at (second.each (group - 1) (omega (arith, has))) in
-          (λ is u template at found. told.0 is u at template found, λ fits. told.1 (λ u at template found. fits u template at found))
+      by_second : (b : Bool) → cond b (all_told one groups) (all_told two groups) ≡ true
+          ↔ ((u : ℕ) (template : TemplateView) → Contains (joint_members query groups) u → slice_get query.templates u ≡ Some template → length template.points ≡ cond b 1 2)
+      by_second true = groups_told query 1 one first groups has
+      by_second false = groups_told query 2 two second groups has
 
   -- ---- one table
 
-  module _ (t : ℕ) (template : TemplateView) (at : slice_get query.templates t ≡ Some template) (has : All HasGroup template.slots) where
+  module _ (t : ℕ) (template : TemplateView) (at : slice_get query.templates t ≡ Some template) (has : All NamesGroups template.slots) where
     -- the label of a slot at its place
-    label : (j : ℕ) (slot : Slot) → slice_get template.slots j ≡ Some slot → HasGroup slot
-    label j slot found = subst HasGroup (get_or_from_slice_get template.slots j slot slot found) (has j slot (slice_get_within template.slots j slot found))
+    label : (j : ℕ) (slot : Slot) → slice_get template.slots j ≡ Some slot → NamesGroups slot
+    label j slot found = subst NamesGroups (get_or_from_slice_get template.slots j slot slot found) (has j slot (slice_get_within template.slots j slot found))
 
     -- the template of this number is this one
     same_template : (other : TemplateView) → slice_get query.templates t ≡ Some other → template ≡ other

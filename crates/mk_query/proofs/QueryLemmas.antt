@@ -2,29 +2,26 @@
 --     all_templates      what holds of the template of each table that passes
 --     fits_across        what the checks across tables ask for
 --     fits_query         the query keeps its twelve facts
-use Rattle.std.proofs.Common.{◌≡◌, ℕ, zero, suc, ◌+◌, ◌-◌, ◌<◌, ◌≤◌, Bool, true, false, List, [], ◌∷◌, Some, None, Option, refl, sym, ap, subst, ◌∙◌, arith, length, get_or, sum_by, All}
-use Rattle.std.specs.Prelude.{◌≢◌, ◌==◌, AllPairs, Contains, slice_get}
-use Rattle.std.proofs.lemmas.List.{length-append}
+use Rattle.std.proofs.Common.{◌≡◌, ℕ, zero, suc, ◌+◌, ◌-◌, ◌<◌, ◌≤◌, List, [], ◌∷◌, Some, None, Option, refl, sym, subst, arith, length, get_or, All}
+use Rattle.std.specs.Prelude.{◌==◌, AllPairs, Contains, slice_get}
 use Rattle.std.proofs.lemmas.List.Elements.{Contains-get_or}
 use Rattle.mk_model.specs.declared.group.Group.{Group}
-use Rattle.mk_model.specs.declared.template.Slot.{Slot}
 use Rattle.mk_model.specs.Queries.{QueryView, members_of}
-use Rattle.mk_model.specs.QueryFits.{AreInRange, FitsPoints, HasClosedBlocks, HasFreePoints, HasPairsOnce, HasRisingSlots, HasSitesApart, HasSmallRoot, IsInRange, NamesNeighbours, QueryFits}
+use Rattle.mk_model.specs.QueryFits.{HasClosedBlocks, HasFreePoints, HasPairsOnce, HasRisingLabels, HasRisingSlots, HasSitesApart, HasSmallRoot, IsInRange, NamesNeighbours, QueryFits}
 use Rattle.mk_model.specs.Templates.{TemplateView, slot_atom}
-use Rattle.mk_model.proofs.ForCallers.{all_at, at_place, place_within}
+use Rattle.mk_model.proofs.ForCallers.{all_at, at_place}
 use Rattle.mk_ctab.specs.declared.raw.RawAtom.{RawAtom}
 use Rattle.mk_ctab.specs.declared.raw.RawTable.{RawTable}
-use Rattle.mk_rgfile.specs.declared.raw_query.RawGroup.{RawGroup}
 use Rattle.mk_rgfile.specs.declared.raw_query.RawQuery.{RawQuery}
-use Rattle.mk_rgfile.specs.QueryFacts.{member_count, members_in}
+use Rattle.mk_rgfile.specs.QueryFacts.{member_count}
 use Rattle.mk_query.specs.Compiled.{AreGroupsOf, AreTemplatesOf, IsTemplateOf, member_tables, members_from, query_tables}
-use Rattle.mk_query.specs.CompileFaults.{PassAcross, PassEach}
-use Rattle.mk_query.specs.InRange.{IsGroupInRange, IsQueryInRange, IsTableInRange}
+use Rattle.mk_query.specs.CompileFaults.{PassAcross}
+use Rattle.mk_query.specs.InRange.{IsQueryInRange, IsTableInRange}
 use Rattle.mk_query.specs.OwnSizes.{IsSized}
 use Rattle.mk_query.specs.Passed.{HasPassed}
-use Rattle.mk_query.specs.Recursion.{HasGroup}
+use Rattle.mk_query.specs.Recursion.{NamesGroups}
 use Rattle.mk_query.specs.TableWalk.{PassNested}
-use Rattle.mk_query.proofs.FitsLemmas.{blocks_closed, has_groups, in_range, is_sized, names_neighbours, pairs_once, points_free, sites_apart, slots_rising}
+use Rattle.mk_query.proofs.FitsLemmas.{blocks_closed, has_groups, in_range, is_sized, labels_rising, names_neighbours, pairs_once, points_free, sites_apart, slots_rising}
 use Rattle.mk_query.proofs.MemberLemmas.{member_between, members_rise, members_total, one_group}
 use Rattle.mk_query.proofs.TableWalkLemmas.{all_members, members_count, pass_each}
 
@@ -59,8 +56,11 @@ module _ (raw : RawQuery) (is : IsQueryInRange raw) (passed : PassNested raw) (t
       (record { groups = raw.groups; is_root = (k == 0); passes = pass_each raw passed k table table_at })
       (are.each k table (get_or templates k d) table_at at)
 
-  pub labels_in : All (λ template. All HasGroup template.slots) templates
-  labels_in = all_templates (λ template. All HasGroup template.slots) (λ table template raw passed of. has_groups table template passed of)
+  pub labels_in : All (λ template. All NamesGroups template.slots) templates
+  labels_in = all_templates (λ template. All NamesGroups template.slots) (λ table template raw passed of. has_groups table template of)
+
+  labels_rise_in : All HasRisingLabels templates
+  labels_rise_in = all_templates HasRisingLabels (λ table template raw passed of. labels_rising table template of)
 
   pub slots_rise_in : All HasRisingSlots templates
   slots_rise_in = all_templates HasRisingSlots (λ table template raw passed of. slots_rising table template of)
@@ -134,4 +134,5 @@ module _ (raw : RawQuery) (is : IsQueryInRange raw) (passed : PassNested raw) (t
         rise = λ i d below. subst (λ (l : List ℕ). AllPairs (λ u later. u < later) l) (sym (members_at i (get_or groups i d) (at_place groups i d below))) (members_rise 1 (i + 1) raw.groups);
         one_group = λ g h u some also in_g in_h. one_group 1 raw.groups g h u (of_number g u some in_g) (of_number h u also in_h);
       };
+      labels_rise = labels_rise_in;
     }

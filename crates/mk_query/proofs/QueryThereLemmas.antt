@@ -1,11 +1,11 @@
 -- A raw query of which every table passes its own checks has a query.
 --     query_there          the query
-use Rattle.std.proofs.Common.{◌≡◌, ◌<◌, ◌≤◌, ◌+◌, ◌-◌, ℕ, zero, suc, Bool, true, false, cond, List, [], ◌∷◌, Option, Some, None, refl, sym, ap, subst, ◌∙◌, arith, inl, inr, length, get_or, map, All}
+use Rattle.std.proofs.Common.{◌≡◌, ◌<◌, ◌+◌, ℕ, zero, suc, Bool, true, false, cond, List, [], ◌∷◌, Option, Some, None, refl, sym, ap, subst, ◌∙◌, arith, inl, inr, length, get_or, map, All}
 use Rattle.std.specs.Prelude.{ℤ, ◌≤ℤ◌, pos, negsuc, ◌⊎◌, ◌==◌, codes, slice_get}
 use Rattle.std.specs.Ordering.{int_eq}
 use Rattle.std.proofs.lemmas.Int.{ints}
 use Rattle.std.proofs.lemmas.List.Elements.{All-head, All-tail}
-use Rattle.std.proofs.lemmas.Option.{slice_get-get_or, slice_get_within}
+use Rattle.std.proofs.lemmas.Option.{slice_get-get_or}
 use Rattle.mk_props.specs.declared.property.LogicLine.{LogicLine}
 use Rattle.mk_props.specs.declared.property.Property.{Property}
 use Rattle.mk_props.specs.declared.property.Property.TheVariants as kinds
@@ -13,21 +13,18 @@ use Rattle.mk_model.specs.declared.atom_test.AtomTest.{AtomTest}
 use Rattle.mk_model.specs.declared.atom_test.Kind.{Kind}
 use Rattle.mk_model.specs.declared.atom_test.Kind.TheVariants.{Element, NotHydrogen, Hetero, Anything}
 use Rattle.mk_model.specs.declared.group.Group.{Group}
-use Rattle.mk_model.specs.declared.group.Interval.{Interval}
 use Rattle.mk_model.specs.Queries.{QueryView}
 use Rattle.mk_model.specs.Templates.{TemplateView}
 use Rattle.mk_ctab.specs.declared.raw.RawAtom.{RawAtom}
 use Rattle.mk_ctab.specs.declared.raw.RawTable.{RawTable}
 use Rattle.mk_ctab.specs.Charges.{charge_at, radical_at}
-use Rattle.mk_ctab.specs.Numbers.{IsWithin, natural}
-use Rattle.mk_logic.specs.RangeTexts.{IsRangeText}
+use Rattle.mk_ctab.specs.Numbers.{natural}
 use Rattle.mk_rgfile.specs.declared.raw_query.RawQuery.{RawQuery}
 use Rattle.mk_query.specs.Checks.{IsElementName, IsQueryWord}
 use Rattle.mk_query.specs.Compiled.{HasElements, IsGroupOf, IsKindOf, IsLogicOf, IsQueryOf, IsTemplateOf, IsTestBy, IsTestOf, NameElements, kind_by, logic_for, members_of_group, no_test, of_any, of_any_heavy, of_element, of_hetero, of_list, points_of, table_slots, query_tables}
 use Rattle.mk_query.specs.CompileFaults.{PassEach}
 use Rattle.mk_query.specs.Drawn.{ElementList, by_numbers, by_symbols, is_site, last_list, list_in_force, lists_at, query_bonds, ring_bonds_of, substitutions_of, unsaturations_of, value_at}
 use Rattle.mk_query.specs.GroupMarks.{HasKnownLogic, IsKnownLogic}
-use Rattle.mk_query.specs.KindMarks.{IsPlainSymbol}
 use Rattle.mk_query.specs.Passed.{HasPassed}
 use Rattle.mk_query.specs.SiteChecks.{HasKnownMembers}
 use Rattle.mk_query.proofs.FitsTestLemmas.{radical_right}

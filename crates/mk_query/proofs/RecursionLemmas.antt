@@ -4,8 +4,8 @@
 --     hold_more                        one more entry of a table of rows and columns
 --     chain_leads, leads_chain         a table leads on to another exactly where one of its sites leads to its group
 --     ranked                           where none uses itself, the groups to which a table leads rank it
-use Rattle.std.proofs.Common.{◌≡◌, ℕ, zero, suc, ◌+◌, ◌-◌, ◌*◌, ◌<◌, ◌≤◌, Bool, true, false, cond, inl, inr, ◌⊎◌, ⊎_elim, Option, None, ◌&&◌, ◌||◌, List, [], ◌∷◌, ◌++◌, Some, refl, sym, ap, subst, ◌∙◌, arith, length, get_or, take, All}
-use Rattle.std.specs.Prelude.{◌==◌, count_by, Contains, IsTrue, slice_get}
+use Rattle.std.proofs.Common.{◌≡◌, ℕ, zero, suc, ◌+◌, ◌-◌, ◌<◌, ◌≤◌, Bool, true, false, cond, inl, inr, ◌⊎◌, ⊎_elim, Option, None, ◌||◌, List, [], ◌∷◌, ◌++◌, Some, refl, sym, ap, subst, ◌∙◌, arith, length, get_or, take, All}
+use Rattle.std.specs.Prelude.{◌==◌, count_by, Contains, slice_get}
 use Rattle.std.specs.List.{list_any, range_with_len}
 use Rattle.std.proofs.lemmas.Bool.Decides.{nat_tests}
 use Rattle.std.proofs.lemmas.Bool.{cases_lt, true≢false}
@@ -18,13 +18,12 @@ use Rattle.std.proofs.lemmas.Option.{slice_get_within, get_or_from_slice_get}
 use Rattle.mk_text.proofs.ForCallers.{both, and_true, or_left, or_right}
 use Rattle.mk_model.specs.declared.group.Group.{Group}
 use Rattle.mk_model.specs.declared.template.Slot.{Slot}
-use Rattle.mk_model.specs.declared.template.Slot.TheVariants.{Link, Site}
-use Rattle.mk_model.specs.Labels.{IsChain, PutsIn, bears_label, members_at}
+use Rattle.mk_model.specs.Labels.{IsChain, PutsIn, bears_label, site_labels, members_at}
 use Rattle.mk_model.specs.Queries.{QueryView, members_of, slots_of}
 use Rattle.mk_model.specs.Templates.{TemplateView}
-use Rattle.mk_model.proofs.ForCallers.{IsPassed, IsRanked, all_at, at_place, some_passes}
+use Rattle.mk_model.proofs.ForCallers.{IsOfLabel, IsRanked, all_at, at_place, is_joint, member_of_label, members_are, passes_some, some_passes}
 use Rattle.mk_query.specs.CompileFaults.{IsNoCycle}
-use Rattle.mk_query.specs.Recursion.{ComesBack, HasGroup, HoldSoFar, Holds, asks_for, cell, comes_back, entry, leads, leads_on, of_templates}
+use Rattle.mk_query.specs.Recursion.{ComesBack, Holds, MembersWithin, NamesGroups, asks_for, comes_back, entry, leads, leads_on, of_templates}
 
 -- ---- by places
 
@@ -153,40 +152,50 @@ module _ (query : QueryView) where
 
 -- the labels of all sites are groups' numbers
 abbrev pub HasGroups : QueryView → Type 0
-HasGroups query = (t : ℕ) (slot : Slot) → Contains (slots_of query t) slot → HasGroup slot
+HasGroups query = (t : ℕ) (slot : Slot) → Contains (slots_of query t) slot → NamesGroups slot
 
--- the label of a slot by which a table puts another in
-label_of : (query : QueryView) (slot : Slot) (u : ℕ) → HasGroup slot → Contains (members_at query slot) u
-    → (h : ℕ) × (1 ≤ h) × (h ≤ 32) × Contains (members_of query h) u × ((g : ℕ) → (h ≡ g) → bears_label slot g ≡ true) × ((f : ℕ → ℕ → Bool) (g : ℕ) → f h g ≡ true → leads_on f g slot ≡ true)
-label_of query (Link atom most from to) u has at = absurd (let below = at.1 in omega arith)
-label_of query (Site atom group first second) u has at =
-    (group, has.0, has.1, at, (λ g same. numbers_same group g same), (λ f g is. or_right (group == g) (f group g) is))
+-- the label by which a slot puts a table in
+label_of : (query : QueryView) (slot : Slot) (u : ℕ) → Contains (members_at query slot) u → IsOfLabel query (site_labels slot) u
+label_of query slot u at = member_of_label query (site_labels slot) u (subst (λ (l : List ℕ). Contains l u) (members_are query slot) at)
 
--- a site that bears a group's label leads to the group
-bears_leads : (f : ℕ → ℕ → Bool) (g : ℕ) (slot : Slot) → bears_label slot g ≡ true → leads_on f g slot ≡ true
-bears_leads f g (Link atom most from to) bears = absurd cc
-bears_leads f g (Site atom group first second) bears = or_left (group == g) (f group g) bears
+-- a label at its place is borne
+bears_at : (slot : Slot) (i h : ℕ) → slice_get (site_labels slot) i ≡ Some h → bears_label slot h ≡ true
+bears_at slot i h at = passes_some (λ l. l == h) (site_labels slot) i h at (numbers_same h h refl)
+
+-- a site leads to each of its labels, and to all groups to which one leads
+leads_to : (f : ℕ → ℕ → Bool) (slot : Slot) (i h : ℕ) → slice_get (site_labels slot) i ≡ Some h → leads_on f h slot ≡ true
+leads_to f slot i h at = passes_some (λ l. (l == h) || f l h) (site_labels slot) i h at (or_left (h == h) (f h h) (numbers_same h h refl))
+
+leads_by : (f : ℕ → ℕ → Bool) (g : ℕ) (slot : Slot) (i h : ℕ) → slice_get (site_labels slot) i ≡ Some h → f h g ≡ true → leads_on f g slot ≡ true
+leads_by f g slot i h at is = passes_some (λ l. (l == g) || f l g) (site_labels slot) i h at (or_right (h == g) (f h g) is)
 
 -- a site that bears a group's label puts in each of its members
-puts_in : (query : QueryView) (t : ℕ) (slot : Slot) (h u : ℕ) → Contains (slots_of query t) slot → bears_label slot h ≡ true → Contains (members_of query h) u → PutsIn query t u
-puts_in query t (Link atom most from to) h u at bears member = absurd cc
-puts_in query t (Site atom group first second) h u at bears member =
-    record { slot = Site atom group first second; at = at; fills = (let same : group ≡ h = same_numbers group h bears in rw same member) }
+puts_in : (query : QueryView) → MembersWithin query → (t : ℕ) (slot : Slot) (h u : ℕ) → Contains (slots_of query t) slot → bears_label slot h ≡ true
+    → Contains (members_of query h) u → PutsIn query t u
+puts_in query within t slot h u at bears member =
+    let found = some_passes (λ l. l == h) (site_labels slot) bears in
+    let same : found.item ≡ h = same_numbers found.item h found.passes in
+    record {
+      slot = slot;
+      at = at;
+      fills = subst (λ (l : List ℕ). Contains l u) (sym (members_are query slot))
+          (is_joint query (site_labels slot) u found.place h (within h u member) (found.at ∙ ap Some same) member);
+    }
 
--- the group of a table asks for that of a site which leads on
-on_from : (query : QueryView) (k : ℕ) → 32 ≤ k → (h v g : ℕ) (slot : Slot) → Contains (members_of query h) v → HasGroup slot → Contains (slots_of query v) slot
+-- the group of a table asks for those of a site which leads on
+on_from : (query : QueryView) (k : ℕ) → 32 ≤ k → (h v g : ℕ) (slot : Slot) → Contains (members_of query h) v → NamesGroups slot → Contains (slots_of query v) slot
     → leads_on (leads query k) g slot ≡ true → leads query k h g ≡ true
-on_from query k enough h v g (Link atom most from to) member has at on = absurd cc
-on_from query k enough h v g (Site atom group first second) member has at on =
-    let asked : asks_for query h group ≡ true =
-    from_list (λ u. list_any (λ slot. bears_label slot group) (slots_of query u)) (members_of query h) v member
-    (from_list (λ slot. bears_label slot group) (slots_of query v) (Site atom group first second) at (numbers_same group group refl)) in
-    let here : leads query k h group ≡ true = more_between query k h group asked in
-    by_label (group == g) refl here
+on_from query k enough h v g slot member has at on =
+    let found = some_passes (λ l. (l == g) || leads query k l g) (site_labels slot) on in
+    let asked : asks_for query h found.item ≡ true =
+    from_list (λ u. list_any (λ slot. bears_label slot found.item) (slots_of query u)) (members_of query h) v member
+    (from_list (λ slot. bears_label slot found.item) (slots_of query v) slot at (bears_at slot found.place found.item found.at)) in
+    by_label found.item (all_at (λ (l : ℕ). (1 ≤ l) × (l ≤ 32)) (site_labels slot) found.place found.item has found.at) (found.item == g) refl found.passes (more_between query k h found.item asked)
   where
-    by_label : (b : Bool) → (group == g) ≡ b → leads query k h group ≡ true → leads query k h g ≡ true
-    by_label true e here = (let same : group ≡ g = same_numbers group g e in rw same at here)
-    by_label false e here = through query k h group g has.0 (omega (arith, has.1)) here (one_of _ _ on e)
+    by_label : (label : ℕ) → (1 ≤ label) × (label ≤ 32) → (b : Bool) → (label == g) ≡ b → ((label == g) || leads query k label g) ≡ true
+        → leads query k h label ≡ true → leads query k h g ≡ true
+    by_label label known true e passes here = (let same : label ≡ g = same_numbers label g e in rw same at here)
+    by_label label known false e passes here = through query k h label g known.0 (omega (arith, known.1)) here (one_of _ _ passes e)
 
 -- A table that puts in another leads to a group of the other, and to all groups to which the other leads.
 pub record LeadsOn (query : QueryView) (k t u : ℕ) : Type 0 where
@@ -199,17 +208,18 @@ pub record LeadsOn (query : QueryView) (k t u : ℕ) : Type 0 where
 
 pub puts_leads : (query : QueryView) (k : ℕ) → 32 ≤ k → HasGroups query → (t u : ℕ) → PutsIn query t u → LeadsOn query k t u
 puts_leads query k enough has t u puts =
-    let label = label_of query puts.slot u (has t puts.slot puts.at) puts.fills in
+    let found = label_of query puts.slot u puts.fills in
+    let known = all_at (λ (l : ℕ). (1 ≤ l) × (l ≤ 32)) (site_labels puts.slot) found.place found.label (has t puts.slot puts.at) found.at in
     record {
-      group = label.0;
-      some = label.1;
-      few = label.2;
-      member = label.3;
-      here = from_list (leads_on (leads query k) label.0) (slots_of query t) puts.slot puts.at (bears_leads (leads query k) label.0 puts.slot (label.4 label.0 refl));
+      group = found.label;
+      some = known.0;
+      few = known.1;
+      member = found.has;
+      here = from_list (leads_on (leads query k) found.label) (slots_of query t) puts.slot puts.at (leads_to (leads query k) puts.slot found.place found.label found.at);
       on = λ g later.
           let on = in_list (leads_on (leads query k) g) (slots_of query u) later in
           from_list (leads_on (leads query k) g) (slots_of query t) puts.slot puts.at
-          (label.5 (leads query k) g (on_from query k enough label.0 u g on.0 label.3 (has u on.0 on.1) on.1 on.2));
+          (leads_by (leads query k) g puts.slot found.place found.label found.at (on_from query k enough found.label u g on.0 found.has (has u on.0 on.1) on.1 on.2));
     }
 
 -- a table that puts in one which leads on does so itself
@@ -221,35 +231,34 @@ chain_leads query k enough has t (v ∷ via) u chain =
     (later.0, later.1, later.2, later.3, (puts_leads query k enough has t v chain.0).on later.0 later.4)
 
 -- the way from a site's group to another is a chain of tables, up to any member of it
-ways_down : (query : QueryView) (t : ℕ) (slot : Slot) (h : ℕ) (via : List ℕ) (g u : ℕ) → Contains (slots_of query t) slot → bears_label slot h ≡ true → Asks query h via g
+ways_down : (query : QueryView) → MembersWithin query → (t : ℕ) (slot : Slot) (h : ℕ) (via : List ℕ) (g u : ℕ) → Contains (slots_of query t) slot → bears_label slot h ≡ true → Asks query h via g
     → Contains (members_of query g) u → (tables : List ℕ) × IsChain query t tables u
-ways_down query t slot h [] g u at bears asks member =
+ways_down query within t slot h [] g u at bears asks member =
     let first = in_list (λ v. list_any (λ slot. bears_label slot g) (slots_of query v)) (members_of query h) asks in
     let second = in_list (λ slot. bears_label slot g) (slots_of query first.0) first.2 in
-    (first.0 ∷ [], (puts_in query t slot h first.0 at bears first.1, puts_in query first.0 second.0 g u second.1 second.2 member))
-ways_down query t slot h (w ∷ via) g u at bears asks member =
+    (first.0 ∷ [], (puts_in query within t slot h first.0 at bears first.1, puts_in query within first.0 second.0 g u second.1 second.2 member))
+ways_down query within t slot h (w ∷ via) g u at bears asks member =
     let first = in_list (λ v. list_any (λ slot. bears_label slot w) (slots_of query v)) (members_of query h) asks.0 in
     let second = in_list (λ slot. bears_label slot w) (slots_of query first.0) first.2 in
-    let later = ways_down query first.0 second.0 w via g u second.1 second.2 asks.1 member in
-    (first.0 ∷ later.0, (puts_in query t slot h first.0 at bears first.1, later.1))
+    let later = ways_down query within first.0 second.0 w via g u second.1 second.2 asks.1 member in
+    (first.0 ∷ later.0, (puts_in query within t slot h first.0 at bears first.1, later.1))
 
 -- a site that leads to a group puts in, directly or through others, every member of it
-pub leads_chain : (query : QueryView) (k t g u : ℕ) → Contains (members_of query g) u → comes_back (leads query k) g (slots_of query t) ≡ true → (via : List ℕ) × IsChain query t via u
-leads_chain query k t g u member back =
+pub leads_chain : (query : QueryView) → MembersWithin query → (k t g u : ℕ) → Contains (members_of query g) u
+    → comes_back (leads query k) g (slots_of query t) ≡ true → (via : List ℕ) × IsChain query t via u
+leads_chain query within k t g u member back =
     let on = in_list (leads_on (leads query k) g) (slots_of query t) back in
-    by_slot query k t g u on.0 member on.1 on.2
+    let found = some_passes (λ l. (l == g) || leads query k l g) (site_labels on.0) on.2 in
+    by_label on.0 on.1 found.item (bears_at on.0 found.place found.item found.at) (found.item == g) refl found.passes
   where
-    by_slot : (query : QueryView) (k t g u : ℕ) (slot : Slot) → Contains (members_of query g) u
-        → Contains (slots_of query t) slot → leads_on (leads query k) g slot ≡ true → (via : List ℕ)
-        × IsChain query t via u
-    by_slot query k t g u (Link atom most from to) member at on = absurd cc
-    by_slot query k t g u (Site atom group first second) member at on = by_label (group == g) refl
-      where
-        by_label : (b : Bool) → (group == g) ≡ b → (via : List ℕ) × IsChain query t via u
-        by_label true e = ([], puts_in query t (Site atom group first second) g u at e member)
-        by_label false e =
-            let asks = way query k group g (one_of _ _ on e) in
-            ways_down query t (Site atom group first second) group asks.0 g u at (numbers_same group group refl) asks.1 member
+    by_label : (slot : Slot) → Contains (slots_of query t) slot → (label : ℕ) → bears_label slot label ≡ true → (b : Bool) → (label == g) ≡ b
+        → ((label == g) || leads query k label g) ≡ true → (via : List ℕ) × IsChain query t via u
+    by_label slot at label bears true e passes =
+        let same : label ≡ g = same_numbers label g e in
+        ([], puts_in query within t slot g u at (subst (λ (h : ℕ). bears_label slot h ≡ true) same bears) member)
+    by_label slot at label bears false e passes =
+        let asks = way query k label g (one_of _ _ passes e) in
+        ways_down query within t slot label asks.0 g u at bears asks.1 member
 
 -- ---- the least member that comes back
 
@@ -293,6 +302,14 @@ same_back f h g (slot ∷ slots) same =
     let others = same_back f h g slots (λ s at. same s (suc at.0, (let below = at.1 in omega arith), at.2)) in
     rw (same slot (0, omega arith, refl), others) refl
 
+-- tests that agree on some numbers
+any_same : (p q : ℕ → Bool) (xs : List ℕ) → All (λ x. p x ≡ q x) xs → list_any p xs ≡ list_any q xs
+any_same p q [] same = refl
+any_same p q (x ∷ xs) same =
+    let here = same 0 x (omega arith) in
+    let others = any_same p q xs (λ k d below. same (suc k) d (omega (arith, below))) in
+    rw (here, others) refl
+
 -- by the entries of groups in range
 entry_is : (query : QueryView) (k : ℕ) (list : List Bool) → Holds (leads query k) list → (g h : ℕ) → 1 ≤ g → g ≤ 32 → 1 ≤ h → h ≤ 32 → entry list g h ≡ leads query k g h
 entry_is query k list holds g h some few some' few' =
@@ -305,31 +322,33 @@ pub entry_back : (query : QueryView) (k : ℕ) (list : List Bool) (g t : ℕ) �
 entry_back query k list g t holds has some few =
     same_back (entry list) (leads query k) g (slots_of query t) (λ slot at. one slot (has t slot at))
   where
-    one : (slot : Slot) → HasGroup slot → leads_on (entry list) g slot ≡ leads_on (leads query k) g slot
-    one (Link atom most from to) in_range = refl
-    one (Site atom group first second) in_range = ap (λ (b : Bool). (group == g) || b) (entry_is query k list holds group g in_range.0 in_range.1 some few)
+    one : (slot : Slot) → NamesGroups slot → leads_on (entry list) g slot ≡ leads_on (leads query k) g slot
+    one slot known =
+        any_same (λ l. (l == g) || entry list l g) (λ l. (l == g) || leads query k l g) (site_labels slot)
+        (λ i d below. let label = get_or (site_labels slot) i d in let at = known i d below in
+        ap (λ (b : Bool). (label == g) || b) (entry_is query k list holds label g at.0 at.1 some few))
 
 -- ---- tables without recursion
 
 -- the labels of all templates' sites are those of the tables
-pub has_groups : (templates : List TemplateView) (groups : List Group) → All (λ template. All HasGroup template.slots) templates → HasGroups (record { templates = templates; groups = groups })
+pub has_groups : (templates : List TemplateView) (groups : List Group) → All (λ template. All NamesGroups template.slots) templates → HasGroups (record { templates = templates; groups = groups })
 has_groups templates groups labels t slot at = by_template (slice_get templates t) refl
   where
-    by_template : (o : Option TemplateView) → slice_get templates t ≡ o → HasGroup slot
+    by_template : (o : Option TemplateView) → slice_get templates t ≡ o → NamesGroups slot
     by_template None e = absurd (let none : Contains [] slot = rw e at at in (let below = none.1 in omega arith))
     by_template (Some template) e =
         let within : Contains template.slots slot = rw e at at in
-        let each = all_at (λ (template : TemplateView). All HasGroup template.slots) templates t template labels e in
-        subst HasGroup within.2 (each within.0 slot within.1)
+        let each = all_at (λ (template : TemplateView). All NamesGroups template.slots) templates t template labels e in
+        subst NamesGroups within.2 (each within.0 slot within.1)
 
 module _ (templates : List TemplateView) (groups : List Group) (k : ℕ) (list : List Bool) where
   abbrev whole : QueryView
   whole = record { templates = templates; groups = groups }
 
   -- a member that comes back uses itself
-  pub back_recurs : Holds (leads whole k) list → HasGroups whole → (g t : ℕ) → 1 ≤ g → g ≤ 32 → ComesBack templates list (members_of whole g) g t → IsNoCycle whole t → ⊥
-  back_recurs holds has g t some few back none =
-      let chain = leads_chain whole k t g t back.member (sym (entry_back whole k list g t holds has some few) ∙ back.back) in
+  pub back_recurs : Holds (leads whole k) list → HasGroups whole → MembersWithin whole → (g t : ℕ) → 1 ≤ g → g ≤ 32 → ComesBack templates list (members_of whole g) g t → IsNoCycle whole t → ⊥
+  back_recurs holds has within g t some few back none =
+      let chain = leads_chain whole within k t g t back.member (sym (entry_back whole k list g t holds has some few) ∙ back.back) in
       none chain.0 chain.1
 
   -- and a table that uses itself is a member that comes back
@@ -372,6 +391,11 @@ module _ (templates : List TemplateView) (groups : List Group) (k : ℕ) (list :
           let member : Contains group.members t = rw e at at in
           let each = all_at (λ (group : Group). All (λ (u : ℕ). u < length templates) group.members) groups (g - 1) group within e in
           subst (λ (u : ℕ). u < length templates) member.2 (each member.0 t member.1)
+
+-- the members of groups are templates
+pub all_within : (templates : List TemplateView) (groups : List Group) → All (λ (group : Group). All (λ (u : ℕ). u < length templates) group.members) groups
+    → MembersWithin (record { templates = templates; groups = groups })
+all_within templates groups within g u at = member_within templates groups 32 [] within g u at
 
 -- ---- ranks
 
@@ -419,8 +443,8 @@ few_ranks query k t = omega (arith, count_by-le-length (λ g. comes_back (leads 
 in_range : (n g : ℕ) → 1 ≤ g → g ≤ n → Contains (range_with_len 1 n) g
 in_range n g some few = (g - 1, omega (arith, some, few, length-range_with_len 1 n), get_or-range_with_len 1 n (g - 1) g (omega (arith, some, few)) ∙ omega (arith, some))
 
-pub ranked : (query : QueryView) (k : ℕ) → 32 ≤ k → HasGroups query → ((t : ℕ) → IsNoCycle query t) → IsRanked query (rank_of query k)
-ranked query k enough has none t u puts =
+pub ranked : (query : QueryView) (k : ℕ) → 32 ≤ k → HasGroups query → MembersWithin query → ((t : ℕ) → IsNoCycle query t) → IsRanked query (rank_of query k)
+ranked query k enough has within none t u puts =
     let on = puts_leads query k enough has t u puts in
     count_less (λ g. comes_back (leads query k) g (slots_of query u)) (λ g. comes_back (leads query k) g (slots_of query t)) (range_with_len 1 32) on.on
     on.group (in_range 32 on.group on.some on.few) (by_test (comes_back (leads query k) on.group (slots_of query u)) refl) on.here
@@ -430,5 +454,5 @@ ranked query k enough has none t u puts =
     by_test false e = e
     by_test true e =
         let on = puts_leads query k enough has t u puts in
-        let chain = leads_chain query k u on.group u on.member e in
+        let chain = leads_chain query within k u on.group u on.member e in
         absurd (none u chain.0 chain.1)

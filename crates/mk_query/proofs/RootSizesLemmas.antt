@@ -13,16 +13,16 @@ use Rattle.mk_model.specs.declared.group.Group.{Group}
 use Rattle.mk_model.specs.declared.template.Slot.{Slot}
 use Rattle.mk_model.specs.declared.template.Slot.TheVariants.{Link, Site}
 use Rattle.mk_model.specs.Labels.{PutsIn}
-use Rattle.mk_model.specs.Queries.{QueryView, members_of, slots_of}
-use Rattle.mk_model.specs.Sizes.{IsSizing, atom_numbers, greatest, is_fixed, size_by, size_of_slot}
+use Rattle.mk_model.specs.Queries.{QueryView, members_of}
+use Rattle.mk_model.specs.Sizes.{IsSizing, atom_numbers, greatest, is_fixed, size_of_slot}
 use Rattle.mk_model.specs.SizesWithin.{size_within}
 use Rattle.mk_model.specs.Templates.{TemplateView, neighbour_count}
-use Rattle.mk_model.proofs.ForCallers.{IsRanked, at_place, size_by_rank, size_same, sizing_of, within_same}
+use Rattle.mk_model.proofs.ForCallers.{IsRanked, at_place, greatest_joint, size_by_rank, size_same, sizing_of, within_same}
 use Rattle.mk_query.specs.CompileFaults.{IsNoCycle, IsSmall}
-use Rattle.mk_query.specs.Recursion.{HasGroup, of_templates}
+use Rattle.mk_query.specs.Recursion.{MembersWithin, NamesGroups}
 use Rattle.mk_query.specs.RootSizes.{AreGreatest, AreOwnSizes, capped, greatest_at, link_size, of_group, own_size, site_size, sites_size, size_by_lists}
 use Rattle.mk_query.proofs.CapLemmas.{cap_both, cap_max, cap_site, cap_small, cap_whole, plus_none}
-use Rattle.mk_query.proofs.RecursionLemmas.{HasGroups, LeadsOn, few_ranks, member_within, puts_leads, rank_of, ranked}
+use Rattle.mk_query.proofs.RecursionLemmas.{HasGroups, all_within, few_ranks, member_within, puts_leads, rank_of, ranked}
 
 -- ---- the greatest of some
 
@@ -50,15 +50,15 @@ none_first query g = rw (greatest_none (size_within 0 query) (members_of query g
 
 -- ---- what sites add
 
-few_neighbours : (atom group first second : ℕ) → neighbour_count (Site atom group first second) ≤ 2
-few_neighbours atom group first second = by_test (second == 0)
+few_neighbours : (atom : ℕ) (groups : List ℕ) (first second : ℕ) → neighbour_count (Site atom groups first second) ≤ 2
+few_neighbours atom groups first second = by_test (second == 0)
   where
     by_test : (b : Bool) → cond b 1 2 ≤ 2
     by_test true = omega arith
     by_test false = omega arith
 
 -- by sizes of which the first are capped
-sites_agree : (f h : ℕ → ℕ) (slots : List Slot) → ((g : ℕ) → 1 ≤ g → g ≤ 32 → f g ≡ capped (h g)) → ((slot : Slot) → Contains slots slot → HasGroup slot)
+sites_agree : (f h : ℕ → ℕ) (slots : List Slot) → ((g : ℕ) → 1 ≤ g → g ≤ 32 → f g ≡ capped (h g)) → ((slot : Slot) → Contains slots slot → NamesGroups slot)
     → capped (sites_size f slots) ≡ capped (sites_size h slots)
 sites_agree f h [] same has = refl
 sites_agree f h (slot ∷ slots) same has =
@@ -66,17 +66,19 @@ sites_agree f h (slot ∷ slots) same has =
     let here = one slot (has slot (0, omega arith, refl)) in
     rw (sum_by-cons (site_size f) slot slots, sum_by-cons (site_size h) slot slots) (cap_both (site_size f slot) (site_size h slot) (sites_size f slots) (sites_size h slots) here later)
   where
-    one : (slot : Slot) → HasGroup slot → capped (site_size f slot) ≡ capped (site_size h slot)
+    one : (slot : Slot) → NamesGroups slot → capped (site_size f slot) ≡ capped (site_size h slot)
     one (Link atom most from to) label = refl
-    one (Site atom group first second) label =
-        rw (same group label.0 label.1) (cap_site (h group) (neighbour_count (Site atom group first second)) (few_neighbours atom group first second))
+    one (Site atom groups first second) known =
+        let agree : greatest f groups ≡ capped (greatest h groups) =
+        greatest_agree f h groups (λ g at. (let range = known at.0 g at.1 in subst (λ (x : ℕ). f x ≡ capped (h x)) at.2 (same (get_or groups at.0 g) range.0 range.1))) in
+        rw agree (cap_site (greatest h groups) (neighbour_count (Site atom groups first second)) (few_neighbours atom groups first second))
 
 -- the slots of a template by their two kinds
-slots_split : (query : QueryView) (size : ℕ → ℕ) (template : TemplateView) (slots : List Slot)
+slots_split : (query : QueryView) → MembersWithin query → (size : ℕ → ℕ) (template : TemplateView) (slots : List Slot)
     → sum_by (size_of_slot query size template) slots ≡ sum_by (link_size template) slots + sites_size (λ g. greatest size (members_of query g)) slots
-slots_split query size template [] = refl
-slots_split query size template (slot ∷ slots) =
-    let later = slots_split query size template slots in
+slots_split query within size template [] = refl
+slots_split query within size template (slot ∷ slots) =
+    let later = slots_split query within size template slots in
     let here = one slot in
     omega (
       arith,
@@ -90,7 +92,9 @@ slots_split query size template (slot ∷ slots) =
   where
     one : (slot : Slot) → size_of_slot query size template slot ≡ link_size template slot + site_size (λ g. greatest size (members_of query g)) slot
     one (Link atom most from to) = omega arith
-    one (Site atom group first second) = plus_none (site_size (λ g. greatest size (members_of query g)) (Site atom group first second))
+    one (Site atom groups first second) =
+        ap (λ (m : ℕ). 1 + max m (neighbour_count (Site atom groups first second))) (greatest_joint query size groups (λ g u at. within g u))
+        ∙ plus_none (site_size (λ g. greatest size (members_of query g)) (Site atom groups first second))
 
 -- ---- one table
 
@@ -98,9 +102,9 @@ module _ (templates : List TemplateView) (groups : List Group) where
   abbrev whole : QueryView
   whole = record { templates = templates; groups = groups }
 
-  pub size_is : (own list : List ℕ) (n u : ℕ) → AreOwnSizes templates own → AreGreatest whole n list → HasGroups whole → u < length templates
+  pub size_is : (own list : List ℕ) (n u : ℕ) → AreOwnSizes templates own → AreGreatest whole n list → HasGroups whole → MembersWithin whole → u < length templates
       → size_by_lists templates own list u ≡ capped (size_within (suc n) whole u)
-  size_is own list n u sizes are has below = by_template (slice_get templates u) refl
+  size_is own list n u sizes are has within below = by_template (slice_get templates u) refl
     where
       by_template : (o : Option TemplateView) → slice_get templates u ≡ o → size_by_lists templates own list u ≡ capped (size_within (suc n) whole u)
       by_template None e = absurd (let at = at_place templates u (get_or templates u (record { atoms = []; bonds = []; slots = []; points = [] })) below in let none = sym e ∙ at in cc)
@@ -111,7 +115,7 @@ module _ (templates : List TemplateView) (groups : List Group) where
           sites_agree (of_group list) f template.slots (λ g some few. of_group_is g some few) (λ slot at. has u slot (rw e at)) in
           rw e (cap_whole (slice_index_or own u 0) (count_by (is_fixed template) (atom_numbers template)) (sum_by (link_size template) template.slots)
           (sum_by (size_of_slot whole (size_within n whole) template) template.slots) (sites_size (of_group list) template.slots) (sites_size f template.slots)
-          own_is sites (slots_split whole (size_within n whole) template template.slots))
+          own_is sites (slots_split whole within (size_within n whole) template template.slots))
         where
           of_group_is : (g : ℕ) → 1 ≤ g → g ≤ 32 → of_group list g ≡ capped (greatest_at whole n g)
           of_group_is g some few = (let place : g - 1 + 1 ≡ g = omega arith in rw place at (are.each (g - 1) (omega arith)))
@@ -139,7 +143,7 @@ module _ (templates : List TemplateView) (groups : List Group) where
     each = λ g below.
         let number : n + 1 ≡ suc n = omega arith in
         rw number (each g below ∙ greatest_agree (size_by_lists templates own list) (size_within (suc n) whole) (members_of whole (g + 1))
-        (λ u at. size_is own list n u sizes are has (member_within templates groups 32 [] within (g + 1) u at)));
+        (λ u at. size_is own list n u sizes are has (all_within templates groups within) (member_within templates groups 32 [] within (g + 1) u at)));
   }
 
   -- ---- the root
@@ -158,22 +162,27 @@ module _ (templates : List TemplateView) (groups : List Group) where
       by_template (Some template) e same =
           is t template e ∙ size_same whole size (size_by_rank whole rank) t template e same ∙ sym (sizing_of whole rank ranks t template e)
 
-  module _ (k : ℕ) (enough : 32 ≤ k) (has : HasGroups whole) (none : (t : ℕ) → IsNoCycle whole t) (own list : List ℕ) (n : ℕ) where
+  module _ (k : ℕ) (enough : 32 ≤ k) (has : HasGroups whole) (within : All (λ (group : Group). All (λ (u : ℕ). u < length templates) group.members) groups)
+      (none : (t : ℕ) → IsNoCycle whole t) (own list : List ℕ) (n : ℕ) where
+    -- the groups to which a table leads rank it
+    abbrev ranks : IsRanked whole (rank_of whole k)
+    ranks = ranked whole k enough has (all_within templates groups within) none
+
     -- the size by the lists is that by rank, capped
     root_is : 33 ≤ n → 0 < length templates → AreOwnSizes templates own → AreGreatest whole n list → size_by_lists templates own list 0 ≡ capped (size_by_rank whole (rank_of whole k) 0)
     root_is rounds some sizes are =
-        size_is own list n 0 sizes are has some
-        ∙ ap capped (within_same whole (rank_of whole k) (ranked whole k enough has none) (suc n) (suc (rank_of whole k 0)) 0 (omega (arith, rounds, few_ranks whole k 0)) (omega arith))
+        size_is own list n 0 sizes are has (all_within templates groups within) some
+        ∙ ap capped (within_same whole (rank_of whole k) ranks (suc n) (suc (rank_of whole k 0)) 0 (omega (arith, rounds, few_ranks whole k 0)) (omega arith))
 
     pub is_small : 33 ≤ n → 0 < length templates → AreOwnSizes templates own → AreGreatest whole n list → size_by_lists templates own list 0 ≤ 512 → IsSmall whole
     is_small rounds some sizes are small = record {
       size = size_by_rank whole (rank_of whole k);
-      adds_up = sizing_of whole (rank_of whole k) (ranked whole k enough has none);
+      adds_up = sizing_of whole (rank_of whole k) ranks;
       small = cap_small (size_by_rank whole (rank_of whole k) 0) (omega (arith, root_is rounds some sizes are, small));
     }
 
-    pub small_is : 33 ≤ n → 0 < length templates → All (λ (group : Group). All (λ (u : ℕ). u < length templates) group.members) groups
+    pub small_is : 33 ≤ n → 0 < length templates
         → AreOwnSizes templates own → AreGreatest whole n list → IsSmall whole → size_by_lists templates own list 0 ≤ 512
-    small_is rounds some within sizes are is =
-        let same = one_size k enough has within (rank_of whole k) (ranked whole k enough has none) is.size is.adds_up (suc (rank_of whole k 0)) 0 (omega arith) some in
+    small_is rounds some sizes are is =
+        let same = one_size k enough has within (rank_of whole k) ranks is.size is.adds_up (suc (rank_of whole k 0)) 0 (omega arith) some in
         omega (arith, root_is rounds some sizes are, same, is.small)

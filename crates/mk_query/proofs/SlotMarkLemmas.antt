@@ -5,7 +5,8 @@ use Rattle.std.proofs.Common.{◌≡◌, ◌≢◌, ◌≤◌, ◌<◌, ◌+◌,
 use Rattle.std.specs.Prelude.{ℤ, pos, ◌↔◌, nat_lt, slice_get, IsTrue}
 use Rattle.std.specs.List.{range_with_len}
 use Rattle.std.specs.Ordering.{int_eq}
-use Rattle.std.proofs.lemmas.List.{append-nil, append_assoc, drop_all, drop_more, get_or-map, get_or_default, length-map}
+use Rattle.std.proofs.lemmas.Bool.{true≢false}
+use Rattle.std.proofs.lemmas.List.{append-nil, append_assoc, drop_all, drop_more, get_or-map, length-map}
 use Rattle.std.proofs.lemmas.Option.{get_or_from_slice_get, slice_get_cases}
 use Rattle.mk_props.specs.declared.property.LinkEntry.{LinkEntry}
 use Rattle.mk_props.specs.declared.property.Pair.{Pair}
@@ -15,22 +16,22 @@ use Rattle.mk_props.specs.declared.property.SiteOrder.{SiteOrder}
 use Rattle.mk_model.specs.declared.template.Slot.{Slot}
 use Rattle.mk_ctab.specs.declared.raw.RawAtom.{RawAtom}
 use Rattle.mk_ctab.specs.declared.raw.RawTable.{RawTable}
-use Rattle.mk_ctab.specs.Charges.{last_or}
 use Rattle.mk_ctab.specs.Numbers.{natural}
+use Rattle.mk_query.specs.declared.drawn.Labels.{Labels}
 use Rattle.mk_query.specs.declared.drawn.Near.{Near}
 use Rattle.mk_query.specs.declared.drawn.Near.TheVariants as near
 use Rattle.mk_query.specs.declared.linked_atoms.Linked.{Linked}
 use Rattle.mk_query.specs.declared.linked_atoms.Linked.TheVariants as linked
 use Rattle.mk_query.specs.declared.site_orders.SiteEnds.{SiteEnds}
-use Rattle.mk_query.specs.Compiled.{atom_placed, neighbours_by, order_for, order_of, ordered_neighbours, rising_neighbours, slot_at, slot_with, slots_at, slots_in, table_slots}
-use Rattle.mk_query.specs.Drawn.{drawn_neighbours, is_site, labels_at, labels_of, links_at, neighbours_at, query_bonds}
+use Rattle.mk_query.specs.Compiled.{atom_placed, labelled_groups, neighbours_by, order_for, order_of, ordered_neighbours, rising_neighbours, slot_at, slot_with, slots_at, slots_in, table_slots}
+use Rattle.mk_query.specs.Drawn.{drawn_neighbours, is_site, labels_at, links_at, neighbours_at, query_bonds}
 use Rattle.mk_query.specs.FirstFault.{link_atoms, site_labels, site_places}
-use Rattle.mk_query.specs.LastValues.{AreLastValues}
 use Rattle.mk_query.specs.LinkChecks.{AreRightLinks}
 use Rattle.mk_query.specs.LinkMarks.{AreLinked, IsLinked}
-use Rattle.mk_query.specs.Marks.{AreMarks, IsNear}
+use Rattle.mk_query.specs.Marks.{AreMarks, IsLabels, IsNear}
 use Rattle.mk_query.specs.Passed.{HasPassed}
-use Rattle.mk_query.specs.SlotMarks.{AreEnds, AreOrdered, IsPutAt, ends_after, ends_near, ends_placed, slot_by}
+use Rattle.mk_query.specs.SlotMarks.{AreEnds, AreOrdered, IsPutAt, ends_after, ends_near, ends_placed, groups_in, slot_by}
+use Rattle.mk_query.proofs.LabelMarkLemmas.{groups_same}
 use Rattle.mk_query.proofs.RangeLemmas.{numbers_more}
 
 -- ---- the atom of a place
@@ -140,48 +141,48 @@ ordered_size marks start new noted same = same ∙ ap (λ (l : List SiteEnds). l
 -- ---- slots
 
 -- the slot by the labels of an atom without links
-by_labels : (x : ℕ) (labels : List ℤ) (site : Bool) (label : ℤ) (both : ℕ × ℕ) (pair : SiteEnds)
-    → IsTrue site ↔ (labels ≢ []) → length labels ≤ 1 → label ≡ last_or (pos 0) labels
+by_labels : (x : ℕ) (labels : List ℤ) (site : Bool) (groups : ℕ) (both : ℕ × ℕ) (pair : SiteEnds)
+    → IsTrue site ↔ (labels ≢ []) → groups_in groups ≡ labelled_groups labels
     → (IsTrue site → AreEnds both pair)
-    → slot_by x linked.Nothing site label pair ≡ slot_with x [] labels both
-by_labels x [] true label both pair word few is ends = absurd (word.0 refl refl)
-by_labels x [] false label both pair word few is ends = refl
-by_labels x (v ∷ []) true label both pair word few is ends = (let e = ends refl in rw (is, e.0, e.1) refl)
-by_labels x (v ∷ []) false label both pair word few is ends = absurd (let yes = word.1 (λ e. absurd cc) in cc)
-by_labels x (v ∷ w ∷ vs) site label both pair word few is ends = absurd (omega (arith, few))
+    → slot_by x linked.Nothing site groups pair ≡ slot_with x [] labels both
+by_labels x [] true groups both pair word are ends = absurd (word.0 refl refl)
+by_labels x [] false groups both pair word are ends = refl
+by_labels x (v ∷ vs) true groups both pair word are ends = (let e = ends refl in rw (are, e.0, e.1) refl)
+by_labels x (v ∷ vs) false groups both pair word are ends = absurd (true≢false (sym (word.1 (λ e. absurd cc))))
 
 -- the slot by the links of an atom
-by_links : (table : RawTable) (x : ℕ) (links : List LinkEntry) (mark : Linked) (site : Bool) (label : ℤ)
+by_links : (table : RawTable) (x : ℕ) (links : List LinkEntry) (mark : Linked) (site : Bool) (groups : ℕ)
     (labels : List ℤ) (both : ℕ × ℕ) (pair : SiteEnds) → IsLinked links mark → AreRightLinks table x links
-    → slot_by x linked.Nothing site label pair ≡ slot_with x [] labels both → slot_by x mark site label pair ≡ slot_with x links labels both
-by_links table x links linked.Nothing site label labels both pair is right none = rw is none
-by_links table x links (linked.One link) site label labels both pair is right none = rw is refl
-by_links table x [] linked.More site label labels both pair is right none = absurd (omega (arith, is))
-by_links table x (link ∷ []) linked.More site label labels both pair is right none = absurd (omega (arith, is))
-by_links table x (link ∷ second ∷ links) linked.More site label labels both pair is right none = absurd right
+    → slot_by x linked.Nothing site groups pair ≡ slot_with x [] labels both → slot_by x mark site groups pair ≡ slot_with x links labels both
+by_links table x links linked.Nothing site groups labels both pair is right none = rw is none
+by_links table x links (linked.One link) site groups labels both pair is right none = rw is refl
+by_links table x [] linked.More site groups labels both pair is right none = absurd (omega (arith, is))
+by_links table x (link ∷ []) linked.More site groups labels both pair is right none = absurd (omega (arith, is))
+by_links table x (link ∷ second ∷ links) linked.More site groups labels both pair is right none = absurd right
 
 -- what is noted of an atom tells its slot, where the table passes
-pub slot_is : (table : RawTable) (i : ℕ) (line : RawAtom) (linked : Linked) (site : Bool) (label : ℤ) (pair : SiteEnds) → HasPassed table → slice_get table.atoms i ≡ Some line
-    → IsLinked (links_at table (i + 1)) linked → site ≡ is_site line → label ≡ last_or (pos 0) (labels_at table (i + 1))
+pub slot_is : (table : RawTable) (i : ℕ) (line : RawAtom) (linked : Linked) (site : Bool) (mark : Labels) (pair : SiteEnds) → HasPassed table → slice_get table.atoms i ≡ Some line
+    → IsLinked (links_at table (i + 1)) linked → site ≡ is_site line → IsLabels (labels_at table (i + 1)) mark
     → (length (drawn_neighbours table (i + 1)) ≤ 2 → AreEnds (ordered_neighbours table (i + 1)) pair)
-    → slot_by (i + 1) linked site label pair ≡ slot_at table (i + 1)
-slot_is table i line linked site label pair passed at are_links is_site_is is_label ends =
+    → slot_by (i + 1) linked site mark.groups pair ≡ slot_at table (i + 1)
+slot_is table i line linked site mark pair passed at are_links is_site_is are_labels ends =
     let place : i + 1 - 1 ≡ i = omega arith in
     let there : slice_get table.atoms (i + 1 - 1) ≡ Some line = rw place at in
     let right = passed.passes link_atoms (i + 1) line (omega arith) there in
     let labelled = passed.passes site_labels (i + 1) line (omega arith) there in
     let placed = passed.passes site_places (i + 1) line (omega arith) there in
-    by_links table (i + 1) (links_at table (i + 1)) linked site label (labels_at table (i + 1)) (ordered_neighbours table (i + 1)) pair are_links right
-    (by_labels (i + 1) (labels_at table (i + 1)) site label (ordered_neighbours table (i + 1)) pair (rw is_site_is labelled.word) labelled.alone is_label
+    by_links table (i + 1) (links_at table (i + 1)) linked site mark.groups (labels_at table (i + 1)) (ordered_neighbours table (i + 1)) pair are_links right
+    (by_labels (i + 1) (labels_at table (i + 1)) site mark.groups (ordered_neighbours table (i + 1)) pair (rw is_site_is labelled.word)
+    (groups_same mark.groups (labels_at table (i + 1)) are_labels.groups)
     (λ yes. ends (placed (rw is_site_is at yes)).two))
 
 -- what is noted at the place of an atom
-pub slot_noted : (table : RawTable) (i : ℕ) (links : List Linked) (sites : List Bool) (labels : List ℤ)
-    (ends : List SiteEnds) (mark : Linked) (site : Bool) (label : ℤ) (pair : SiteEnds) → HasPassed table
+pub slot_noted : (table : RawTable) (i : ℕ) (links : List Linked) (sites : List Bool) (labels : List Labels)
+    (ends : List SiteEnds) (mark : Linked) (site : Bool) (label : Labels) (pair : SiteEnds) → HasPassed table
     → i < length table.atoms
-    → length links ≡ length table.atoms → AreLinked table.props links → sites ≡ map is_site table.atoms → length labels ≡ length table.atoms → AreLastValues labels_of table.props labels
+    → length links ≡ length table.atoms → AreLinked table.props links → sites ≡ map is_site table.atoms → length labels ≡ length table.atoms → AreMarks (λ x. IsLabels (labels_at table x)) labels
     → length ends ≡ length table.atoms → AreMarks (λ x p. length (drawn_neighbours table x) ≤ 2 → AreEnds (ordered_neighbours table x) p) ends
-    → mark ≡ get_or links i mark → site ≡ get_or sites i site → label ≡ get_or labels i label → pair ≡ get_or ends i pair → slot_by (i + 1) mark site label pair ≡ slot_at table (i + 1)
+    → mark ≡ get_or links i mark → site ≡ get_or sites i site → label ≡ get_or labels i label → pair ≡ get_or ends i pair → slot_by (i + 1) mark site label.groups pair ≡ slot_at table (i + 1)
 slot_noted table i links sites labels ends mark site label pair passed below links_size links_are sites_are labels_size labels_are ends_size ends_are mark_is site_is label_is pair_is =
     ⊎_elim
     (λ found.
@@ -190,9 +191,7 @@ slot_noted table i links sites labels ends mark site label pair passed below lin
     let linked_so : IsLinked (links_at table (i + 1)) mark = subst (IsLinked (links_at table (i + 1))) (sym mark_is) (links_are i mark (omega (arith, below, links_size))) in
     let site_so : site ≡ is_site line =
     site_is ∙ ap (λ (l : List Bool). get_or l i site) sites_are ∙ get_or-map is_site table.atoms i line site below ∙ ap is_site (get_or_from_slice_get table.atoms i line line at) in
-    let label_so : label ≡ last_or (pos 0) (labels_at table (i + 1)) = label_is
-    ∙ get_or_default labels i label (pos 0) (omega (arith, below, labels_size))
-    ∙ labels_are i (omega (arith, below, labels_size)) in
+    let label_so : IsLabels (labels_at table (i + 1)) label = subst (IsLabels (labels_at table (i + 1))) (sym label_is) (labels_are i label (omega (arith, below, labels_size))) in
     slot_is table i line mark site label pair passed at linked_so site_so label_so
     (λ few. (let P : SiteEnds → Type 0 = λ p. AreEnds (ordered_neighbours table (i + 1)) p in subst P (sym pair_is) (ends_are i pair (omega (arith, below, ends_size)) few))))
     (λ none. absurd (omega (arith, none.0, below)))

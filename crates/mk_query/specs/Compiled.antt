@@ -3,13 +3,14 @@
 --     query_tables raw           the tables, by their numbers
 --     members_of_group raw g     the numbers of the members of group g
 --     IsTestOf table x line test the test of atom x, of which this is the atom line
+--     labelled_groups labels     the groups of which some labels are the numbers, rising
 --     table_slots table          the sites and links of a table
 --     points_of table            its atoms with attachment point 1 and 2
 --     IsTemplateOf table template    the template of a table
 --     IsGroupOf raw g group      the group of a number
 --     IsQueryOf raw query        the query of a raw query
 use Rattle.std.specs.Prelude.{◌≡◌, ◌+◌, ◌==◌, nat_lt, ℕ, ℤ, pos, Bool, true, false, List, [], ◌∷◌, ◌++◌, Option, Some, None, slice_get, length, map, codes, if◌then◌else◌}
-use Rattle.std.specs.List.{filter, range_with_len}
+use Rattle.std.specs.List.{filter, list_any, range_with_len}
 use Rattle.std.specs.Ordering.{int_eq}
 use Rattle.mk_elements.specs.Symbols.{NamesElement}
 use Rattle.mk_props.specs.declared.property.LinkEntry.{LinkEntry}
@@ -28,7 +29,7 @@ use Rattle.mk_model.specs.Templates.{TemplateView}
 use Rattle.mk_ctab.specs.declared.raw.RawAtom.{RawAtom}
 use Rattle.mk_ctab.specs.declared.raw.RawTable.{RawTable}
 use Rattle.mk_ctab.specs.Charges.{charge_at, radical_at}
-use Rattle.mk_ctab.specs.Numbers.{byte, natural}
+use Rattle.mk_ctab.specs.Numbers.{natural}
 use Rattle.mk_logic.specs.RangeTexts.{IsRangeText}
 use Rattle.mk_rgfile.specs.declared.raw_query.RawGroup.{RawGroup}
 use Rattle.mk_rgfile.specs.declared.raw_query.RawQuery.{RawQuery}
@@ -154,14 +155,22 @@ neighbours_by None neighbours = rising_neighbours neighbours
 abbrev pub ordered_neighbours : RawTable → ℕ → ℕ × ℕ
 ordered_neighbours table x = neighbours_by (order_for x table.props) (drawn_neighbours table x)
 
+-- one of some labels is the number of group g
+abbrev pub is_label : List ℤ → ℕ → Bool
+is_label labels g = list_any (λ label. int_eq label (pos g)) labels
+
+-- the groups of which some labels are the numbers, from 1 to 32 and rising
+unfoldable pub labelled_groups : List ℤ → List ℕ
+labelled_groups labels = filter (is_label labels) (range_with_len 1 32)
+
 -- the slot of atom x by the links and the labels that stand there, and its neighbours in their
 -- order
 abbrev pub slot_with : ℕ → List LinkEntry → List ℤ → ℕ × ℕ → Option Slot
 slot_with x (link ∷ links) labels both = Some (Link x (natural link.most) (natural link.from) (natural link.to))
-slot_with x [] (label ∷ labels) both = Some (Site x (byte label) both.0 both.1)
+slot_with x [] (label ∷ labels) both = Some (Site x (labelled_groups (label ∷ labels)) both.0 both.1)
 slot_with x [] [] both = None
 
--- the slot of atom x, where it has one: the link that stands there, or the site of its label
+-- the slot of atom x, where it has one: the link that stands there, or the site of its labels
 abbrev pub slot_at : RawTable → ℕ → Option Slot
 slot_at table x = slot_with x (links_at table x) (labels_at table x) (ordered_neighbours table x)
 

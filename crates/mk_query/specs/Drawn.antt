@@ -78,9 +78,9 @@ unsaturations_of (kinds.Unsaturation pairs) = pairs
 unsaturations_of other = []
 
 -- the pairs of an `M  RGP`
-abbrev pub labels_of : Property → List Pair
-labels_of (kinds.Label pairs) = pairs
-labels_of other = []
+abbrev pub label_pairs : Property → List Pair
+label_pairs (kinds.Label pairs) = pairs
+label_pairs other = []
 
 -- the pairs of an `M  APO`
 abbrev pub point_pairs : Property → List Pair
@@ -93,7 +93,7 @@ value_at select table x = last_or (pos 0) (values_for x (pairs_by select table.p
 
 -- the labels of atom x: every entry of an `M  RGP` that names it is one
 abbrev pub labels_at : RawTable → ℕ → List ℤ
-labels_at table x = values_for x (pairs_by labels_of table.props)
+labels_at table x = values_for x (pairs_by label_pairs table.props)
 
 -- the value of an `M  APO` gives attachment point p: 1 the first, 2 the second, and 3 both
 abbrev pub gives_point : ℕ → ℤ → Bool

@@ -9,14 +9,13 @@ use Rattle.mk_props.specs.declared.property.Property.{Property}
 use Rattle.mk_ctab.specs.Charges.{last_or, values_for}
 use Rattle.mk_query.specs.declared.values.ValueKind.{ValueKind}
 use Rattle.mk_query.specs.declared.values.ValueKind.TheVariants as kinds
-use Rattle.mk_query.specs.Drawn.{labels_of, pairs_by, point_pairs, ring_bonds_of, substitutions_of, unsaturations_of}
+use Rattle.mk_query.specs.Drawn.{pairs_by, point_pairs, ring_bonds_of, substitutions_of, unsaturations_of}
 
 -- the pairs that belong to a kind
 abbrev pub pairs_of : ValueKind → Property → List Pair
 pairs_of kinds.RingBonds = ring_bonds_of
 pairs_of kinds.Substitution = substitutions_of
 pairs_of kinds.Unsaturation = unsaturations_of
-pairs_of kinds.Label = labels_of
 pairs_of kinds.Points = point_pairs
 
 -- the atom of each place has the value that the last entry gives it, and 0 where none names it

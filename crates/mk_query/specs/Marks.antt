@@ -5,19 +5,25 @@
 --     site_mark sites x           what is noted of atom x in a list of sites
 --     IsNear neighbours near      the note on an atom with these neighbours
 --     are_apart sites near        there are one or two, and none is a site
+--     HasKnownLabels property     the labels that a property gives are from 1 to 32
+--     has_group groups g          the bit of group g is set
 --     IsLabels labels mark        the note on an atom with these labels
 --     lists_for x lists           those of some lists that name atom x
 --     IsListMark lists mark       the note on an atom that these lists name
 --     AreServed groups served     the notes on the numbers of groups: which have a member
-use Rattle.std.specs.Prelude.{◌≡◌, ◌≢◌, ◌≤◌, ◌<◌, ◌+◌, ◌-◌, ◌==◌, ◌&&◌, ◌↔◌, not, ℕ, ℤ, pos, Bool, false, List, [], ◌∷◌, ◌++◌, All, IsTrue, length, slice_index_or}
+--     AreAllServed served groups  so it is noted of each group of which the bit is set
+use Rattle.std.specs.Prelude.{◌≡◌, ◌≢◌, ◌≤◌, ◌<◌, ◌+◌, ◌-◌, ◌==◌, ◌&&◌, ◌↔◌, not, ℕ, ℤ, pos, Bool, false, List, [], ◌∷◌, ◌++◌, All, AllPairs, IsTrue, length, slice_index_or}
+use Rattle.std.specs.Int.{bit_at}
 use Rattle.std.specs.List.{filter}
+use Rattle.mk_props.specs.declared.property.Property.{Property}
+use Rattle.mk_ctab.specs.Numbers.{IsWithin}
 use Rattle.mk_rgfile.specs.declared.raw_query.RawGroup.{RawGroup}
 use Rattle.mk_query.specs.declared.drawn.Labels.{Labels}
-use Rattle.mk_query.specs.declared.drawn.Labels.TheVariants as labels
 use Rattle.mk_query.specs.declared.drawn.Near.{Near}
 use Rattle.mk_query.specs.declared.drawn.Near.TheVariants as near
 use Rattle.mk_query.specs.declared.lists.ListMark.{ListMark}
-use Rattle.mk_query.specs.Drawn.{ElementList, listed_atom}
+use Rattle.mk_query.specs.Compiled.{is_label}
+use Rattle.mk_query.specs.Drawn.{ElementList, label_pairs, listed_atom}
 use Rattle.mk_query.specs.SiteChecks.{HasKnownMembers, HasMember}
 
 -- ---- notes
@@ -56,16 +62,38 @@ are_apart sites other = false
 
 -- ---- labels
 
--- the note on an atom with these labels: none, the one, or more than one
-abbrev pub IsLabels : List ℤ → Labels → Type 0
-IsLabels those labels.Nothing = those ≡ []
-IsLabels those (labels.One label) = those ≡ label ∷ []
-IsLabels those labels.More = 2 ≤ length those
+-- a label is the number of a group, from 1 to 32
+abbrev pub IsKnownLabel : ℤ → Type 0
+IsKnownLabel label = IsWithin (pos 1) (pos 32) label
+
+-- the labels that a property gives are from 1 to 32
+abbrev pub HasKnownLabels : Property → Type 0
+HasKnownLabels property = All (λ pair. IsKnownLabel pair.value) (label_pairs property)
+
+-- the bit of group g is set, where that of group 1 is the lowest
+abbrev pub has_group : ℕ → ℕ → Bool
+has_group groups g = bit_at groups (g - 1) == 1
+
+-- the labels are from 1 to 32, and none stands twice
+pub record AreOnce (those : List ℤ) : Type 0 where
+  pub known : All IsKnownLabel those
+  pub apart : AllPairs (λ label later. label ≢ later) those
+
+-- the note on an atom with these labels: whether there are any, whether they are from 1 to 32 and
+-- none stands twice, and the bits of their groups
+pub record IsLabels (those : List ℤ) (mark : Labels) : Type 0 where
+  pub some : IsTrue mark.some ↔ (those ≢ [])
+  pub once : IsTrue mark.once ↔ AreOnce those
+  pub groups : (g : ℕ) → 1 ≤ g → g ≤ 32 → has_group mark.groups g ≡ is_label those g
 
 -- what is noted of the number that a label is
 abbrev pub is_served : List Bool → ℤ → Bool
 is_served served (pos g) = slice_index_or served g false
 is_served served other = false
+
+-- of each group of which the bit is set it is noted that it has a member
+abbrev pub AreAllServed : List Bool → ℕ → Type 0
+AreAllServed served groups = (g : ℕ) → 1 ≤ g → g ≤ 32 → IsTrue (has_group groups g) → IsTrue (is_served served (pos g))
 
 -- noted are the numbers of the groups that have a member
 abbrev pub AreServed : List RawGroup → List Bool → Type 0

@@ -38,7 +38,7 @@ marked list n = count_by (λ x. slice_index_or list x false) (range_with_len 1 n
 -- what a link adds that takes the marked atoms
 abbrev pub link_size_by : List Bool → ℕ → Slot → ℕ
 link_size_by list n (Link atom most from to) = 1 + most * marked list n
-link_size_by list n (Site atom group first second) = 0
+link_size_by list n (Site atom groups first second) = 0
 
 -- one of the first i slots takes the atom
 abbrev pub is_taken : TemplateView → ℕ → ℕ → Bool

@@ -2,11 +2,13 @@
 --     HasPoints templates n u          table u has n points
 --     AllHavePoints templates n members    each of the members has
 --     AreTold query n list             for each group, whether its members do
+--     all_told list groups             so it is told of each of some groups
 --     told_fit one two slot            the members of a site have as many points as it has
 --                                      neighbours, as two such lists tell it
 --     FindsUnfit one two slots found   the atom of the first slot that they tell not to fit
 --     FindsMisfit query found          the first table with a misfit, and its lowest atom
-use Rattle.std.specs.Prelude.{◌≡◌, ◌<◌, ◌+◌, ◌-◌, ◌==◌, ◌↔◌, ℕ, Bool, true, false, List, Option, Some, None, All, Contains, if◌then◌else◌, IsTrue, length, slice_get, slice_index_or}
+use Rattle.std.specs.Prelude.{◌≡◌, ◌<◌, ◌+◌, ◌-◌, ◌==◌, ◌↔◌, ℕ, Bool, true, false, List, Option, Some, None, Contains, if◌then◌else◌, IsTrue, length, slice_get, slice_index_or}
+use Rattle.std.specs.List.{list_all}
 use Rattle.mk_text.specs.Items.{IsLeastFailing}
 use Rattle.mk_model.specs.declared.template.Slot.{Slot}
 use Rattle.mk_model.specs.declared.template.Slot.TheVariants.{Link, Site}
@@ -28,11 +30,15 @@ pub record AreTold (query : QueryView) (n : ℕ) (list : List Bool) : Type 0 whe
   pub size : length list ≡ 32
   pub each : (g : ℕ) → g < 32 → IsTrue (slice_index_or list g false) ↔ AllHavePoints query.templates n (members_of query (g + 1))
 
+-- of each of these groups the list tells that its members have so many points
+abbrev pub all_told : List Bool → List ℕ → Bool
+all_told list groups = list_all (λ g. slice_index_or list (g - 1) false) groups
+
 -- a site's members have as many points as it has neighbours, as the lists for one point and for two
--- tell it
+-- tell it of its groups
 abbrev pub told_fit : List Bool → List Bool → Slot → Bool
 told_fit one two (Link atom most from to) = true
-told_fit one two (Site atom group first second) = if second == 0 then slice_index_or one (group - 1) false else slice_index_or two (group - 1) false
+told_fit one two (Site atom groups first second) = if second == 0 then all_told one groups else all_told two groups
 
 -- x is the atom of the first slot that the lists tell not to fit
 pub record IsUnfit (one two : List Bool) (slots : List Slot) (x : ℕ) : Type 0 where

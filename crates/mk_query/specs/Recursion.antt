@@ -3,15 +3,16 @@
 --     leads query k g h          so, or by way of groups up to k
 --     cell list a b              the entry of a row and a column, which count from 0
 --     Holds f list               the entry of row g - 1 and column h - 1 is f g h
---     leads_on f g slot          a site whose group is g, or leads to it
+--     NamesGroups slot           the labels of a site are the numbers of groups
+--     MembersWithin query        the members of groups are templates
+--     leads_on f g slot          a site of which a label is g, or leads to it
 --     comes_back f g slots       some of the slots is one
 --     ComesBack templates list members g u     table u is a member of group g, and one of its sites
 --                                              leads back
-use Rattle.std.specs.Prelude.{◌≡◌, ◌<◌, ◌≤◌, ◌+◌, ◌-◌, ◌*◌, ◌==◌, ◌&&◌, ◌||◌, ℕ, zero, suc, Bool, false, List, [], length, slice_index_or, Contains, IsTrue}
+use Rattle.std.specs.Prelude.{◌≡◌, ◌<◌, ◌≤◌, ◌+◌, ◌-◌, ◌*◌, ◌==◌, ◌&&◌, ◌||◌, ℕ, zero, suc, Bool, false, List, [], All, length, slice_index_or, Contains, IsTrue}
 use Rattle.std.specs.List.{list_any}
 use Rattle.mk_model.specs.declared.template.Slot.{Slot}
-use Rattle.mk_model.specs.declared.template.Slot.TheVariants.{Link, Site}
-use Rattle.mk_model.specs.Labels.{bears_label}
+use Rattle.mk_model.specs.Labels.{bears_label, site_labels}
 use Rattle.mk_model.specs.Queries.{QueryView, members_of, slots_of}
 use Rattle.mk_model.specs.Templates.{TemplateView}
 
@@ -38,17 +39,23 @@ pub record Holds (f : ℕ → ℕ → Bool) (list : List Bool) : Type 0 where
   pub size : length list ≡ 1024
   pub each : HoldSoFar f list
 
--- the label of a site is a group's number
-abbrev pub HasGroup : Slot → Type 0
-HasGroup (Link atom most from to) = Unit {0}
-HasGroup (Site atom group first second) = (1 ≤ group) × (group ≤ 32)
+-- the labels of a site are the numbers of groups, from 1 to 32
+abbrev pub NamesGroups : Slot → Type 0
+NamesGroups slot = All (λ h. (1 ≤ h) × (h ≤ 32)) (site_labels slot)
 
--- the slot is a site whose group is g, or leads to it
+-- each member of a group is a template
+abbrev pub MembersWithin : QueryView → Type 0
+MembersWithin query = (g u : ℕ) → Contains (members_of query g) u → u < length query.templates
+
+-- one of some labels is g, or leads to it
+abbrev pub label_leads : (ℕ → ℕ → Bool) → ℕ → List ℕ → Bool
+label_leads f g labels = list_any (λ h. (h == g) || f h g) labels
+
+-- the slot is a site of which a label is g, or leads to it
 abbrev pub leads_on : (ℕ → ℕ → Bool) → ℕ → Slot → Bool
-leads_on f g (Link atom most from to) = false
-leads_on f g (Site atom group first second) = (group == g) || f group g
+leads_on f g slot = label_leads f g (site_labels slot)
 
--- a site among these slots has group g, or its group leads to it
+-- a site among these slots has the label g, or one that leads to it
 abbrev pub comes_back : (ℕ → ℕ → Bool) → ℕ → List Slot → Bool
 comes_back f g slots = list_any (leads_on f g) slots
 

@@ -20,16 +20,17 @@ capped n = min n 513
 -- what a link adds: 1, and its greatest length for each atom of its block
 abbrev pub link_size : TemplateView → Slot → ℕ
 link_size template (Link atom most from to) = 1 + most * count_by (is_in_block template (Link atom most from to)) (atom_numbers template)
-link_size template (Site atom group first second) = 0
+link_size template (Site atom groups first second) = 0
 
 -- what a template adds by itself: its fixed atoms and its links
 abbrev pub own_size : TemplateView → ℕ
 own_size template = count_by (is_fixed template) (atom_numbers template) + sum_by (link_size template) template.slots
 
--- what a site adds: 1, and the greatest size in its group or the number of its neighbours
+-- what a site adds: 1, and the greatest size in a group of its labels or the number of its
+-- neighbours
 abbrev pub site_size : (ℕ → ℕ) → Slot → ℕ
 site_size f (Link atom most from to) = 0
-site_size f (Site atom group first second) = 1 + max (f group) (neighbour_count (Site atom group first second))
+site_size f (Site atom groups first second) = 1 + max (greatest f groups) (neighbour_count (Site atom groups first second))
 
 -- what the sites add
 abbrev pub sites_size : (ℕ → ℕ) → List Slot → ℕ

@@ -2,12 +2,12 @@
 -- and properties count from 1.
 --     HasLists table item          the lists of this atom have known members, and `L` stands
 --                                  exactly where there are some
---     HasLabel groups table item   `R#` exactly where a label stands, one label alone, and its
---                                  group has a member
+--     HasLabel groups table item   `R#` exactly where a label stands, no label twice, and the
+--                                  group of each has a member
 --     HasSitePlace table item      a site has one or two neighbours, none of them a site
 --     HasSiteOrder table item      an `M  AAL` orders the neighbours of a site, and no later one
 --                                  orders them again
-use Rattle.std.specs.Prelude.{◌≡◌, ◌≢◌, ◌≤◌, ◌↔◌, ℕ, ℤ, pos, List, [], All, Contains, length, drop, codes, IsTrue}
+use Rattle.std.specs.Prelude.{◌≡◌, ◌≢◌, ◌≤◌, ◌↔◌, ℕ, ℤ, pos, List, [], All, AllPairs, Contains, length, drop, codes, IsTrue}
 use Rattle.mk_text.specs.Items.{OfItem}
 use Rattle.mk_props.specs.declared.property.Pair.{Pair}
 use Rattle.mk_props.specs.declared.property.Property.{Property}
@@ -45,14 +45,14 @@ HasLists table item =
 abbrev pub HasMember : List RawGroup → ℤ → Type 0
 HasMember groups label = (group : RawGroup) × Contains groups group × (pos group.number ≡ label) × (1 ≤ length group.members)
 
--- `R#` exactly where a label stands, no second label, and the group of the label has a member
+-- `R#` exactly where a label stands, no label twice, and the group of each label has a member
 pub record IsLabelled (groups : List RawGroup) (labels : List ℤ) (atom : RawAtom) : Type 0 where
   pub word : IsTrue (is_site atom) ↔ (labels ≢ [])
-  pub alone : length labels ≤ 1
+  pub once : AllPairs (λ label later. label ≢ later) labels
   pub members : All (HasMember groups) labels
 
--- Where there is an atom of this number, its symbol is `R#` exactly where a label stands there,
--- with one label alone, of a group that has a member.
+-- Where there is an atom of this number, its symbol is `R#` exactly where a label stands there, no
+-- label stands there twice, and the group of each has a member.
 abbrev pub HasLabel : List RawGroup → RawTable → ℕ → Type 0
 HasLabel groups table item = OfItem (IsLabelled groups (labels_at table item)) table.atoms item
 

@@ -2,16 +2,18 @@
 --     ends_near near                what is noted of neighbours, by rising atom
 --     ends_placed entries           the neighbours by the places that entries give them
 --     AreOrdered props old new      the orders of properties were put in place of what was noted
---     slot_by x linked site label pair   the slot of atom x by what is noted of it
+--     groups_in groups              the groups of which the bits are set
+--     slot_by x linked site groups pair   the slot of atom x by what is noted of it
 --     AreEnds both pair             the pair has these neighbours
 --     HaveEnds table list           so it is for each atom of a table
-use Rattle.std.specs.Prelude.{◌≡◌, ◌≤◌, ◌<◌, ◌+◌, ◌==◌, nat_lt, ℕ, ℤ, Bool, List, Option, Some, None, length, slice_index_or, if◌then◌else◌}
+use Rattle.std.specs.Prelude.{◌≡◌, ◌≤◌, ◌<◌, ◌+◌, ◌==◌, nat_lt, ℕ, Bool, List, Option, Some, None, length, slice_index_or, if◌then◌else◌}
+use Rattle.std.specs.List.{filter, range_with_len}
 use Rattle.mk_props.specs.declared.property.Pair.{Pair}
 use Rattle.mk_props.specs.declared.property.Property.{Property}
 use Rattle.mk_model.specs.declared.template.Slot.{Slot}
 use Rattle.mk_model.specs.declared.template.Slot.TheVariants.{Link, Site}
 use Rattle.mk_ctab.specs.declared.raw.RawTable.{RawTable}
-use Rattle.mk_ctab.specs.Numbers.{byte, natural}
+use Rattle.mk_ctab.specs.Numbers.{natural}
 use Rattle.mk_query.specs.declared.drawn.Near.{Near}
 use Rattle.mk_query.specs.declared.drawn.Near.TheVariants as near
 use Rattle.mk_query.specs.declared.linked_atoms.Linked.{Linked}
@@ -19,7 +21,7 @@ use Rattle.mk_query.specs.declared.linked_atoms.Linked.TheVariants as linked
 use Rattle.mk_query.specs.declared.site_orders.SiteEnds.{SiteEnds}
 use Rattle.mk_query.specs.Compiled.{atom_placed, order_for, ordered_neighbours}
 use Rattle.mk_query.specs.Drawn.{drawn_neighbours}
-use Rattle.mk_query.specs.Marks.{AreMarks}
+use Rattle.mk_query.specs.Marks.{AreMarks, has_group}
 
 -- ---- neighbours
 
@@ -59,8 +61,12 @@ pub record IsPutAt (n : ℕ) (pair : SiteEnds) (old new : List SiteEnds) : Type 
 
 -- ---- slots
 
+-- the groups of which the bits are set, rising
+unfoldable pub groups_in : ℕ → List ℕ
+groups_in groups = filter (has_group groups) (range_with_len 1 32)
+
 -- the slot of atom x by what is noted of it, and none where more links than one are
-abbrev pub slot_by : ℕ → Linked → Bool → ℤ → SiteEnds → Option Slot
-slot_by x (linked.One link) site label pair = Some (Link x (natural link.most) (natural link.from) (natural link.to))
-slot_by x linked.Nothing site label pair = if site then Some (Site x (byte label) pair.first pair.second) else None
-slot_by x linked.More site label pair = None
+abbrev pub slot_by : ℕ → Linked → Bool → ℕ → SiteEnds → Option Slot
+slot_by x (linked.One link) site groups pair = Some (Link x (natural link.most) (natural link.from) (natural link.to))
+slot_by x linked.Nothing site groups pair = if site then Some (Site x (groups_in groups) pair.first pair.second) else None
+slot_by x linked.More site groups pair = None

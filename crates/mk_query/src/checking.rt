@@ -1,9 +1,9 @@
 // The checks in their order.
-ghost use Rattle.std.specs.Prelude.{◌≤◌, ◌<◌, ◌^◌, ℕ, Bool, List, IfOk, length};
+ghost use Rattle.std.specs.Prelude.{◌≤◌, ◌<◌, ◌^◌, ℕ, All, Bool, List, IfOk, length};
 ghost use Rattle.mk_rgfile.specs.declared.raw_query.RawGroup.{RawGroup};
 ghost use Rattle.mk_query.specs.Checks.{IsQueryBond};
 ghost use Rattle.mk_query.specs.FirstFault.{FindsBelow, FindsFirst, PassesBelow};
-ghost use Rattle.mk_query.specs.Marks.{AreServed};
+ghost use Rattle.mk_query.specs.Marks.{AreServed, HasKnownLabels};
 
 use crate::atom_checks::first_unknown_atom;
 use crate::bond_checks::first_unknown_bond;
@@ -73,6 +73,7 @@ fn fault_of_lines(alloc: Global, table: &RawTable) -> Result<Option<Fault>, Memo
 fn fault_of_sites(alloc: Global, served: &[bool], table: &RawTable) -> Result<Option<Fault>, Memory>
     requires few_atoms { length table.now.atoms ≤ 999 }
     requires few_properties { length table.now.props < 2 ^ 32 }
+    requires labels { All HasKnownLabels table.now.props }
     ensures { IfOk result (λ found. (groups : List RawGroup) (is_root : Bool) → AreServed groups served.now
         → PassesBelow groups is_root table.now 4 → FindsBelow groups is_root table.now 8 found) }
 {

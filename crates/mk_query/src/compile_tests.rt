@@ -35,7 +35,7 @@ const ROUND: Groups = &[
 
 // A name, a root, its groups, and the check, the table and the item that are named; check 0 where
 // none fails.
-static ROWS: [(&str, &str, Groups, (u8, u32, u32)); 32] = [
+static ROWS: [(&str, &str, Groups, (u8, u32, u32)); 41] = [
     ("a symbol", "Xx |", ONE, (1, 0, 1)),
     ("a pair twice", "C C | 1-2 2-1", ONE, (2, 0, 2)),
     (
@@ -207,6 +207,67 @@ static ROWS: [(&str, &str, Groups, (u8, u32, u32)); 32] = [
         (0, 0, 0),
     ),
     ("a site", "C R# | 1-2 {M  RGP  1   2   1}", ONE, (0, 0, 0)),
+    (
+        "two labels at a site",
+        "C R# | 1-2 {M  RGP  2   2   1   2   2}",
+        &[(1, &[FLUORINE]), (2, &[FLUORINE])],
+        (0, 0, 0),
+    ),
+    (
+        "a label twice in one line",
+        "C R# | 1-2 {M  RGP  2   2   1   2   1}",
+        ONE,
+        (5, 0, 2),
+    ),
+    (
+        "a label twice in two lines",
+        "C R# | 1-2 {M  RGP  2   2   2   2   1}{M  RGP  1   2   2}",
+        &[(1, &[FLUORINE]), (2, &[FLUORINE])],
+        (5, 0, 2),
+    ),
+    (
+        "a label that has members and one that has none",
+        "C R# | 1-2 {M  RGP  2   2   1   2   2}",
+        ONE,
+        (5, 0, 2),
+    ),
+    (
+        "a member of the second label with a point too many",
+        "C R# | 1-2 {M  RGP  2   2   1   2   2}",
+        &[(1, &[FLUORINE]), (2, &[FLUORINE, BOTH])],
+        (12, 0, 2),
+    ),
+    (
+        "a member of the third label, between those of the first, with a point too few",
+        "C R# C | 1-2 2-3 {M  RGP  3   2   1   2   2   2   3}",
+        &[(2, &[BOTH]), (1, &[BOTH]), (3, &[FLUORINE]), (1, &[BOTH])],
+        (12, 0, 2),
+    ),
+    (
+        "members of both points between two neighbours",
+        "C R# C | 1-2 2-3 {M  RGP  2   2   1   2   2}",
+        &[(1, &[BOTH]), (2, &[BOTH])],
+        (0, 0, 0),
+    ),
+    (
+        "a ring through the second label of a site",
+        "C |",
+        &[
+            (
+                1,
+                &["O R# | 1-2 {M  RGP  2   2   2   2   3}{M  APO  1   1   1}"],
+            ),
+            (2, &[FLUORINE]),
+            (3, &[OF_ONE]),
+        ],
+        (11, 1, 0),
+    ),
+    (
+        "two labels without a site",
+        "C C | 1-2 {M  RGP  2   2   1   2   2}",
+        &[(1, &[FLUORINE]), (2, &[FLUORINE])],
+        (5, 0, 2),
+    ),
     ("a group that nothing uses", "C |", ONE, (0, 0, 0)),
     ("no groups", "C O | 1-2", &[], (0, 0, 0)),
 ];

@@ -1,12 +1,12 @@
 // What is drawn at each atom of a table, each in one pass.
-ghost use Rattle.std.specs.Prelude.{◌≡◌, ◌==◌, ◌∷◌, [], IfOk, bytes_eq, length, map, if◌then◌else◌};
+ghost use Rattle.std.specs.Prelude.{◌≡◌, ◌≢◌, ◌≤◌, ◌↔◌, ◌==◌, ◌&&◌, ◌∷◌, [], ℕ, not, true, IfOk, IsTrue, bytes_eq, length, map, if◌then◌else◌};
 ghost use Rattle.mk_ctab.specs.Charges.{values_for};
 ghost use Rattle.mk_ctab.specs.Numbers.{natural};
-ghost use Rattle.mk_query.specs.Drawn.{is_site, labels_of, neighbours_at, pairs_by, query_bond, query_bonds};
-ghost use Rattle.mk_query.specs.Marks.{AreMarks, AreMore, HasMore, IsLabels, IsNear};
+ghost use Rattle.mk_query.specs.Drawn.{is_site, label_pairs, neighbours_at, pairs_by, query_bond, query_bonds};
+ghost use Rattle.mk_query.specs.Marks.{AreMarks, AreMore, HasMore, IsKnownLabel, IsLabels, IsNear, has_group};
 
 use crate::bond_checks::{first_end, second_end};
-use mk_ctab::{RawAtom, RawBond, natural};
+use mk_ctab::{RawAtom, RawBond, is_within, natural};
 use mk_props::{Pair, Property};
 use mk_text::Memory;
 use std::alloc::Global;
@@ -20,13 +20,21 @@ pub enum Near {
     More,
 }
 
-/// The labels of an atom: none, one, or more than one.
+/// The labels of an atom: whether there are any, whether they are from 1 to 32 and none stands
+/// twice, and a bit for the group of each, the lowest for group 1.
 #[derive(Clone, Copy, Debug, PartialEq, Eq)]
-pub enum Labels {
-    Nothing,
-    One(i32),
-    More,
+pub struct Labels {
+    pub some: bool,
+    pub once: bool,
+    pub groups: u32,
 }
+
+// What is noted of an atom without labels.
+const NO_LABELS: Labels = Labels {
+    some: false,
+    once: true,
+    groups: 0,
+};
 
 /// Whether each atom is a site.
 pub fn sites_of(alloc: Global, atoms: &[RawAtom]) -> Result<Vec<bool>, Memory>
@@ -100,9 +108,9 @@ fn and_one(near: Near, y: u32) -> Near
 /// The labels of each atom.
 pub fn labels_of(alloc: Global, atoms: u32, props: &[Property]) -> Result<Vec<Labels>, Memory>
     ensures size { IfOk result (λ labels. length labels.items ≡ atoms) }
-    ensures labels { IfOk result (λ labels. AreMarks (λ x. IsLabels (values_for x (pairs_by labels_of props.now))) labels.items) }
+    ensures labels { IfOk result (λ labels. AreMarks (λ x. IsLabels (values_for x (pairs_by label_pairs props.now))) labels.items) }
 {
-    let mut labels = vec![in alloc; Labels::Nothing; atoms as usize]?;
+    let mut labels = vec![in alloc; NO_LABELS; atoms as usize]?;
     for property in props {
         add_labels(&mut labels, label_pairs(property));
     }
@@ -111,7 +119,7 @@ pub fn labels_of(alloc: Global, atoms: u32, props: &[Property]) -> Result<Vec<La
 
 // The pairs of an `M  RGP`, and none of another property.
 fn label_pairs(property: &Property) -> &[Pair]
-    ensures { result.now ≡ labels_of property.now }
+    ensures { result.now ≡ label_pairs property.now }
 {
     match property {
         Property::Label(pairs) => pairs.as_slice(),
@@ -146,8 +154,57 @@ fn atom_of(pair: &Pair) -> u32
 fn and_label(labels: Labels, pair: &Pair) -> Labels
     ensures { HasMore IsLabels (pair.now.value ∷ []) labels result }
 {
-    match labels {
-        Labels::Nothing => Labels::One(pair.value),
-        _ => Labels::More,
+    if !is_known(pair) {
+        return Labels {
+            some: true,
+            once: false,
+            groups: labels.groups,
+        };
     }
+    with_label(labels, group_of(pair))
+}
+
+// The label that a pair gives is from 1 to 32.
+fn is_known(pair: &Pair) -> bool
+    ensures { IsTrue result ↔ IsKnownLabel pair.now.value }
+{
+    is_within(1, 32, pair.value)
+}
+
+fn group_of(pair: &Pair) -> u32
+    ensures { result ≡ natural pair.now.value }
+{
+    natural(pair.value)
+}
+
+// Notes a label more, which is the number of group g.
+fn with_label(labels: Labels, g: u32) -> Labels
+    requires { (1 ≤ g) × (g ≤ 32) }
+    ensures some { result.some ≡ true }
+    ensures once { result.once ≡ (labels.once && not (has_group labels.groups g)) }
+    ensures set { has_group result.groups g ≡ true }
+    ensures others { (h : ℕ) → 1 ≤ h → h ≢ g → has_group result.groups h ≡ has_group labels.groups h }
+{
+    Labels {
+        some: true,
+        once: labels.once && !has_group(labels.groups, g),
+        groups: with_group(labels.groups, g),
+    }
+}
+
+/// Whether the bit of group g is set.
+pub fn has_group(groups: u32, g: u32) -> bool
+    requires { (1 ≤ g) × (g ≤ 32) }
+    ensures { result ≡ has_group groups g }
+{
+    (groups >> (g - 1)) & 1 == 1
+}
+
+// Sets the bit of group g.
+fn with_group(groups: u32, g: u32) -> u32
+    requires { (1 ≤ g) × (g ≤ 32) }
+    ensures set { has_group result g ≡ true }
+    ensures others { (h : ℕ) → 1 ≤ h → h ≢ g → has_group result h ≡ has_group groups h }
+{
+    groups | 1 << (g - 1)
 }

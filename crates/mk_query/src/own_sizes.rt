@@ -38,8 +38,8 @@ fn own_size(alloc: Global, template: &Template) -> Result<u32, Memory>
     let mut taken = vec![in alloc; false; atoms as usize + 1]?;
     let mut links = 0;
     for i in 0..slots.len() {
-        let by = taken_by(alloc, atoms, &near, template.bonds(), slots[i])?;
-        links = capped(links + link_size_by(atoms, slots[i], &by));
+        let by = taken_by(alloc, atoms, &near, template.bonds(), &slots[i])?;
+        links = capped(links + link_size_by(atoms, &slots[i], &by));
         put(&mut taken, &by);
     }
     Ok(capped(atoms - marked(atoms, &taken) + links))
@@ -51,22 +51,27 @@ fn taken_by(
     atoms: u32,
     near: &Neighbours,
     bonds: &[QueryBond],
-    slot: Slot,
+    slot: &Slot,
 ) -> Result<Vec<bool>, Memory>
     requires few { atoms ≤ 999 }
     requires size { length near.now ≡ atoms }
     requires ends { AreBetween atoms (query_edges bonds.now) }
     requires rows { near.now ≡ rows_of atoms (query_edges bonds.now) }
-    requires least { 1 ≤ slot_atom slot }
-    requires most { slot_atom slot ≤ atoms }
-    ensures { IfOk result (λ by. Marks atoms (takes bonds.now slot) by.items) }
+    requires least { 1 ≤ slot_atom slot.now }
+    requires most { slot_atom slot.now ≤ atoms }
+    ensures { IfOk result (λ by. Marks atoms (takes bonds.now slot.now) by.items) }
 {
     match slot {
         Slot::Link { atom, from, to, .. } => {
-            let block = block_of(alloc, atoms, near, bonds, LinkEnds { atom, from, to })?;
+            let ends = LinkEnds {
+                atom: *atom,
+                from: *from,
+                to: *to,
+            };
+            let block = block_of(alloc, atoms, near, bonds, ends)?;
             Ok(block)
         }
-        Slot::Site { atom, .. } => only(alloc, atoms, atom),
+        Slot::Site { atom, .. } => only(alloc, atoms, *atom),
     }
 }
 
@@ -94,14 +99,14 @@ fn put(taken: &mut Vec<bool>, by: &[bool])
 }
 
 // What a slot adds where it is a link, or a number above 512 where that is more.
-fn link_size_by(atoms: u32, slot: Slot, by: &[bool]) -> u32
+fn link_size_by(atoms: u32, slot: &Slot, by: &[bool]) -> u32
     requires few { atoms ≤ 999 }
     requires size { length by.now ≡ atoms + 1 }
-    ensures size { capped result ≡ capped (link_size_by by.now atoms slot) }
+    ensures size { capped result ≡ capped (link_size_by by.now atoms slot.now) }
     ensures few { result ≤ 1000000 }
 {
     match slot {
-        Slot::Link { most, .. } => link_size_of(most, marked(atoms, by)),
+        Slot::Link { most, .. } => link_size_of(*most, marked(atoms, by)),
         Slot::Site { .. } => 0,
     }
 }

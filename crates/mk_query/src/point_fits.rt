@@ -5,8 +5,8 @@ ghost use Rattle.mk_model.specs.Queries.{members_of};
 ghost use Rattle.mk_model.specs.QueryFits.{FitsPoints, HasRisingSlots};
 ghost use Rattle.mk_model.specs.Templates.{slot_atom};
 ghost use Rattle.mk_query.specs.CompileFaults.{FitsAt, FitsTable};
-ghost use Rattle.mk_query.specs.PointFits.{AllHavePoints, AreTold, FindsMisfit, FindsUnfit, HasPoints, told_fit};
-ghost use Rattle.mk_query.specs.Recursion.{HasGroup};
+ghost use Rattle.mk_query.specs.PointFits.{AllHavePoints, AreTold, FindsMisfit, FindsUnfit, HasPoints, all_told, told_fit};
+ghost use Rattle.mk_query.specs.Recursion.{NamesGroups};
 
 use mk_model::{Group, Slot, Template};
 use mk_text::Memory;
@@ -32,7 +32,7 @@ pub fn first_misfit(
     requires all { length groups.now ≡ 32 }
     requires few { length templates.now < 2 ^ 32 }
     requires members { All (λ group. All (λ u. u < length templates.now) group.members) groups.now }
-    requires labels { All (λ template. All HasGroup template.slots) templates.now }
+    requires labels { All (λ template. All NamesGroups template.slots) templates.now }
     requires rising { All HasRisingSlots templates.now }
     ensures { IfOk result (FindsMisfit (record { templates = templates.now; groups = groups.now })) }
 {
@@ -53,41 +53,55 @@ pub fn first_misfit(
 fn first_unfit(slots: &[Slot], one: &[bool], two: &[bool]) -> Option<u32>
     requires one { length one.now ≡ 32 }
     requires two { length two.now ≡ 32 }
-    requires labels { All HasGroup slots.now }
+    requires labels { All NamesGroups slots.now }
     ensures { FindsUnfit one.now two.now slots.now result }
 {
     for i in 0..slots.len() {
-        if !told_fit(slots[i], one, two) {
-            return Some(slot_atom(slots[i]));
+        if !told_fit(&slots[i], one, two) {
+            return Some(slot_atom(&slots[i]));
         }
     }
     None
 }
 
-fn told_fit(slot: Slot, one: &[bool], two: &[bool]) -> bool
+fn told_fit(slot: &Slot, one: &[bool], two: &[bool]) -> bool
     requires one { length one.now ≡ 32 }
     requires two { length two.now ≡ 32 }
-    requires label { HasGroup slot }
-    ensures { result ≡ told_fit one.now two.now slot }
+    requires label { NamesGroups slot.now }
+    ensures { result ≡ told_fit one.now two.now slot.now }
 {
     match slot {
         Slot::Link { .. } => true,
-        Slot::Site { group, second, .. } => {
-            if second == 0 {
-                one[group as usize - 1]
+        Slot::Site { groups, second, .. } => {
+            if *second == 0 {
+                all_told(one, groups.as_slice())
             } else {
-                two[group as usize - 1]
+                all_told(two, groups.as_slice())
             }
         }
     }
 }
 
-fn slot_atom(slot: Slot) -> u32
-    ensures { result ≡ slot_atom slot }
+// Of each of these groups the list tells that its members have so many points.
+fn all_told(list: &[bool], groups: &[u32]) -> bool
+    requires size { length list.now ≡ 32 }
+    requires groups { All (λ g. (1 ≤ g) × (g ≤ 32)) groups.now }
+    ensures { result ≡ all_told list.now groups.now }
+{
+    for i in 0..groups.len() {
+        if !list[groups[i] as usize - 1] {
+            return false;
+        }
+    }
+    true
+}
+
+fn slot_atom(slot: &Slot) -> u32
+    ensures { result ≡ slot_atom slot.now }
 {
     match slot {
-        Slot::Link { atom, .. } => atom,
-        Slot::Site { atom, .. } => atom,
+        Slot::Link { atom, .. } => *atom,
+        Slot::Site { atom, .. } => *atom,
     }
 }
 

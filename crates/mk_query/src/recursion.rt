@@ -7,7 +7,7 @@ ghost use Rattle.mk_text.specs.Items.{FindsLeast};
 ghost use Rattle.mk_model.specs.Labels.{bears_label};
 ghost use Rattle.mk_model.specs.Queries.{members_of, slots_of};
 ghost use Rattle.mk_query.specs.CompileFaults.{IsNoCycle};
-ghost use Rattle.mk_query.specs.Recursion.{ComesBack, HasGroup, HoldSoFar, Holds, asks_for, cell, comes_back, entry, leads, leads_on, of_templates};
+ghost use Rattle.mk_query.specs.Recursion.{ComesBack, NamesGroups, HoldSoFar, Holds, asks_for, cell, comes_back, entry, leads, leads_on, of_templates};
 
 use mk_model::{Group, Slot, Template};
 use mk_text::Memory;
@@ -25,7 +25,7 @@ pub fn first_recursive(
     requires all { length groups.now ≡ 32 }
     requires few { length templates.now < 2 ^ 32 }
     requires members { All (λ group. All (λ u. u < length templates.now) group.members) groups.now }
-    requires labels { All (λ template. All HasGroup template.slots) templates.now }
+    requires labels { All (λ template. All NamesGroups template.slots) templates.now }
     ensures { IfOk result (FindsLeast (IsNoCycle (record { templates = templates.now; groups = groups.now }))) }
 {
     let leads = all_leads(alloc, templates, groups)?;
@@ -58,7 +58,7 @@ fn least_in_group(
     requires size { length leads.now ≡ 1024 }
     requires group { (1 ≤ g) × (g ≤ 32) }
     requires members { All (λ u. u < length templates.now) members.now }
-    requires labels { All (λ template. All HasGroup template.slots) templates.now }
+    requires labels { All (λ template. All NamesGroups template.slots) templates.now }
     ensures most { result ≤ bound }
     ensures found { result < bound → ComesBack templates.now leads.now members.now g result }
     ensures least { (u : ℕ) → ComesBack templates.now leads.now members.now g u → result ≤ u }
@@ -81,11 +81,11 @@ fn least_in_group(
 fn comes_back(slots: &[Slot], leads: &[bool], g: u32) -> bool
     requires size { length leads.now ≡ 1024 }
     requires group { (1 ≤ g) × (g ≤ 32) }
-    requires labels { All HasGroup slots.now }
+    requires labels { All NamesGroups slots.now }
     ensures { result ≡ comes_back (entry leads.now) g slots.now }
 {
     for i in 0..slots.len() {
-        if leads_on(slots[i], leads, g) {
+        if leads_on(&slots[i], leads, g) {
             return true;
         }
     }
@@ -93,16 +93,19 @@ fn comes_back(slots: &[Slot], leads: &[bool], g: u32) -> bool
 }
 
 // The slot is a site of the group, or of one that leads to it.
-fn leads_on(slot: Slot, leads: &[bool], g: u32) -> bool
+fn leads_on(slot: &Slot, leads: &[bool], g: u32) -> bool
     requires size { length leads.now ≡ 1024 }
     requires group { (1 ≤ g) × (g ≤ 32) }
-    requires label { HasGroup slot }
-    ensures { result ≡ leads_on (entry leads.now) g slot }
+    requires label { NamesGroups slot.now }
+    ensures { result ≡ leads_on (entry leads.now) g slot.now }
 {
-    match slot {
-        Slot::Link { .. } => false,
-        Slot::Site { group, .. } => group as u32 == g || entry(leads, group as u32, g),
+    let labels = slot.labels();
+    for i in 0..labels.len() {
+        if labels[i] == g || entry(leads, labels[i], g) {
+            return true;
+        }
     }
+    false
 }
 
 fn entry(leads: &[bool], g: u32, h: u32) -> bool
@@ -185,18 +188,21 @@ fn bears_some(slots: &[Slot], h: u32) -> bool
     ensures { result ≡ list_any (λ slot. bears_label slot h) slots.now }
 {
     for i in 0..slots.len() {
-        if bears_label(slots[i], h) {
+        if bears_label(&slots[i], h) {
             return true;
         }
     }
     false
 }
 
-fn bears_label(slot: Slot, h: u32) -> bool
-    ensures { result ≡ bears_label slot h }
+fn bears_label(slot: &Slot, h: u32) -> bool
+    ensures { result ≡ bears_label slot.now h }
 {
-    match slot {
-        Slot::Link { .. } => false,
-        Slot::Site { group, .. } => group as u32 == h,
+    let labels = slot.labels();
+    for i in 0..labels.len() {
+        if labels[i] == h {
+            return true;
+        }
     }
+    false
 }

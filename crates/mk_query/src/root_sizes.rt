@@ -5,7 +5,7 @@ ghost use Rattle.std.specs.Prelude.{◌≡◌, ◌≤◌, ◌<◌, ◌+◌, ◌^
 ghost use Rattle.mk_model.specs.Sizes.{greatest};
 ghost use Rattle.mk_model.specs.Queries.{members_of};
 ghost use Rattle.mk_query.specs.CompileFaults.{IsNoCycle, IsSmall};
-ghost use Rattle.mk_query.specs.Recursion.{HasGroup};
+ghost use Rattle.mk_query.specs.Recursion.{NamesGroups};
 ghost use Rattle.mk_query.specs.OwnSizes.{IsSized};
 ghost use Rattle.mk_query.specs.RootSizes.{capped, of_group, site_size, sites_size, size_by_lists};
 
@@ -25,7 +25,7 @@ pub fn is_small(alloc: Global, templates: &[Template], groups: &[Group]) -> Resu
     requires root { 0 < length templates.now }
     requires all { length groups.now ≡ 32 }
     requires members { All (λ group. All (λ u. u < length templates.now) group.members) groups.now }
-    requires labels { All (λ template. All HasGroup template.slots) templates.now }
+    requires labels { All (λ template. All NamesGroups template.slots) templates.now }
     requires sized { All (λ template. IsSized template) templates.now }
     requires no_cycle { (t : ℕ) → IsNoCycle (record { templates = templates.now; groups = groups.now }) t }
     ensures { IfOk result (λ small. IsTrue small ↔ IsSmall (record { templates = templates.now; groups = groups.now })) }
@@ -48,7 +48,7 @@ fn next_greatest(
 ) -> Result<Vec<u32>, Memory>
     requires all { length groups.now ≡ 32 }
     requires members { All (λ group. All (λ u. u < length templates.now) group.members) groups.now }
-    requires labels { All (λ template. All HasGroup template.slots) templates.now }
+    requires labels { All (λ template. All NamesGroups template.slots) templates.now }
     requires own { length own.now ≡ length templates.now }
     requires few { All (λ n. n ≤ 513) own.now }
     requires size { length of_groups.now ≡ 32 }
@@ -67,7 +67,7 @@ fn next_greatest(
 // The greatest size of some tables.
 fn greatest_of(templates: &[Template], members: &[u32], own: &[u32], of_groups: &[u32]) -> u32
     requires members { All (λ u. u < length templates.now) members.now }
-    requires labels { All (λ template. All HasGroup template.slots) templates.now }
+    requires labels { All (λ template. All NamesGroups template.slots) templates.now }
     requires own { length own.now ≡ length templates.now }
     requires few { All (λ n. n ≤ 513) own.now }
     requires size { length of_groups.now ≡ 32 }
@@ -91,7 +91,7 @@ fn max(a: u32, b: u32) -> u32
 // The size of a table, capped.
 fn size_by_lists(templates: &[Template], own: &[u32], of_groups: &[u32], u: u32) -> u32
     requires within { u < length templates.now }
-    requires labels { All (λ template. All HasGroup template.slots) templates.now }
+    requires labels { All (λ template. All NamesGroups template.slots) templates.now }
     requires own { length own.now ≡ length templates.now }
     requires few { All (λ n. n ≤ 513) own.now }
     requires size { length of_groups.now ≡ 32 }
@@ -112,7 +112,7 @@ pub fn capped(n: u32) -> u32
 
 // What the sites add, capped.
 fn sites_size(slots: &[Slot], of_groups: &[u32]) -> u32
-    requires labels { All HasGroup slots.now }
+    requires labels { All NamesGroups slots.now }
     requires size { length of_groups.now ≡ 32 }
     requires capped { All (λ n. n ≤ 513) of_groups.now }
     ensures size { result ≡ capped (sites_size (of_group of_groups.now) slots.now) }
@@ -120,26 +120,39 @@ fn sites_size(slots: &[Slot], of_groups: &[u32]) -> u32
 {
     let mut size = 0;
     for i in 0..slots.len() {
-        size = capped(size + site_size(slots[i], of_groups));
+        size = capped(size + site_size(&slots[i], of_groups));
     }
     size
 }
 
 // What a site adds.
-fn site_size(slot: Slot, of_groups: &[u32]) -> u32
-    requires label { HasGroup slot }
+fn site_size(slot: &Slot, of_groups: &[u32]) -> u32
+    requires label { NamesGroups slot.now }
     requires size { length of_groups.now ≡ 32 }
     requires capped { All (λ n. n ≤ 513) of_groups.now }
-    ensures size { result ≡ site_size (of_group of_groups.now) slot }
+    ensures size { result ≡ site_size (of_group of_groups.now) slot.now }
     ensures few { result ≤ 514 }
 {
     match slot {
         Slot::Link { .. } => 0,
-        Slot::Site { group, second, .. } => {
-            1 + max(
-                of_groups[group as usize - 1],
-                if second == 0 { 1 } else { 2 },
-            )
+        Slot::Site { groups, second, .. } => {
+            let most = greatest_among(groups.as_slice(), of_groups);
+            1 + max(most, if *second == 0 { 1 } else { 2 })
         }
     }
+}
+
+// The greatest size in some groups.
+fn greatest_among(groups: &[u32], of_groups: &[u32]) -> u32
+    requires groups { All (λ g. (1 ≤ g) × (g ≤ 32)) groups.now }
+    requires size { length of_groups.now ≡ 32 }
+    requires capped { All (λ n. n ≤ 513) of_groups.now }
+    ensures greatest { result ≡ greatest (of_group of_groups.now) groups.now }
+    ensures few { result ≤ 513 }
+{
+    let mut most = 0;
+    for i in 0..groups.len() {
+        most = max(most, of_groups[groups[i] as usize - 1]);
+    }
+    most
 }

@@ -1,19 +1,21 @@
 // What is demanded of the labels and the neighbours of sites.
-ghost use Rattle.std.specs.Prelude.{◌≡◌, ◌≤◌, ◌↔◌, ◌&&◌, ◌||◌, not, ℤ, List, IfOk, IsTrue, length};
+ghost use Rattle.std.specs.Prelude.{◌≡◌, ◌≤◌, ◌↔◌, ◌&&◌, ◌||◌, not, ℤ, pos, All, List, IfOk, IsTrue, length};
 ghost use Rattle.mk_text.specs.Items.{FindsLeast};
 ghost use Rattle.mk_rgfile.specs.declared.raw_query.RawGroup.{RawGroup};
 ghost use Rattle.mk_query.specs.Drawn.{is_site};
-ghost use Rattle.mk_query.specs.Marks.{are_apart, AreServed, IsLabels, is_served, site_mark};
+ghost use Rattle.mk_query.specs.Marks.{are_apart, AreAllServed, AreServed, HasKnownLabels, IsKnownLabel, IsLabels, has_group, is_served, site_mark};
 ghost use Rattle.mk_query.specs.SiteChecks.{HasLabel, HasSitePlace, IsLabelled};
 
-use crate::drawn::{Labels, Near, is_site, labels_of, neighbours_of, sites_of};
+use crate::drawn::{Labels, Near, has_group, is_site, labels_of, neighbours_of, sites_of};
 use mk_ctab::{RawAtom, RawTable};
 use mk_rgfile::RawGroup;
 use mk_text::Memory;
 use std::alloc::Global;
 
-// How many numbers a byte tells.
+// How many numbers a byte tells, and how many groups there are.
 const NUMBERS: usize = 256;
+
+const GROUPS: u32 = 32;
 
 /// For each number whether a group that bears it has a member.
 pub fn served_numbers(alloc: Global, groups: &[RawGroup]) -> Result<Vec<bool>, Memory>
@@ -29,14 +31,15 @@ pub fn served_numbers(alloc: Global, groups: &[RawGroup]) -> Result<Vec<bool>, M
     Ok(served)
 }
 
-/// The first atom that is a site without a label, has a label and is none, or whose label isn't the
-/// only one or names no members.
+/// The first atom that is a site without a label, has a label and is none, has a label twice, or
+/// one that names no members.
 pub fn first_unlabelled_atom(
     alloc: Global,
     served: &[bool],
     table: &RawTable,
 ) -> Result<Option<u32>, Memory>
-    requires { length table.now.atoms ≤ 999 }
+    requires few { length table.now.atoms ≤ 999 }
+    requires known { All HasKnownLabels table.now.props }
     ensures { IfOk result (λ found. (groups : List RawGroup) → AreServed groups served.now → FindsLeast (HasLabel groups table.now) found) }
 {
     let atoms = table.atoms.as_slice();
@@ -50,27 +53,43 @@ pub fn first_unlabelled_atom(
 }
 
 fn is_labelled(served: &[bool], atom: &RawAtom, labels: Labels) -> bool
-    ensures { (groups : List RawGroup) (those : List ℤ) → AreServed groups served.now → IsLabels those labels
+    ensures { (groups : List RawGroup) (those : List ℤ) → AreServed groups served.now → All IsKnownLabel those → IsLabels those labels
         → (IsTrue result ↔ IsLabelled groups those atom.now) }
 {
-    match labels {
-        Labels::Nothing => !is_site(atom),
-        Labels::One(label) => is_site_of(served, atom, label),
-        Labels::More => false,
+    if !labels.some {
+        return !is_site(atom);
     }
+    all_three(
+        is_site(atom),
+        labels.once,
+        are_served(served, labels.groups),
+    )
 }
 
-fn is_site_of(served: &[bool], atom: &RawAtom, label: i32) -> bool
-    ensures { result ≡ (is_site atom.now && is_served served.now label) }
+fn all_three(site: bool, once: bool, served: bool) -> bool
+    ensures { result ≡ (site && (once && served)) }
 {
-    is_site(atom) && is_served(served, label)
+    site && once && served
 }
 
-// What is noted of the number that a label is.
-fn is_served(served: &[bool], label: i32) -> bool
-    ensures { result ≡ is_served served.now label }
+// What is noted of each group of which the bit is set.
+fn are_served(served: &[bool], groups: u32) -> bool
+    ensures { IsTrue result ↔ AreAllServed served.now groups }
 {
-    label >= 0 && served.get(label as usize).copied().unwrap_or(false)
+    for i in 0..GROUPS {
+        if !serves(served, groups, i + 1) {
+            return false;
+        }
+    }
+    true
+}
+
+// The bit of group g isn't set, or it is noted that the group has a member.
+fn serves(served: &[bool], groups: u32, g: u32) -> bool
+    requires { (1 ≤ g) × (g ≤ 32) }
+    ensures { result ≡ (not (has_group groups g) || is_served served.now (pos g)) }
+{
+    !has_group(groups, g) || served.get(g as usize).copied().unwrap_or(false)
 }
 
 /// The first site that hasn't one or two neighbours, or has one that is a site.

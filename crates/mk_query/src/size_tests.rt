@@ -5,7 +5,7 @@ use mk_fixtures::rgfile_of_sketches;
 use std::test::Fail;
 
 // A name, a root of size 512, the same with one fixed atom more, and the groups.
-static SIZES: [(&str, &str, &str, Groups); 3] = [
+static SIZES: [(&str, &str, &str, Groups); 4] = [
     // 3 fixed atoms, and for the link 1 and 254 times the two atoms of its block: 3 + 1 + 508 =
     // 512.
     (
@@ -27,6 +27,20 @@ static SIZES: [(&str, &str, &str, Groups); 3] = [
                 "C C C | 1-2 2-3 {M  LIN  1   2 251   1   3}{M  APO  1   1   1}",
             ],
         )],
+    ),
+    // The members of the two labels have the sizes 1 and 2 + 1 + 506 = 509. 2 fixed atoms, and 1 +
+    // 509 for the site: 512.
+    (
+        "the greatest of the members of two labels",
+        "C C R# | 1-2 2-3 {M  RGP  2   3   1   3   2}",
+        "C C C R# | 1-2 2-3 3-4 {M  RGP  2   4   1   4   2}",
+        &[
+            (1, &[FLUORINE]),
+            (
+                2,
+                &["C C C | 1-2 2-3 {M  LIN  1   2 506   1   3}{M  APO  1   1   1}"],
+            ),
+        ],
     ),
     // The member of group 2 has 2 + 1 + 250 = 253, and that of group 1 an atom and two sites of
     // group 2: 1 + 2 * (1 + 253) = 509. 2 fixed atoms, and 1 + 509 for the site: 512.

@@ -2,16 +2,18 @@
 ghost use Rattle.std.specs.Prelude.{◌≡◌, ◌≤◌, ◌++◌, IfOk, OnOk, length};
 ghost use Rattle.mk_query.specs.Compiled.{slots_in, table_slots};
 ghost use Rattle.mk_query.specs.Passed.{HasPassed};
-ghost use Rattle.mk_query.specs.SlotMarks.{slot_by};
+ghost use Rattle.mk_query.specs.SlotMarks.{groups_in, slot_by};
 
-use crate::drawn::sites_of;
+use crate::drawn::{has_group, labels_of, sites_of};
 use crate::linked_atoms::{Linked, linked_atoms};
 use crate::site_orders::{SiteEnds, ordered_ends};
-use crate::values::{ValueKind, last_values};
-use mk_ctab::{RawTable, byte, natural};
+use mk_ctab::{RawTable, natural};
 use mk_model::Slot;
-use mk_text::Memory;
+use mk_text::{Memory, Numbers};
 use std::alloc::Global;
+
+// How many groups there are.
+const GROUPS: u32 = 32;
 
 /// The sites and links of a table, by rising atom.
 pub fn table_slots(alloc: Global, table: &RawTable) -> Result<Vec<Slot>, Memory>
@@ -24,40 +26,62 @@ pub fn table_slots(alloc: Global, table: &RawTable) -> Result<Vec<Slot>, Memory>
     let props = table.props.as_slice();
     let links = linked_atoms(alloc, atoms, props)?;
     let sites = sites_of(alloc, lines)?;
-    let labels = last_values(alloc, atoms, props, ValueKind::Label)?;
+    let labels = labels_of(alloc, atoms, props)?;
     let ends = ordered_ends(alloc, table)?;
     let mut slots = Vec::new(alloc);
     for i in 0..lines.len() {
-        let slot = slot_by(i as u32 + 1, links[i], sites[i], &labels[i], ends[i]);
+        let x = i as u32 + 1;
+        let slot = slot_by(alloc, x, links[i], sites[i], labels[i].groups, ends[i])?;
         put_slot(&mut slots, slot)?;
     }
     Ok(slots)
 }
 
 // The slot of atom x by what is noted of it.
-fn slot_by(x: u32, linked: Linked, site: bool, label: &i32, pair: SiteEnds) -> Option<Slot>
-    ensures { result ≡ slot_by x linked site label.now pair }
+fn slot_by(
+    alloc: Global,
+    x: u32,
+    linked: Linked,
+    site: bool,
+    groups: u32,
+    pair: SiteEnds,
+) -> Result<Option<Slot>, Memory>
+    ensures { IfOk result (λ slot. slot ≡ slot_by x linked site groups pair) }
 {
     match linked {
-        Linked::One(link) => Some(Slot::Link {
+        Linked::One(link) => Ok(Some(Slot::Link {
             atom: x,
             most: natural(link.most),
             from: natural(link.from),
             to: natural(link.to),
-        }),
+        })),
         Linked::Nothing => {
             if !site {
-                return None;
+                return Ok(None);
             }
-            Some(Slot::Site {
+            Ok(Some(Slot::Site {
                 atom: x,
-                group: byte(*label),
+                groups: groups_in(alloc, groups)?,
                 first: pair.first,
                 second: pair.second,
-            })
+            }))
         }
-        Linked::More => None,
+        Linked::More => Ok(None),
     }
+}
+
+// The groups of which the bits are set.
+fn groups_in(alloc: Global, groups: u32) -> Result<Numbers, Memory>
+    ensures { IfOk result (λ numbers. numbers ≡ groups_in groups) }
+{
+    let mut numbers = Vec::new(alloc);
+    for i in 0..GROUPS {
+        if !has_group(groups, i + 1) {
+            continue;
+        }
+        numbers.push(i + 1)?;
+    }
+    Ok(Numbers::of(numbers))
 }
 
 fn put_slot(slots: &mut Vec<Slot>, slot: Option<Slot>) -> Result<(), Memory>

@@ -43,29 +43,46 @@ fn gives_a_template(rt: HostRuntime) -> Result<(), Fail> {
     };
     assert!(rt; query.templates().len() == 3);
     let template = &query.templates()[1];
-    let link = Slot::Link {
-        atom: 2,
-        most: 3,
-        from: 1,
-        to: 3,
-    };
-    let site = Slot::Site {
-        atom: 4,
-        group: 7,
-        first: 3,
-        second: 0,
-    };
     let last = QueryBond {
         first: 3,
         second: 4,
         kind: 6,
         topology: 2,
     };
-    assert!(rt; template.slots() == [link, site].as_slice());
+    assert!(rt; has_slots(template));
     assert!(rt; template.points() == [1].as_slice());
     assert!(rt; template.bonds().last() == Some(&last));
     assert!(rt; has_tests(template));
     Ok(())
+}
+
+// A link of 1 to 3 from atom 1 to atom 3 at atom 2, and a site of group 7 at atom 4.
+fn has_slots(template: &Template) -> bool {
+    match template.slots() {
+        [
+            Slot::Link {
+                atom,
+                most,
+                from,
+                to,
+            },
+            site,
+        ] => { (*atom, *most, *from, *to) == (2, 3, 1, 3) && is_site(site, 4, &[7], (3, 0)) }
+        _ => false,
+    }
+}
+
+// The slot is a site at an atom, with these labels and these neighbours.
+fn is_site(slot: &Slot, x: u32, labels: &[u32], neighbours: (u32, u32)) -> bool {
+    match slot {
+        Slot::Link { .. } => false,
+        Slot::Site {
+            atom,
+            groups,
+            first,
+            second,
+        } => *atom == x && groups.as_slice() == labels && (*first, *second) == neighbours,
+    }
 }
 
 // The kinds of the atoms, and what else the third and the fourth ask.
@@ -108,22 +125,64 @@ const ORDERS: [(&str, &str, (u32, u32)); 3] = [
 #[test]
 fn orders_the_neighbours_of_a_site(rt: HostRuntime) -> Result<(), Fail> {
     let alloc = rt.alloc();
-    for (name, root, (first, second)) in ORDERS {
+    for (name, root, neighbours) in ORDERS {
         let query = query_of_member(alloc, root, "O | {M  APO  1   1   3}")?;
-        let site = Slot::Site {
-            atom: 2,
-            group: 1,
-            first,
-            second,
-        };
         assert!(rt; query.templates().len() == 2);
-        assert!(rt; query.templates()[0].slots() == [site].as_slice(), "{name}");
+        let root = &query.templates()[0];
+        assert!(rt; root.slots().len() == 1, "{name}");
+        assert!(rt; is_site(&root.slots()[0], 2, &[1], neighbours), "{name}");
         assert!(rt;
             query.templates()[1].points() == [1, 1].as_slice(),
             "{name}"
         );
     }
     Ok(())
+}
+
+// The labels stand in three lines and in no order, and are all that there are.
+const ALL_LABELS: &str =
+    "C R# | 1-2 {M  RGP  8   2  32   2  31   2   1   2   2   2   3   2   4   2   5   2   6}{M  RGP  8   2  24   2  23   2  22   2  21   2  20   2  19   2  18   2  17}{M  RGP  8   2   7   2   8   2   9   2  10   2  11   2  12   2  13   2  14}{M  RGP  8   2  30   2  29   2  28   2  27   2  26   2  25   2  16   2  15}";
+
+#[test]
+fn gives_all_labels_of_a_site(rt: HostRuntime) -> Result<(), Fail> {
+    let alloc = rt.alloc();
+    let few = query_of_groups(
+        alloc,
+        "C R# | 1-2 {M  RGP  2   2  30   2   7}{M  RGP  1   2   9}",
+        &[9, 30, 7],
+    )?;
+    assert!(rt; has_site(&few, &[7, 9, 30]));
+    let mut numbers = Vec::new(alloc);
+    for g in 1..33u32 {
+        numbers.push(g)?;
+    }
+    let all = query_of_groups(alloc, ALL_LABELS, &numbers)?;
+    assert!(rt; has_site(&all, &numbers));
+    Ok(())
+}
+
+// The root's one slot is a site at atom 2 beside atom 1, with these labels.
+fn has_site(query: &Query, labels: &[u32]) -> bool {
+    match query.templates().first() {
+        Some(root) => match root.slots() {
+            [site] => is_site(site, 2, labels, (1, 0)),
+            _ => false,
+        },
+        None => false,
+    }
+}
+
+// The query of a root, and of groups of these numbers with a member each.
+fn query_of_groups(alloc: Global, root: &str, numbers: &[u32]) -> Result<Query, Fail> {
+    let mut groups: Vec<(u64, &[&str])> = Vec::new(alloc);
+    for g in numbers {
+        groups.push((*g as u64, &["F | {M  APO  1   1   1}"]))?;
+    }
+    let text = rgfile_of_sketches(alloc, root, &groups)?;
+    match query_of(alloc, &text)? {
+        Ok(query) => Ok(query),
+        Err(_) => Err(Fail::from("no query")),
+    }
 }
 
 // Group 1 has a logic line, and group 2 has none.

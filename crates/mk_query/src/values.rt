@@ -13,7 +13,6 @@ pub enum ValueKind {
     RingBonds,
     Substitution,
     Unsaturation,
-    Label,
     Points,
 }
 
@@ -43,7 +42,6 @@ fn pairs_of(kind: ValueKind, property: &Property) -> &[Pair]
         (ValueKind::RingBonds, Property::RingBonds(pairs)) => pairs.as_slice(),
         (ValueKind::Substitution, Property::Substitution(pairs)) => pairs.as_slice(),
         (ValueKind::Unsaturation, Property::Unsaturation(pairs)) => pairs.as_slice(),
-        (ValueKind::Label, Property::Label(pairs)) => pairs.as_slice(),
         (ValueKind::Points, Property::Points(pairs)) => pairs.as_slice(),
         _ => &[],
     }

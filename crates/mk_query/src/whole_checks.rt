@@ -6,7 +6,7 @@ ghost use Rattle.mk_rgfile.specs.QueryFacts.{member_count, members_in};
 ghost use Rattle.mk_query.specs.CompileFaults.{IsWhole, groups_of_number};
 ghost use Rattle.mk_query.specs.InRange.{IsQueryInRange};
 ghost use Rattle.mk_query.specs.OwnSizes.{IsSized};
-ghost use Rattle.mk_query.specs.Recursion.{HasGroup};
+ghost use Rattle.mk_query.specs.Recursion.{NamesGroups};
 ghost use Rattle.mk_query.specs.TableWalk.{FindsAcross};
 
 use crate::compile_fault::FaultAt;
@@ -35,7 +35,7 @@ pub fn first_across(
     requires few { length templates.now < 2 ^ 32 }
     requires all { length groups.now ≡ 32 }
     requires members { All (λ group. All (λ u. u < length templates.now) group.members) groups.now }
-    requires labels { All (λ template. All HasGroup template.slots) templates.now }
+    requires labels { All (λ template. All NamesGroups template.slots) templates.now }
     requires rising { All HasRisingSlots templates.now }
     requires sized { All (λ template. IsSized template) templates.now }
     ensures { IfOk result (FindsAcross raw.now (record { templates = templates.now; groups = groups.now })) }

@@ -1,4 +1,4 @@
-use Rattle.std.proofs.Common.{◌≡◌, ◌<◌, ◌≤◌, ◌+◌, ◌∙◌, [], ◌∷◌, ◌++◌, true, false, length, get_or, set, subst, refl, ap, arith}
+use Rattle.std.proofs.Common.{◌≡◌, ◌<◌, ◌+◌, ◌∙◌, [], ◌∷◌, ◌++◌, true, false, length, get_or, set, subst, ap, arith}
 use Rattle.std.proofs.lemmas.List.{get_or_default, length-replicate, length-set}
 use Rattle.mk_query.specs.BlockSearch.{IsReached, LeadsOn}
 use Rattle.mk_query.proofs.BlockSearchLemmas.{followed-more, followed-none, reached-first, whole_block}

@@ -1,11 +1,5 @@
-use Rattle.std.proofs.Common.{◌≡◌, ◌+◌, ◌<◌, ◌∙◌, List, All, ap, sym, subst, length, true, arith}
-use Rattle.mk_model.specs.declared.group.Group.{Group}
-use Rattle.mk_model.specs.Templates.{TemplateView}
-use Rattle.mk_model.specs.QueryFits.{HasRisingSlots, QueryFits}
-use Rattle.mk_query.specs.Compiled.{AreTemplatesOf, query_tables}
-use Rattle.mk_query.specs.CompileFaults.{IsAcross, IsFirstCompileFault, PassAcross, across_tables}
-use Rattle.mk_query.specs.OwnSizes.{IsSized}
-use Rattle.mk_query.specs.Recursion.{HasGroup}
+use Rattle.std.proofs.Common.{ap, length, true, arith}
+use Rattle.mk_query.specs.CompileFaults.{IsAcross, PassAcross, across_tables}
 use Rattle.mk_query.specs.TableWalk.{PassNested}
 use Rattle.mk_query.proofs.QueryLemmas.{fits_query, labels_in, members_within, sized_in, slots_rise_in, count_of}
 use Rattle.mk_query.proofs.TableWalkLemmas.{pass_each}

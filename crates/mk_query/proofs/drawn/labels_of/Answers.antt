@@ -2,6 +2,7 @@ use Rattle.std.proofs.Common.{refl}
 use Rattle.mk_query.specs.Marks.{IsLabels}
 use Rattle.mk_query.proofs.MarkLemmas.{more-none, pass-more, pass-all, noted}
 use Rattle.mk_query.proofs.LabelLemmas.{labels_in, properties_told, one_property}
+use Rattle.mk_query.proofs.LabelMarkLemmas.{no_labels}
 use Rattle.mk_query.proofs.drawn.labels_of.Goals as goal
 
 pub loop-property-init : goal.loop-property-init
@@ -14,5 +15,5 @@ loop-property-preserved c =
 
 pub returns-clause-labels : goal.returns-clause-labels
 returns-clause-labels c =
-    noted IsLabels (labels_in c.args.props.now) c.args.atoms _ _ c.loop-property.labels.items refl (c.in_ok-labels.ensures.items_if_clones_equal (λ y e. e))
+    noted IsLabels (labels_in c.args.props.now) c.args.atoms _ _ c.loop-property.labels.items (no_labels _ refl refl refl) (c.in_ok-labels.ensures.items_if_clones_equal (λ y e. e))
     (pass-all IsLabels labels_in c.args.props.now c.loop-property.property-index _ _ c.loop-property-test.false c.loop-property.invariant)

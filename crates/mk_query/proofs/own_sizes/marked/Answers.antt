@@ -1,5 +1,5 @@
-use Rattle.std.proofs.Common.{◌≡◌, ◌+◌, ◌≤◌, ◌∙◌, Bool, true, false, cond, ℕ, sym, get_or, arith}
-use Rattle.mk_query.proofs.OwnSizesLemmas.{cap_times, few_if, marked_more}
+use Rattle.std.proofs.Common.{◌+◌, false, get_or, arith}
+use Rattle.mk_query.proofs.OwnSizesLemmas.{few_if, marked_more}
 use Rattle.mk_query.proofs.own_sizes.marked.Goals as goal
 
 pub loop-i-preserved : goal.loop-i-preserved

@@ -1,4 +1,4 @@
-use Rattle.std.proofs.Common.{◌≡◌, ◌≤◌, ◌+◌}
+use Rattle.std.proofs.Common.{◌≡◌, ◌≤◌}
 use Rattle.mk_query.specs.OwnSizes.{marked}
 use Rattle.mk_query.proofs.own_sizes.marked.Given as goal
 

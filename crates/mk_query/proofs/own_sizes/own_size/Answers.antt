@@ -1,6 +1,7 @@
-use Rattle.std.proofs.Common.{◌≡◌, ◌+◌, ◌<◌, ◌≤◌, ◌∙◌, List, sym, refl, ap, arith, length, get_or}
-use Rattle.std.proofs.lemmas.List.{length-map}
+use Rattle.std.proofs.Common.{◌≡◌, ◌∙◌, List, ap, arith, length, get_or}
+use Rattle.std.proofs.lemmas.List.{get_or_default, length-map}
 use Rattle.mk_model.specs.declared.template.QueryBond.{QueryBond}
+use Rattle.mk_model.specs.declared.template.Slot.{Slot}
 use Rattle.mk_model.specs.declared.template.Slot.TheVariants.{Link}
 use Rattle.mk_model.specs.Templates.{query_edge, query_edges}
 use Rattle.mk_query.specs.OwnSizes.{Marks, takes}
@@ -16,9 +17,15 @@ pub loop-i-preserved : goal.loop-i-preserved
 loop-i-preserved c =
     let template = c.args.template.now in
     let below = rw c.slots-slots.ensures at c.loop-i-test.true in
+    let slot : c.index-slots-i.result ≡ get_or template.slots c.loop-i.i (Link 0 0 0 0) =
+    c.index-slots-i.is ∙ ap (λ (l : List Slot). get_or l c.loop-i.i c.index-slots-i.result) c.slots-slots.ensures
+    ∙ get_or_default template.slots c.loop-i.i c.index-slots-i.result (Link 0 0 0 0) below in
     let here : Marks (length template.atoms) (takes template.bonds (get_or template.slots c.loop-i.i (Link 0 0 0 0))) c.in_ok-by.by.items =
-    rw (c.bonds-in-loop-i.ensures, c.slots-slots.ensures, c.atoms.ensures) at c.in_ok-by.ensures in
-    let added = rw (c.deref-in-loop-i.ensures.value, c.slots-slots.ensures, c.atoms.ensures) at c.link_size_by.ensures.size in
+    rw (c.bonds-in-loop-i.ensures, slot, c.atoms.ensures) at c.in_ok-by.ensures in
+    let same : c.index-slots-i-in-loop-i.result ≡ get_or template.slots c.loop-i.i (Link 0 0 0 0) =
+    c.index-slots-i-in-loop-i.is ∙ ap (λ (l : List Slot). get_or l c.loop-i.i c.index-slots-i-in-loop-i.result) c.slots-slots.ensures
+    ∙ get_or_default template.slots c.loop-i.i c.index-slots-i-in-loop-i.result (Link 0 0 0 0) below in
+    let added = rw (c.deref-in-loop-i.ensures.value, same, c.atoms.ensures) at c.link_size_by.ensures.size in
     record {
       taken =
           taken_more template c.loop-i.i (length template.atoms) (Link 0 0 0 0) c.loop-i.taken.items c.in_ok-by.by.items c.put.new.taken.items below c.put.ensures.size

@@ -1,4 +1,4 @@
-use Rattle.std.proofs.Common.{◌≡◌, ◌≤◌, ◌<◌, ◌+◌, length, take, sum_by}
+use Rattle.std.proofs.Common.{◌≡◌, ◌≤◌, length, take, sum_by}
 use Rattle.mk_query.specs.OwnSizes.{Marks, is_taken}
 use Rattle.mk_query.specs.RootSizes.{capped, link_size}
 use Rattle.mk_query.proofs.own_sizes.own_size.Given as goal

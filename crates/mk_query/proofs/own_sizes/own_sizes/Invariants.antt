@@ -1,4 +1,4 @@
-use Rattle.std.proofs.Common.{◌≡◌, ◌≤◌, ◌<◌, ◌+◌, ℕ, All, Some, length}
+use Rattle.std.proofs.Common.{◌≡◌, ◌≤◌, ◌<◌, ℕ, All, Some, length}
 use Rattle.std.specs.Prelude.{slice_get, slice_index_or}
 use Rattle.mk_model.specs.Templates.{TemplateView}
 use Rattle.mk_query.specs.RootSizes.{capped, own_size}

@@ -1,4 +1,4 @@
-use Rattle.std.proofs.Common.{◌≡◌, ◌<◌, ◌≤◌, ◌+◌, ◌||◌, ℕ, false, length}
+use Rattle.std.proofs.Common.{◌≡◌, ◌<◌, ◌≤◌, ◌||◌, ℕ, false, length}
 use Rattle.std.specs.Prelude.{slice_index_or}
 use Rattle.mk_query.proofs.own_sizes.put.Given as goal
 

@@ -1,4 +1,4 @@
-use Rattle.std.proofs.Common.{◌+◌, take}
+use Rattle.std.proofs.Common.{take}
 use Rattle.mk_query.specs.PointFits.{AllHavePoints}
 use Rattle.mk_query.proofs.point_fits.all_have_points.Given as goal
 

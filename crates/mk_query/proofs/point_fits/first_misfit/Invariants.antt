@@ -1,4 +1,4 @@
-use Rattle.std.proofs.Common.{◌<◌, ◌+◌, ℕ}
+use Rattle.std.proofs.Common.{◌<◌, ℕ}
 use Rattle.mk_query.specs.CompileFaults.{FitsTable}
 use Rattle.mk_query.proofs.point_fits.first_misfit.Given as goal
 

@@ -1,4 +1,4 @@
-use Rattle.std.proofs.Common.{◌≡◌, ◌<◌, ◌+◌, ℕ, Some, true}
+use Rattle.std.proofs.Common.{◌≡◌, ◌<◌, ℕ, Some, true}
 use Rattle.std.specs.Prelude.{slice_get}
 use Rattle.mk_model.specs.declared.template.Slot.{Slot}
 use Rattle.mk_query.specs.PointFits.{told_fit}

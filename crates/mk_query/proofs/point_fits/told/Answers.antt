@@ -1,8 +1,8 @@
-use Rattle.std.proofs.Common.{rules, ◌≡◌, ◌+◌, ◌<◌, ◌≤◌, sym, ap, arith, length}
+use Rattle.std.proofs.Common.{rules, ◌+◌, sym, arith}
 use Rattle.std.specs.Prelude.{◌↔◌, IsTrue}
 use Rattle.mk_model.specs.Queries.{members_of}
 use Rattle.mk_query.specs.PointFits.{AllHavePoints}
-use Rattle.mk_query.proofs.PointFitsLemmas.{told_more, fits_told}
+use Rattle.mk_query.proofs.PointFitsLemmas.{told_more}
 use Rattle.mk_query.proofs.RecursionLemmas.{members_at_place}
 use Rattle.mk_query.proofs.point_fits.told.Goals as goal
 

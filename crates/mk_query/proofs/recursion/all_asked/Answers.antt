@@ -1,4 +1,4 @@
-use Rattle.std.proofs.Common.{rules, ◌≡◌, ◌+◌, ◌∙◌, sym, ap, refl, get_or, ℕ, List, length, ◌<◌, arith}
+use Rattle.std.proofs.Common.{rules, ◌≡◌, ◌+◌, sym, arith}
 use Rattle.mk_query.specs.Recursion.{asks_for}
 use Rattle.mk_query.proofs.RecursionLemmas.{members_at_place}
 use Rattle.mk_query.proofs.recursion.all_asked.Goals as goal

@@ -1,4 +1,4 @@
-use Rattle.std.proofs.Common.{◌≡◌, ◌<◌, ◌≤◌, ◌+◌}
+use Rattle.std.proofs.Common.{◌≤◌}
 use Rattle.mk_query.specs.Recursion.{Holds, leads}
 use Rattle.mk_query.proofs.recursion.all_leads.Given as goal
 

@@ -1,9 +1,6 @@
-use Rattle.std.proofs.Common.{◌≡◌, ◌+◌, ◌∙◌, ◌||◌, sym, ap, refl, true, false, get_or, ℕ, length, ◌<◌, take, List}
-use Rattle.std.proofs.lemmas.List.Folds.{list_any_at, list_any_more}
-use Rattle.std.specs.List.{list_any}
-use Rattle.mk_model.specs.declared.template.Slot.{Slot}
-use Rattle.mk_model.specs.Labels.{bears_label}
-use Rattle.mk_query.proofs.RecursionLemmas.{slots_at, any_more, HasGroups, chain_leads}
+use Rattle.std.proofs.Common.{◌∙◌, sym}
+use Rattle.std.proofs.lemmas.List.Folds.{list_any_at}
+use Rattle.mk_query.proofs.RecursionLemmas.{slots_at, any_more}
 use Rattle.mk_query.proofs.recursion.asks_for.Goals as goal
 
 pub returns-then-bears_some : goal.returns-then-bears_some

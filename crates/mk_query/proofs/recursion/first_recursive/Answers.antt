@@ -1,6 +1,5 @@
-use Rattle.std.proofs.Common.{◌≡◌, ◌<◌, ◌≤◌, ◌+◌, ℕ, List, length, arith, sym}
-use Rattle.mk_model.specs.Labels.{IsChain}
-use Rattle.mk_query.proofs.RecursionLemmas.{back_recurs, found_more, has_groups, low_more, member_within, members_at_place, recurs_back}
+use Rattle.std.proofs.Common.{length, arith, sym}
+use Rattle.mk_query.proofs.RecursionLemmas.{all_within, back_recurs, found_more, has_groups, low_more, member_within, members_at_place, recurs_back}
 use Rattle.mk_query.proofs.recursion.first_recursive.Goals as goal
 
 pub loop-g-preserved : goal.loop-g-preserved
@@ -33,7 +32,7 @@ returns-then-least-none c =
           absurd (omega (arith, below, c.loop-g.invariant.lowest back.0 t back.1 (omega (arith, back.2, c.loop-g-test.false)) back.3));
       fails = λ none.
           let back = c.loop-g.invariant.found c.if-least-none.true in
-          back_recurs T G 32 list c.in_ok-leads.ensures has back.0 c.loop-g.least back.1 back.2 back.3 none;
+          back_recurs T G 32 list c.in_ok-leads.ensures has (all_within T G c.requires.members) back.0 c.loop-g.least back.1 back.2 back.3 none;
     }
 
 pub returns : goal.returns

@@ -1,6 +1,4 @@
-use Rattle.std.proofs.Common.{◌≡◌, ◌<◌, ◌≤◌, ◌+◌, ◌-◌, ℕ, length}
-use Rattle.std.specs.Prelude.{slice_get, Some}
-use Rattle.mk_model.specs.declared.group.Group.{Group}
+use Rattle.std.proofs.Common.{◌<◌, ◌≤◌, ℕ, length}
 use Rattle.mk_model.specs.Queries.{members_of}
 use Rattle.mk_query.specs.Recursion.{ComesBack}
 use Rattle.mk_query.proofs.recursion.first_recursive.Given as goal

@@ -1,4 +1,4 @@
-use Rattle.std.proofs.Common.{◌≡◌, ◌<◌, ◌≤◌, ◌+◌, ℕ, take}
+use Rattle.std.proofs.Common.{◌<◌, ◌≤◌, ℕ, take}
 use Rattle.mk_query.specs.Recursion.{ComesBack}
 use Rattle.mk_query.proofs.recursion.least_in_group.Given as goal
 

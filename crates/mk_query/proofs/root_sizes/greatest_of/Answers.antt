@@ -1,7 +1,6 @@
-use Rattle.std.proofs.Common.{◌≡◌, ◌≤◌, ◌<◌, ◌+◌, ◌∙◌, sym, arith, max, ℕ, take, get_or}
-use Rattle.mk_model.specs.Sizes.{greatest}
+use Rattle.std.proofs.Common.{◌∙◌, sym, arith}
 use Rattle.mk_query.specs.RootSizes.{size_by_lists}
-use Rattle.mk_query.proofs.RootSizesLemmas.{greatest_more, none_first, size_is, small_is}
+use Rattle.mk_query.proofs.RootSizesLemmas.{greatest_more}
 use Rattle.mk_query.proofs.root_sizes.greatest_of.Goals as goal
 
 pub loop-i-preserved : goal.loop-i-preserved

@@ -1,4 +1,4 @@
-use Rattle.std.proofs.Common.{◌≡◌, ◌≤◌, ◌<◌, ◌+◌, ◌∙◌, ℕ, All, sym, refl, arith, length, get_or}
+use Rattle.std.proofs.Common.{◌≡◌, sym, arith}
 use Rattle.std.specs.Prelude.{replicate}
 use Rattle.mk_query.specs.RootSizes.{size_by_lists}
 use Rattle.mk_query.proofs.CapLemmas.{small_tested, test_small}
@@ -32,10 +32,10 @@ returns c =
     let has = has_groups T G c.requires.labels in
     let size : c.size_by_lists.result ≡ size_by_lists T c.in_ok-own.own.items c.loop-n.of_groups.items 0 = rw (c.deref-2.ensures.value, c.deref-3.ensures.value) at c.size_by_lists.ensures.size in (
       λ less.
-          is_small T G 32 (omega arith) has c.requires.no_cycle c.in_ok-own.own.items c.loop-n.of_groups.items c.loop-n.n (omega (arith, c.loop-n-test.false)) c.requires.root
-          c.in_ok-own.ensures.own c.loop-n.invariant.greatest (rw size at (test_small c.size_by_lists.result less)),
+          is_small T G 32 (omega arith) has c.requires.members c.requires.no_cycle c.in_ok-own.own.items c.loop-n.of_groups.items c.loop-n.n (omega (arith, c.loop-n-test.false))
+          c.requires.root c.in_ok-own.ensures.own c.loop-n.invariant.greatest (rw size at (test_small c.size_by_lists.result less)),
       λ small.
-          let few = small_is T G 32 (omega arith) has c.requires.no_cycle c.in_ok-own.own.items c.loop-n.of_groups.items c.loop-n.n (omega (arith, c.loop-n-test.false)) c.requires.root
-          c.requires.members c.in_ok-own.ensures.own c.loop-n.invariant.greatest small in
+          let few = small_is T G 32 (omega arith) has c.requires.members c.requires.no_cycle c.in_ok-own.own.items c.loop-n.of_groups.items c.loop-n.n (omega (arith, c.loop-n-test.false))
+          c.requires.root c.in_ok-own.ensures.own c.loop-n.invariant.greatest small in
           small_tested c.size_by_lists.result (rw (sym size) at few),
     )

@@ -1,4 +1,4 @@
-use Rattle.std.proofs.Common.{◌≡◌, ◌≤◌, ℕ, All}
+use Rattle.std.proofs.Common.{◌≤◌, ℕ, All}
 use Rattle.mk_query.specs.RootSizes.{AreGreatest}
 use Rattle.mk_query.proofs.root_sizes.is_small.Given as goal
 

@@ -1,10 +1,9 @@
-use Rattle.std.proofs.Common.{◌≡◌, ◌+◌, ◌<◌, ◌++◌, ◌∙◌, List, Some, All, sym, subst, ap, take, get_or, length, false, true, arith}
+use Rattle.std.proofs.Common.{◌≡◌, ◌+◌, ◌<◌, ◌∙◌, List, Some, All, sym, subst, ap, take, length, false, arith}
 use Rattle.std.specs.Prelude.{slice_get}
-use Rattle.std.proofs.lemmas.List.{length-append, take_all}
+use Rattle.std.proofs.lemmas.List.{length-append}
 use Rattle.std.proofs.lemmas.List.Elements.{All-more}
 use Rattle.mk_ctab.specs.declared.raw.RawTable.{RawTable}
 use Rattle.mk_rgfile.specs.declared.raw_query.RawGroup.{RawGroup}
-use Rattle.mk_rgfile.specs.QueryFacts.{members_in}
 use Rattle.mk_model.proofs.ForCallers.{at_place}
 use Rattle.mk_query.specs.Compiled.{member_tables}
 use Rattle.mk_query.specs.FirstFault.{PassesAll}

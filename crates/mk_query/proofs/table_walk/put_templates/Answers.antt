@@ -1,10 +1,10 @@
-use Rattle.std.proofs.Common.{◌≡◌, ◌+◌, ◌++◌, ◌∷◌, [], ◌∙◌, false, List, sym, subst, ap, take, get_or, length}
-use Rattle.std.proofs.lemmas.List.{append_assoc, take_all, take_more}
+use Rattle.std.proofs.Common.{◌≡◌, ◌+◌, ◌++◌, ◌∷◌, [], ◌∙◌, false, List, sym, subst, ap, take}
+use Rattle.std.proofs.lemmas.List.{append_assoc, take_more}
 use Rattle.mk_model.specs.Templates.{TemplateView}
 use Rattle.mk_ctab.specs.declared.raw.RawTable.{RawTable}
 use Rattle.mk_query.specs.Compiled.{AreTemplatesOf}
 use Rattle.mk_query.specs.FirstFault.{PassesAll}
-use Rattle.mk_query.proofs.TableWalkLemmas.{pass_each, templates_more, walk_fault}
+use Rattle.mk_query.proofs.TableWalkLemmas.{templates_more}
 use Rattle.mk_query.proofs.table_walk.put_templates.Goals as goal
 
 pub template_of-requires-clause-passed : goal.template_of-requires-clause-passed

@@ -1,4 +1,4 @@
-use Rattle.std.proofs.Common.{◌≡◌, ◌+◌, ◌++◌, ◌∷◌, ◌∙◌, List, Some, sym, subst, ap, take, get_or, length}
+use Rattle.std.proofs.Common.{◌≡◌, ◌∷◌, ◌∙◌, List, Some, sym, subst, ap, take}
 use Rattle.std.specs.Prelude.{slice_get}
 use Rattle.mk_ctab.specs.declared.raw.RawTable.{RawTable}
 use Rattle.mk_model.proofs.ForCallers.{at_place}

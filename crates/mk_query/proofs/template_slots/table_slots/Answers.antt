@@ -11,9 +11,9 @@ loop-i-preserved c =
     slot_noted table c.loop-i.i c.in_ok-links.links.items c.in_ok-sites.sites.items c.in_ok-labels.labels.items c.in_ok-ends.ends.items
     c.index.result.now c.index-in-loop-i.result.now c.index-in-loop-i-2.result.now c.index-in-loop-i-3.result.now c.requires.passed below
     (omega (arith, c.in_ok-links.ensures.size, lines)) (rw c.as_slice-props.ensures at c.in_ok-links.ensures.linked) (rw c.as_slice-lines.ensures at c.in_ok-sites.ensures)
-    (omega (arith, c.in_ok-labels.ensures.size, lines)) (rw c.as_slice-props.ensures at c.in_ok-labels.ensures.last) c.in_ok-ends.ensures.size c.in_ok-ends.ensures.ordered
+    (omega (arith, c.in_ok-labels.ensures.size, lines)) (rw c.as_slice-props.ensures at c.in_ok-labels.ensures.labels) c.in_ok-ends.ensures.size c.in_ok-ends.ensures.ordered
     c.index.ensures c.index-in-loop-i.ensures c.index-in-loop-i-2.ensures c.index-in-loop-i-3.ensures in
-    slots_more table c.loop-i.i c.loop-i.slots.items c.put_slot.new.slots.items c.slot_by-slot.result (c.slot_by-slot.ensures ∙ noted) c.in_ok-put_slot.ensures c.loop-i.invariant
+    slots_more table c.loop-i.i c.loop-i.slots.items c.put_slot.new.slots.items c.in_ok-slot.slot (c.in_ok-slot.ensures ∙ noted) c.in_ok-put_slot.ensures c.loop-i.invariant
 
 pub returns : goal.returns
 returns c = slots_all c.args.table.now c.loop-i.i c.loop-i.slots.items (omega (arith, ap length c.as_slice-lines.ensures)) c.loop-i.invariant

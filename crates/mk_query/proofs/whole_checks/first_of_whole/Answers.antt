@@ -1,6 +1,4 @@
-use Rattle.std.proofs.Common.{◌≡◌, ◌+◌, ◌<◌, ◌≤◌, ◌∙◌, ℕ, sym, ap, length, arith}
-use Rattle.mk_query.specs.CompileFaults.{groups_of_number}
-use Rattle.mk_query.proofs.QueryLemmas.{fits_query}
+use Rattle.std.proofs.Common.{arith}
 use Rattle.mk_query.proofs.WholeLemmas.{many_fail, whole_item}
 use Rattle.mk_query.proofs.whole_checks.first_of_whole.Goals as goal
 

@@ -1,4 +1,4 @@
-use Rattle.std.proofs.Common.{◌≤◌, ◌<◌, ◌+◌, ℕ}
+use Rattle.std.proofs.Common.{◌≤◌, ℕ}
 use Rattle.mk_query.specs.CompileFaults.{groups_of_number}
 use Rattle.mk_query.proofs.whole_checks.first_of_whole.Given as goal
 

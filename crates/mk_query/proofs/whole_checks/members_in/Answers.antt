@@ -1,9 +1,9 @@
-use Rattle.std.proofs.Common.{◌≡◌, ◌+◌, ◌<◌, ◌≤◌, ◌∙◌, List, Some, sym, ap, length, take, arith, get_or}
+use Rattle.std.proofs.Common.{◌≡◌, ◌∙◌, Some, sym, ap, length, take, arith}
 use Rattle.std.specs.Prelude.{slice_get}
 use Rattle.mk_rgfile.specs.declared.raw_query.RawGroup.{RawGroup}
 use Rattle.mk_model.proofs.ForCallers.{at_place}
 use Rattle.mk_query.proofs.TableWalkLemmas.{few_before, members_count}
-use Rattle.mk_query.proofs.WholeLemmas.{many_fail, members_in-more, no_root_fails, whole_item}
+use Rattle.mk_query.proofs.WholeLemmas.{members_in-more}
 use Rattle.mk_query.proofs.whole_checks.members_in.Goals as goal
 use Rattle.mk_query.proofs.whole_checks.members_in.Goals.{After-as_slice}
 
