@@ -1,0 +1,44 @@
+-- Fronts: numbers with which codes begin, as open codes.
+--     front_code front n         the open code of a front, with so many slots left open behind it
+--     FrontsHaveOpenCodes        a front with which a code begins has an open code
+--     FrontsAreCompleted         each code that begins with a front completes its open code
+--     FrontsArePassedOver        where the graph of a front's open code has no hit, what remains
+--                                inside the front is what remains behind it
+use Rattle.std.specs.Prelude.{◌+◌, ℕ, List, [], ◌∷◌, ◌++◌, replicate}
+use Rattle.mk_model.specs.Codes.{IsCode}
+use Rattle.mk_model.specs.Graphs.{GraphView}
+use Rattle.mk_model.specs.Hits.{IsHit}
+use Rattle.mk_model.specs.Keys.{IsOccurrence}
+use Rattle.mk_model.specs.Molecules.{Molecule}
+use Rattle.mk_model.specs.Nodes.{BeginsCode, SameFrom}
+use Rattle.mk_model.specs.Queries.{QueryView}
+use Rattle.mk_model.specs.QueryFits.{QueryFits}
+use Rattle.mk_open.specs.OpenCodes.{Completes, IsOpenCode}
+use Rattle.mk_open.specs.OpenGraphs.{IsOpenGraph}
+
+-- the numbers of a front, and 0 for each of so many slots behind them
+abbrev pub front_code : List ℕ → ℕ → List ℕ
+front_code front n = front ++ replicate n 0
+
+-- ---- laws
+
+-- numbers with which a structural code of the root begins are an open code, with some slots behind
+-- them left open
+abbrev pub FrontsHaveOpenCodes : Type 0
+FrontsHaveOpenCodes = (query : QueryView) (front : List ℕ) → BeginsCode query front → (n : ℕ) × IsOpenCode query 0 (front_code front n)
+
+-- each structural code of the root that begins with a front completes the front's open code
+abbrev pub FrontsAreCompleted : Type 0
+FrontsAreCompleted =
+    (query : QueryView) (front more : List ℕ) (n : ℕ) → IsOpenCode query 0 (front_code front n)
+    → IsCode query 0 (front ++ more) → Completes query (front ++ more) (front_code front n)
+
+-- Where the graph of a front's open code has no hit in a molecule, no occurrence of the query there
+-- begins with the front: what remains from a place inside the front is what remains from the front
+-- with its last number raised by one.
+abbrev pub FrontsArePassedOver : Type 0
+FrontsArePassedOver =
+    (query : QueryView) (mol : Molecule) (numbers tail : List ℕ) (last n : ℕ) (part : GraphView) → QueryFits query
+    → BeginsCode query (numbers ++ last ∷ []) → IsOpenGraph query (front_code (numbers ++ last ∷ []) n) part
+    → ((hit : List ℕ) → IsHit part mol hit → ⊥)
+    → SameFrom (IsOccurrence query mol) (numbers ++ last ∷ tail) (numbers ++ (last + 1) ∷ [])

@@ -1,0 +1,5 @@
+pub mod OpenCodes
+pub mod OpenGraphs
+pub mod Laws
+pub mod Fronts
+pub mod Opening

@@ -1,0 +1,24 @@
+//! Open codes: what all codes that begin alike have in common.
+//!
+//! An open code is a structural code in which slots may be left open. Callers use one promise: where
+//! the graph of an open code, which `open_graph` makes, has no hit in a molecule, no code that
+//! completes the open code has one (`NoHitNoCompletion` in `specs/Laws.antt`).
+//!
+//! Which numbers are an open code stands in `specs/OpenCodes.antt`, and its graph in
+//! `specs/OpenGraphs.antt`. What a search makes of it isn't known here.
+#![tactic(auto)]
+
+mod graphs;
+mod laws;
+mod loose;
+mod open_codes;
+mod parts;
+#[cfg(test)]
+mod tests;
+
+pub use graphs::open_graph;
+pub use laws::{
+    completions_cover_its_need, completions_hold_the_open_graph, fronts_are_completed,
+    fronts_are_passed_over, fronts_have_open_codes, no_hit_no_completion,
+    open_codes_are_read_one_way,
+};

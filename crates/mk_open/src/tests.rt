@@ -1,0 +1,58 @@
+// The call that takes memory: C C C R#, whose second carbon stands one to three times, by three open
+// codes.
+use crate::open_graph;
+use mk_fixtures::query_of_link_and_site;
+use mk_model::{Graph, Kind, Memory};
+use std::alloc::Global;
+use std::test::Fail;
+
+// By 0 2 the link is open, and chlorine fills the site: a carbon, and another that bears it, each
+// with a free end. By 2 0 the second carbon stands twice, and the last has a free end where the site
+// is open. By 0 0 both are open, so the last carbon has two free ends, and no bond is left. Single
+// bonds may be aromatic ones.
+#[test]
+fn open_codes_have_their_graphs(rt: HostRuntime) -> Result<(), Fail> {
+    let (link, site, both) = graphs(rt.alloc())?;
+    let four = [(6, 0), (6, 0), (6, 0), (6, 1)];
+    assert!(rt;
+        is_graph(&link, &[(6, 1), (6, 1), (17, 0)], &[(2, 3, 6)]),
+        "0 2"
+    );
+    assert!(rt;
+        is_graph(&site, &four, &[(1, 2, 6), (2, 3, 6), (3, 4, 6)]),
+        "2 0"
+    );
+    assert!(rt; is_graph(&both, &[(6, 1), (6, 2)], &[]), "0 0");
+    Ok(())
+}
+
+// The graph has these elements, each with its free ends, and these bonds with their types.
+fn is_graph(graph: &Graph, atoms: &[(u8, u32)], bonds: &[(u32, u32, u8)]) -> bool {
+    if graph.atoms().len() != atoms.len() || graph.bonds().len() != bonds.len() {
+        return false;
+    }
+    for (atom, (z, free)) in graph.atoms().iter().zip(atoms) {
+        let is_element = match &atom.test.kind {
+            Kind::Element(element) => *element == *z,
+            _ => false,
+        };
+        if !is_element || atom.free != *free {
+            return false;
+        }
+    }
+    for (bond, (first, second, kind)) in graph.bonds().iter().zip(bonds) {
+        if bond.first != *first || bond.second != *second || bond.kind != *kind {
+            return false;
+        }
+    }
+    true
+}
+
+// That query is the one that mk_model shows to keep what every query keeps.
+fn graphs(alloc: Global) -> Result<(Graph, Graph, Graph), Memory> {
+    let query = query_of_link_and_site(alloc)?;
+    let link = open_graph(alloc, &query, &[0, 2])?;
+    let site = open_graph(alloc, &query, &[2, 0])?;
+    let both = open_graph(alloc, &query, &[0, 0])?;
+    Ok((link, site, both))
+}
