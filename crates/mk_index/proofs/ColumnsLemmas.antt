@@ -1,5 +1,5 @@
 -- Rows taken out, made and put, word by word.
---     closed_none, closed_more, closed_all      a row is taken out
+--     closed_more, closed_all      a row is taken out
 --     opened_none, opened_more, opened_all      a row is made
 --     put_none, put_more, put_all               the bits of a row are put
 use Rattle.std.proofs.Common.{◌≡◌, ◌≢◌, ℕ, ◌+◌, ◌-◌, ◌*◌, ◌/◌, ◌%◌, ◌<◌, ◌≤◌, ◌⊎◌, inl, inr, cond, ltb, List, length, get_or, set, refl, ap, ◌∙◌, arith}
@@ -10,9 +10,6 @@ use Rattle.mk_index.specs.Words.{closed_bit, opened_bit, put_in_bit}
 use Rattle.mk_index.specs.Columns.{ClosedTo, IsClosed, IsOpened, IsPut, OpenedFrom, PutTo, cell, low_at, next_word, word_before}
 
 -- ---- a row is taken out
-
-pub closed_none : (blocks at : ℕ) (old : List ℕ) → ClosedTo blocks at (at / 64 * 512) old old
-closed_none blocks at old = record { size = refl; done = λ k j from below within. absurd (omega arith); rest = λ k other. refl }
 
 module _ (blocks at q : ℕ) (old new : List ℕ) (word : ℕ) (from : at / 64 * 512 ≤ q) (below : q < length new) (so_far : ClosedTo blocks at q old new) where
   -- the next word

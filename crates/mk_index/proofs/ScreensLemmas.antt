@@ -1,5 +1,5 @@
 -- Columns and screens together: one put in, changed and taken out.
---     put_columns, changed_columns, taken_columns
+--     put_columns, taken_columns
 use Rattle.std.proofs.Common.{◌≡◌, ℕ, ◌+◌, ◌-◌, ◌*◌, ◌/◌, ◌%◌, ◌<◌, ◌≤◌, inl, inr, eqb, List, ◌++◌, length, get_or, set, refl, ap, ◌∙◌, arith}
 use Rattle.std.specs.List.{insert, remove}
 use Rattle.std.specs.Int.{bit_at}
@@ -48,17 +48,6 @@ put_columns screens screen at old mid new within are opened put size = record {
         ])
 
 -- ---- one is changed
-
-pub changed_columns : (screens : List Screen) (screen : Screen) (at : ℕ) (old new : List ℕ) → at < length screens → AreColumns screens old
-    → IsPut at screen.bits old new → length new ≡ length old → AreColumns (set screens at screen) new
-changed_columns screens screen at old new within are put same_size = record {
-  size = λ i inside. (let size = are.size i (omega (arith, length-set screens at screen)) in omega arith);
-  cells = λ i b d inside bit.
-      rw (put i b bit) (elim (cases_eq i at) [
-        | inl same ↦ rw (eq-eqb i at same, same, get_or-set_same screens at screen d within) refl
-        | inr other ↦ rw (ne_eqb i at other, get_or-set_other screens at i screen d other) (are.cells i b d (omega (arith, length-set screens at screen)) bit)
-      ]);
-}
 
 -- ---- one is taken out
 

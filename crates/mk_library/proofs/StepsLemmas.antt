@@ -17,9 +17,6 @@ pub record IsPart (all left : List RawRecord) (number : ℕ) (texts : List (List
   pub texts_are : texts ≡ texts_of done
   pub molecules : AreMolecules done mols
 
-pub part-none : (all : List RawRecord) → IsPart all all 0 [] []
-part-none all = record { done = []; whole = refl; counted = refl; texts_are = refl; molecules = tt }
-
 molecules_more : (done : List RawRecord) (mols : List Molecule) (raw : RawRecord) (mol : Molecule) → AreMolecules done mols → MeetsAllChecks raw.table → IsFilled raw.table mol
     → IsMolecule mol → AreMolecules (done ++ raw ∷ []) (mols ++ mol ∷ [])
 molecules_more [] [] raw mol are passes filled kept = (passes, filled, kept, tt)
@@ -44,11 +41,6 @@ part-more all left raw number texts mols mol part passes filled kept = record {
   texts_are = ap (λ ts. ts ++ raw.text ∷ []) part.texts_are ∙ texts_more part.done raw;
   molecules = molecules_more part.done mols raw mol part.molecules passes filled kept;
 }
-
--- there is a number for the next one
-pub part-number : (all left : List RawRecord) (raw : RawRecord) (number : ℕ) (texts : List (List ℕ)) (mols : List Molecule) → IsPart all (raw ∷ left) number texts mols
-    → number < length all
-part-number all left raw number texts mols part = rw (part.whole, length-append) (omega (arith, part.counted))
 
 append_nothing : (xs : List RawRecord) → xs ++ [] ≡ xs
 append_nothing [] = refl

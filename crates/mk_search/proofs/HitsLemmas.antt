@@ -3,7 +3,8 @@
 --     page_full, page_all       as many as asked for, or all
 --     begins_full, begins_all   what was begun for them
 --     least_next                the first key is the least
-use Rattle.std.proofs.Common.{◌≡◌, ℕ, ◌<◌, ◌≤◌, ◌⊎◌, inl, inr, true, false, List, [], ◌∷◌, ◌++◌, length, Option, Some, None, refl, sym, ap, subst, ◌∙◌, arith, append_assoc, length-append, append-nil}
+--     place_of_number           a place of which a number is left
+use Rattle.std.proofs.Common.{◌≡◌, ℕ, ◌<◌, ◌≤◌, ◌⊎◌, inl, inr, true, false, List, [], ◌∷◌, ◌++◌, length, Option, Some, None, refl, sym, ap, subst, ◌∙◌, arith, append_assoc, length-append, append-nil, slice_set, take}
 use Rattle.std.proofs.lemmas.Bool.{le-ltb, lt-ltb}
 use Rattle.mk_text.specs.Rising.{AreFirst, Each, Holds, IsBelow, IsFrom, IsLeast, IsLeastFrom, place_behind}
 use Rattle.mk_text.proofs.ForCallers.{Listed, below_after, below_through, below_what_isnt, each_holds, first_listed, first_when_all, holds_append, holds_each, holds_either, listed_more, listed_none, none_before_place_behind, not_below_itself}
@@ -267,3 +268,10 @@ pub least_next : (rows : List (Numbered Molecule)) (query : QueryView) (place : 
     → IsNextKey old new before after found → IsLeastFrom place (IsKey (IsHeldIn rows) query) found
 least_next rows query place old new before after made None t = least_made rows query place old made None t.none
 least_next rows query place old new before after made (Some key) t = least_made rows query place old made (Some key) t.least
+
+-- ---- the rest of a record
+
+-- a number in place of a place that isn't empty
+pub place_of_number : (place : List ℕ) (n : ℕ) → 1 ≤ length place → slice_set (take 1 place) 0 n ≡ n ∷ []
+place_of_number [] n some = absurd (omega (arith, some))
+place_of_number (x ∷ place) n some = refl

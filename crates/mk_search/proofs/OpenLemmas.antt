@@ -2,8 +2,8 @@
 --     from_start                  no code is open at the start
 --     none_here, taken_here       nothing more, or the next hit, of the code that is open
 --     none_left, opened_at, passed_at     no code left, or the next one, which is opened or passed
---     kept_here, kept_more        its expansion is kept again
-use Rattle.std.proofs.Common.{◌≡◌, ℕ, ◌+◌, inl, inr, true, List, [], ◌∷◌, ◌++◌, All, drop, Option, Some, None, refl, sym, ap, subst, ◌∙◌, append-nil}
+--     kept_more                   an expansion is kept behind others
+use Rattle.std.proofs.Common.{◌≡◌, ℕ, ◌+◌, inl, inr, Bool, true, false, if◌then◌else◌, List, [], ◌∷◌, ◌++◌, All, drop, Option, Some, None, refl, sym, ap, subst, ◌∙◌, append-nil}
 use Rattle.std.proofs.lemmas.List.Elements.{All-drop, All-push}
 use Rattle.mk_text.specs.Rising.{IsBelow, IsLeast, IsLeastFrom}
 use Rattle.mk_text.proofs.ForCallers.{below_joined, below_or_not, below_through, between_none, not_below_after, not_below_itself}
@@ -23,13 +23,12 @@ use Rattle.mk_expand.proofs.ForCallers.{one_graph}
 use Rattle.mk_match.specs.Asked.{AreAsked}
 use Rattle.mk_match.specs.Counts.{HasNoHit}
 use Rattle.mk_match.specs.Maps.{IsMadeFrom, MapsLeft}
-use Rattle.mk_match.specs.declared.asked.Asked.{Asked}
 use Rattle.mk_search.specs.declared.expansions.Expansion.{Expansion}
 use Rattle.mk_search.specs.declared.occurrences.Open.{Open}
 use Rattle.mk_search.specs.Begins.{IsLeftBy}
 use Rattle.mk_search.specs.Kept.{IsKept}
 use Rattle.mk_search.specs.Levels.{AtBacks, AtFronts, IsPair}
-use Rattle.mk_search.specs.Occurrences.{HitsBehind, IsCodeFrom, IsOpenedAt, Leaves, LeavesBy, LeavesOpen, TakesHere, is_open}
+use Rattle.mk_search.specs.Occurrences.{HitsBehind, IsCodeFrom, IsOpenOf, IsOpenedAt, Leaves, LeavesBy, LeavesOpen, TakesHere, is_open}
 use Rattle.mk_search.specs.Starts.{IsBehind, IsStart}
 use Rattle.mk_search.proofs.BegunLemmas.{begun_one, begun_over}
 use Rattle.mk_search.proofs.LevelLemmas.{closes, ends, goes_up, longer, nested, opens, shorter, takes, takes_least}
@@ -119,14 +118,14 @@ module _ (query : QueryView) (mol : Molecule) where
   module _ (place : List ℕ) (codes : CodesLeft) (of : codes.query ≡ query) (open' : Open) (o : LeavesOpen query mol place codes open') where
     -- the same, of the matcher's molecule
     none_of : IsLeastFrom open'.maps.place (IsHit open'.maps.graph open'.maps.mol) None → IsLeastFrom open'.maps.place (HitsBehind query mol open'.code.items) None
-    none_of none hit is not = none hit (subst (λ (m : Molecule). IsHit open'.maps.graph m hit) (sym o.mol_is) (behind_hits open'.code.items open'.maps.graph o.expanded hit is)) not
+    none_of none hit is not = none hit (subst (λ (m : Molecule). IsHit open'.maps.graph m hit) (sym o.mol_is) (behind_hits open'.code.items open'.maps.graph o.of.is hit is)) not
 
     least_of : (hit : List ℕ) → IsLeast open'.maps.place (IsHit open'.maps.graph open'.maps.mol) hit → IsLeast open'.maps.place (HitsBehind query mol open'.code.items) hit
     least_of hit least = record {
-      has = hits_behind open'.code.items open'.maps.graph o.expanded hit (subst (λ (m : Molecule). IsHit open'.maps.graph m hit) o.mol_is least.has);
+      has = hits_behind open'.code.items open'.maps.graph o.of.is hit (subst (λ (m : Molecule). IsHit open'.maps.graph m hit) o.mol_is least.has);
       from = least.from;
       least = λ other has not. least.least other
-          (subst (λ (m : Molecule). IsHit open'.maps.graph m other) (sym o.mol_is) (behind_hits open'.code.items open'.maps.graph o.expanded other has)) not;
+          (subst (λ (m : Molecule). IsHit open'.maps.graph m other) (sym o.mol_is) (behind_hits open'.code.items open'.maps.graph o.of.is other has)) not;
     }
 
     pub none_here : IsLeastFrom open'.maps.place (IsHit open'.maps.graph open'.maps.mol) None → Leaves query mol place codes None
@@ -146,9 +145,11 @@ module _ (query : QueryView) (mol : Molecule) where
       query_is = of;
       by = record {
         placed = o.placed ∙ ap (λ (zs : List ℕ). zs ++ 0 ∷ []) (sym code);
-        expanded = subst (λ (zs : List ℕ). IsExpansion query zs new.maps.graph) (sym code) (subst (λ (g : GraphView). IsExpansion query open'.code.items g) (sym graph) o.expanded);
-        asked = subst (λ (g : GraphView). AreAsked g new.asked) (sym graph) asked;
-        need = subst (λ (g : GraphView). IsNeedOf g new.need) (sym graph) need;
+        of = record {
+          is = subst (λ (zs : List ℕ). IsExpansion query zs new.maps.graph) (sym code) (subst (λ (g : GraphView). IsExpansion query open'.code.items g) (sym graph) o.of.is);
+          asked = subst (λ (g : GraphView). AreAsked g new.asked) (sym graph) asked;
+          need = subst (λ (g : GraphView). IsNeedOf g new.need) (sym graph) need;
+        };
         mol_is = mol_is ∙ o.mol_is;
         at = subst (λ (zs : List ℕ). AtBacks (IsValid query) (HitsBehind query mol) ((open'.code.items ++ hit) ++ 0 ∷ []) zs new.maps.place) (sym code)
             (subst (λ (zs : List ℕ). AtBacks (IsValid query) (HitsBehind query mol) ((open'.code.items ++ hit) ++ 0 ∷ []) open'.code.items zs) (sym at)
@@ -170,15 +171,6 @@ module _ (query : QueryView) (mol : Molecule) where
       now_open = refl;
     }
 
-    -- its expansion is kept again
-    pub kept_here : (expansion : Expansion) → expansion.code.items ≡ open'.code.items → expansion.graph ≡ open'.maps.graph → expansion.asked ≡ open'.asked
-        → expansion.need ≡ open'.need → IsKept query expansion
-    kept_here expansion code graph asked need = record {
-      is = subst (λ (zs : List ℕ). IsExpansion query zs expansion.graph) (sym code) (subst (λ (g : GraphView). IsExpansion query open'.code.items g) (sym graph) o.expanded);
-      asked = subst (λ (a : Asked). AreAsked expansion.graph a) (sym asked) (subst (λ (g : GraphView). AreAsked g open'.asked) (sym graph) o.asked);
-      need = subst (λ (n : Screen). IsNeedOf expansion.graph n) (sym need) (subst (λ (g : GraphView). IsNeedOf g open'.need) (sym graph) o.need);
-    }
-
   -- ---- the next code
 
   pub none_left : (place from : List ℕ) → AtFronts (IsValid query) (HitsBehind query mol) place from → IsLeastFrom from (IsValid query) None → IsLeastFrom place (IsOccurrence query mol) None
@@ -186,15 +178,13 @@ module _ (query : QueryView) (mol : Molecule) where
 
   opened_next : (place from back : List ℕ) (codes : CodesLeft) (new : Open) → AtFronts (IsValid query) (HitsBehind query mol) place from
       → IsLeast from (IsValid query) new.code.items → IsBehind new.code.items place back
-      → codes.query ≡ query → codes.place ≡ new.code.items ++ 0 ∷ [] → IsExpansion query new.code.items new.maps.graph → AreAsked new.maps.graph new.asked → IsNeedOf new.maps.graph new.need
+      → codes.query ≡ query → codes.place ≡ new.code.items ++ 0 ∷ [] → IsOpenOf query new
       → new.maps.mol ≡ mol → new.maps.place ≡ back → Leaves query mol place codes (Some new)
-  opened_next place from back codes new at least behind of placed expanded asked need mol_is at_back = record {
+  opened_next place from back codes new at least behind of placed kept mol_is at_back = record {
     query_is = of;
     by = record {
       placed = placed;
-      expanded = expanded;
-      asked = asked;
-      need = need;
+      of = kept;
       mol_is = mol_is;
       at = subst (λ (zs : List ℕ). AtBacks (IsValid query) (HitsBehind query mol) place new.code.items zs) (sym at_back)
           (opens (IsValid query) (HitsBehind query mol) place from at new.code.items back least behind);
@@ -256,9 +246,11 @@ module _ (query : QueryView) (mol : Molecule) (place : List ℕ) (old new : Code
         (subst (IsLeast old.place (IsValid query)) (sym code_is) least_code)
         (subst (λ (zs : List ℕ). IsBehind zs place back) (sym code_is) behind)
         (next.query ∙ left.query_is) (next.place ∙ ap (λ (zs : List ℕ). zs ++ 0 ∷ []) (sym code_is))
-        (subst (λ (g : GraphView). IsExpansion query expansion.code.items g) (sym made.graph_is) kept.is)
-        (subst (λ (g : GraphView). AreAsked g expansion.asked) (sym made.graph_is) kept.asked)
-        (subst (λ (g : GraphView). IsNeedOf g expansion.need) (sym made.graph_is) kept.need)
+        (record {
+          is = subst (λ (g : GraphView). IsExpansion query expansion.code.items g) (sym made.graph_is) kept.is;
+          asked = subst (λ (g : GraphView). AreAsked g expansion.asked) (sym made.graph_is) kept.asked;
+          need = subst (λ (g : GraphView). IsNeedOf g expansion.need) (sym made.graph_is) kept.need;
+        })
         made.mol_is made.place_is;
     begun = begun_one (IsCodeFrom query mol place) old.place code new.place n m
         (record {
@@ -274,8 +266,11 @@ module _ (query : QueryView) (mol : Molecule) (place : List ℕ) (old new : Code
     for_it = λ is. inl refl;
   }
 
--- what is kept, with one expansion behind it
-pub kept_more : (query : QueryView) (expansion : Expansion) (n : ℕ) (old new : List Expansion) → new ≡ drop n old ++ expansion ∷ [] → All (IsKept query) old
-    → IsKept query expansion → All (IsKept query) new
-kept_more query expansion n old new is all one =
-    subst (λ (list : List Expansion). All (IsKept query) list) (sym is) (All-push (IsKept query) (drop n old) expansion (All-drop (IsKept query) n old all) one)
+-- what is kept when an expansion was put behind the others, or couldn't be
+pub kept_more : (query : QueryView) (expansion : Expansion) (n : ℕ) (old room new : List Expansion) (ok : Bool) → room ≡ drop n old → new ≡ (if ok then room ++ expansion ∷ [] else room)
+    → All (IsKept query) old → IsKept query expansion → All (IsKept query) new
+kept_more query expansion n old room new true room_is is all one =
+    subst (λ (list : List Expansion). All (IsKept query) list) (sym (is ∙ ap (λ (list : List Expansion). list ++ expansion ∷ []) room_is))
+    (All-push (IsKept query) (drop n old) expansion (All-drop (IsKept query) n old all) one)
+kept_more query expansion n old room new false room_is is all one =
+    subst (λ (list : List Expansion). All (IsKept query) list) (sym (is ∙ room_is)) (All-drop (IsKept query) n old all)

@@ -1,32 +1,39 @@
 -- What is begun in the records of a shelf, one after another.
 --     begun_in, begun_key               what is begun in a record
 --     searched_none .. searched_all     what is begun in the records below a number
---     behind_open, none_last            what is found behind a record that was open
+--     ready_first, finds_in             a record is opened, and what is found in it
+--     behind_open, none_last            what is found behind it
+--     standing_from .. standing_ended   where a search stands
 --     ok_same                           what holds of an answer, in other words
-use Rattle.std.proofs.Common.{◌≡◌, ℕ, ◌+◌, ◌≤◌, inl, inr, Bool, false, List, [], ◌∷◌, ◌++◌, map, Option, Some, None, Result, Ok, Err, refl, sym, ap, subst, ◌∙◌, arith}
-use Rattle.std.specs.Prelude.{IfOk}
+use Rattle.std.proofs.Common.{◌≡◌, ℕ, ◌+◌, ◌≤◌, inl, inr, Bool, true, false, List, [], ◌∷◌, ◌++◌, map, Option, Some, None, Result, Ok, Err, refl, sym, ap, subst, ◌∙◌, arith}
+use Rattle.std.specs.Prelude.{IfOk, IfSome}
 use Rattle.std.proofs.lemmas.List.{length-map}
-use Rattle.mk_text.specs.Rising.{IsBelow}
+use Rattle.mk_text.specs.Rising.{IsBelow, IsLeastFrom}
 use Rattle.mk_text.proofs.ForCallers.{holds_append, holds_before_map, holds_mapped, not_below_itself, rises_mapped}
+use Rattle.mk_model.specs.Keys.{IsKey}
 use Rattle.mk_model.specs.Molecules.{Molecule}
 use Rattle.mk_model.specs.Queries.{QueryView}
+use Rattle.mk_model.specs.Screens.{IsScreenOf}
+use Rattle.mk_model.specs.declared.screen.Screen.{Screen}
 use Rattle.mk_model.proofs.ForCallers.{not_below_through}
 use Rattle.mk_rows.specs.declared.by_number.Numbered.{Numbered}
 use Rattle.mk_rows.specs.Rows.{NoneFrom}
 use Rattle.mk_choice.specs.Codes.{CodesLeft}
 use Rattle.mk_search.specs.declared.occurrences.Open.{Open}
-use Rattle.mk_search.specs.declared.stages.Found.{Found}
+use Rattle.mk_search.specs.declared.occurrences.Occurrences.{Occurrences}
+use Rattle.mk_search.specs.declared.stages.Row.{Row}
+use Rattle.mk_search.specs.declared.stages.Stage.TheVariants.{From, In, Ended}
 use Rattle.mk_search.specs.Begins.{IsLeftBy}
 use Rattle.mk_search.specs.Begun.{Begun, IsPairLeft}
 use Rattle.mk_search.specs.Levels.{AtFronts}
-use Rattle.mk_search.specs.Starts.{rest_in}
-use Rattle.mk_search.specs.Occurrences.{IsBegunFor, IsCodeFrom, is_open}
+use Rattle.mk_search.specs.Starts.{first_number, rest_in}
+use Rattle.mk_search.specs.Occurrences.{BelongsTo, IsBegunFor, IsCodeFrom, Leaves, TakesNext, given, is_open}
 use Rattle.mk_search.specs.Pages.{IsHeldIn}
-use Rattle.mk_search.specs.Records.{NoRecord}
-use Rattle.mk_search.specs.Stages.{Finds, FindsKey, FindsNoKey, FindsNone, IsBegunKey, IsRecord, OccursIn, pairs_from}
+use Rattle.mk_search.specs.Records.{IsNeedOfAll, IsNextRecord, NoRecord}
+use Rattle.mk_search.specs.Stages.{Finds, FindsIn, FindsKey, FindsNoKey, FindsNone, IsBegunKey, IsReadyIn, IsRecord, IsStanding, OccursIn}
 use Rattle.mk_search.proofs.BegunLemmas.{begun_append, begun_none}
 use Rattle.mk_search.proofs.StartsLemmas.{behind_same}
-use Rattle.mk_search.proofs.StagesLemmas.{at_next, behind_number, no_key, no_record_held}
+use Rattle.mk_search.proofs.StagesLemmas.{at_first, at_next, behind_number, found_at, found_key, found_none, no_key, no_record_held, number_from, ready_in, rest_same}
 
 -- ---- what is begun
 
@@ -138,15 +145,14 @@ module _ (rows : List (Numbered Molecule)) (query : QueryView) (place start : Li
         later (inr g) = omega (arith, g.0)
 
     -- a key is found in the next
-    pub searched_found : (n : ℕ) (from : List ℕ) (after : ℕ) (found : Found) → next ≤ n → FindsKey rows query place (n ∷ from) false now after found
-        → FindsKey rows query place start false before after found
+    pub searched_found : (n : ℕ) (from : List ℕ) (after : ℕ) (all : Occurrences) (row : Row) → next ≤ n → FindsKey rows query place (n ∷ from) false now after all row
+        → FindsKey rows query place start false before after all row
     unfolding begun_append
-    searched_found n from after found up f = record {
+    searched_found n from after all row up f = record {
       least = f.least;
-      behind = f.behind;
       ready = f.ready;
-      begun = begun_append (IsPairLeft rows query place) start h.to (n ∷ from) (pairs_from found.stage) before now after h.begun (record_up n from up) f.begun;
-      taken = begun_later (n ∷ from) start (pairs_from found.stage) h.begun.begun f.begun.begun found.key.items f.taken false;
+      begun = begun_append (IsPairLeft rows query place) start h.to (n ∷ from) (row.number ∷ all.codes.place) before now after h.begun (record_up n from up) f.begun;
+      taken = begun_later (n ∷ from) start (row.number ∷ all.codes.place) h.begun.begun f.begun.begun (row.number ∷ all.numbers.items) f.taken false;
     }
 
     -- no record is left
@@ -157,26 +163,76 @@ module _ (rows : List (Numbered Molecule)) (query : QueryView) (place start : Li
       begun = h.begun;
     }
 
+-- ---- a record that is open
+
+-- what belongs to a query belongs to its own
+pub belongs_itself : (query : QueryView) (all : Occurrences) → BelongsTo query all → BelongsTo all.query.now all
+belongs_itself query all belongs = subst (λ (q : QueryView). BelongsTo q all) (sym belongs.query_is) belongs
+
+-- a record is opened
+pub ready_first : (rows : List (Numbered Molecule)) (query : QueryView) (place : List ℕ) (next : ℕ) → AtFronts (IsRecord rows) (OccursIn rows query) place (next ∷ []) → (row : Row)
+    → IsHeldIn rows row.number row.mol.now → IsScreenOf row.mol.now row.screen.now → IsNextRecord rows query next row.number → (all : Occurrences)
+    → Leaves query row.mol.now (rest_in place row.number) all.codes all.open → IsReadyIn rows query place row all
+ready_first rows query place next at row held shows is all left = record {
+  held = held;
+  shows = shows;
+  left = left;
+  at = ready_in rows query row.number row.mol.now held place next at is;
+  from = at.fronts (row.number ∷ []) (record { number = row.number; mol = row.mol.now; held = held; is = refl }) (number_from next row.number is.not_below);
+}
+
+module _ (rows : List (Numbered Molecule)) (query : QueryView) (place : List ℕ) (row : Row) (old new : Occurrences) (before after : ℕ) (ready : IsReadyIn rows query place row old) where
+  finds_none : TakesNext query row.mol.now (rest_in place row.number) old.codes old.open new.codes new.open before after None
+      → FindsNone rows query place row.number (row.number ∷ old.codes.place) before after
+  finds_none t = record {
+    at = found_none rows query row.number row.mol.now ready.held place ready.at t.least;
+    to = new.codes.place;
+    begun = begun_in rows query row.number row.mol.now ready.held place ready.from old.codes.place new.codes.place before after t.begun;
+  }
+
+  finds_key : TakesNext query row.mol.now (rest_in place row.number) old.codes old.open new.codes new.open before after (Some new.numbers.items)
+      → FindsKey rows query place (row.number ∷ old.codes.place) (is_open old.open) before after new row
+  unfolding begun_in
+  finds_key t =
+      let numbers = new.numbers.items in
+      record {
+        least = found_key rows query row.number row.mol.now ready.held place ready.at numbers t.least;
+        ready = record {
+          held = ready.held;
+          shows = ready.shows;
+          left = subst (λ (zs : List ℕ). Leaves query row.mol.now zs new.codes new.open) (sym (rest_same row.number (numbers ++ 0 ∷ []))) (t.left numbers refl);
+          at = found_at rows query row.number row.mol.now ready.held numbers;
+          from = inr (numbers ++ 0 ∷ [], refl);
+        };
+        begun = begun_in rows query row.number row.mol.now ready.held place ready.from old.codes.place new.codes.place before after t.begun;
+        taken = begun_key row.number old.codes old.open new.codes t.begun.begun numbers (t.taken numbers refl);
+      }
+
+  -- what is found in it next
+  pub finds_in : (more : Bool) → TakesNext query row.mol.now (rest_in place row.number) old.codes old.open new.codes new.open before after (given more new.numbers.items)
+      → FindsIn rows query place (row.number ∷ old.codes.place) (is_open old.open) before after new row more
+  finds_in true t = finds_key t
+  finds_in false t = finds_none t
+
 -- the number behind a record isn't below what was begun in it
 next_up : (n : ℕ) (to : List ℕ) → IsBelow ((n + 1) ∷ []) (n ∷ to) → ⊥
 next_up n to (inl less) = omega (arith, less)
 next_up n to (inr g) = omega (arith, g.0)
 
 -- what is found behind a record that was open
-pub behind_open : (rows : List (Numbered Molecule)) (query : QueryView) (place : List ℕ) (n : ℕ) (from : List ℕ) (opened : Bool) (before now after : ℕ) (found : Option Found)
-    → FindsNone rows query place n from before now → Finds rows query place ((n + 1) ∷ []) false now after found → Finds rows query place from opened before after found
+pub behind_open : (rows : List (Numbered Molecule)) (query : QueryView) (place : List ℕ) (n : ℕ) (from : List ℕ) (opened : Bool) (before now after : ℕ) (all : Occurrences) (found : Option Row)
+    → FindsNone rows query place n from before now → Finds rows query place ((n + 1) ∷ []) false now after all found → Finds rows query place from opened before after all found
 unfolding begun_append
-behind_open rows query place n from opened before now after None f k = record {
+behind_open rows query place n from opened before now after all None f k = record {
   none = k.none;
   to = k.to;
   begun = begun_append (IsPairLeft rows query place) from (n ∷ f.to) ((n + 1) ∷ []) k.to before now after f.begun (next_up n f.to) k.begun;
 }
-behind_open rows query place n from opened before now after (Some found) f k = record {
+behind_open rows query place n from opened before now after all (Some row) f k = record {
   least = k.least;
-  behind = k.behind;
   ready = k.ready;
-  begun = begun_append (IsPairLeft rows query place) from (n ∷ f.to) ((n + 1) ∷ []) (pairs_from found.stage) before now after f.begun (next_up n f.to) k.begun;
-  taken = begun_later ((n + 1) ∷ []) from (pairs_from found.stage) f.begun.begun k.begun.begun found.key.items k.taken opened;
+  begun = begun_append (IsPairLeft rows query place) from (n ∷ f.to) ((n + 1) ∷ []) (row.number ∷ all.codes.place) before now after f.begun (next_up n f.to) k.begun;
+  taken = begun_later ((n + 1) ∷ []) from (row.number ∷ all.codes.place) f.begun.begun k.begun.begun (row.number ∷ all.numbers.items) k.taken opened;
 }
 
 -- no record is behind it
@@ -187,6 +243,30 @@ none_last rows query place n from before now f none = record {
   to = n ∷ f.to;
   begun = f.begun;
 }
+
+-- ---- where a search stands
+
+module _ (rows : List (Numbered Molecule)) (place : List ℕ) (need : Option Screen) (query : QueryView) (all : Occurrences) (belongs : BelongsTo query all)
+    (need_is : IfSome need (IsNeedOfAll query)) where
+  own_need : IfSome need (IsNeedOfAll all.query.now)
+  own_need = subst (λ (q : QueryView). IfSome need (IsNeedOfAll q)) (sym belongs.query_is) need_is
+
+  pub standing_from : (first : ℕ) → first ≡ first_number place → IsStanding rows place need (From first) all
+  standing_from first is = record { belongs = belongs_itself query all belongs; need_is = own_need; ready = rw is (at_first rows all.query.now place) }
+
+  pub standing_in : (row : Row) → IsReadyIn rows query place row all → IsStanding rows place need (In row) all
+  standing_in row ready = record {
+    belongs = belongs_itself query all belongs;
+    need_is = own_need;
+    ready = subst (λ (q : QueryView). IsReadyIn rows q place row all) (sym belongs.query_is) ready;
+  }
+
+  pub standing_ended : IsLeastFrom place (IsKey (IsHeldIn rows) query) None → IsStanding rows place need Ended all
+  standing_ended none = record {
+    belongs = belongs_itself query all belongs;
+    need_is = own_need;
+    ready = subst (λ (q : QueryView). IsLeastFrom place (IsKey (IsHeldIn rows) q) None) (sym belongs.query_is) none;
+  }
 
 -- what holds of an answer, in other words
 pub ok_same : {A E : Type 0} (r : Result A E) (P Q : A → Type 0) → ((x : A) → P x → Q x) → IfOk r P → IfOk r Q

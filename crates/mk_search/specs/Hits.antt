@@ -5,12 +5,14 @@
 --     IsSameSearch old new            the rows and the query stay
 --     IsNextKey old new .. key        the least key that is left is taken, and the place is behind
 --                                     it; or there is none
-use Rattle.std.specs.Prelude.{◌≡◌, ◌⊎◌, ℕ, List, [], ◌∷◌, ◌++◌, Option, Some, None}
+--     IsPassed old new above          what is left of a record is passed over
+use Rattle.std.specs.Prelude.{◌≡◌, ◌⊎◌, ◌+◌, ℕ, Bool, true, false, List, [], ◌∷◌, ◌++◌, Option, Some, None}
 use Rattle.mk_text.specs.Rising.{Holds, IsLeast, IsLeastFrom}
 use Rattle.mk_model.specs.Keys.{IsKey}
 use Rattle.mk_model.specs.Molecules.{Molecule}
 use Rattle.mk_model.specs.Queries.{QueryView}
 use Rattle.mk_rows.specs.declared.by_number.Numbered.{Numbered}
+use Rattle.mk_rows.specs.Rows.{NoneFrom}
 use Rattle.mk_search.specs.Begun.{Begun, IsPairLeft}
 use Rattle.mk_search.specs.Starts.{first_number}
 use Rattle.mk_search.specs.Pages.{IsHeldIn}
@@ -66,3 +68,18 @@ pub record TakesNone (old new : HitsLeft) (before after : ℕ) : Type 0 where
 abbrev pub IsNextKey : HitsLeft → HitsLeft → ℕ → ℕ → Option (List ℕ) → Type 0
 IsNextKey old new before after None = TakesNone old new before after
 IsNextKey old new before after (Some key) = TakesKey old new before after key
+
+-- ---- the rest of a record
+
+-- The place is the number above the one with which it began: so the keys that are left are those of
+-- the records above. No matcher is begun.
+pub record GoesUp (old new : HitsLeft) : Type 0 where
+  pub same : IsSameSearch old new
+  pub place : new.place ≡ (first_number old.place + 1) ∷ []
+  pub from : new.from ≡ (first_number old.place + 1) ∷ []
+
+-- the record with which the place begins is passed over, where a record above it is held; where none
+-- is, nothing changes
+abbrev pub IsPassed : HitsLeft → HitsLeft → Bool → Type 0
+IsPassed old new true = GoesUp old new
+IsPassed old new false = (new ≡ old) × NoneFrom (first_number old.place + 1) old.rows

@@ -1,11 +1,14 @@
 -- For the code: what is left of the occurrences of a query in one molecule, from a place on.
 --     HitsBehind query mol code hit   the hit is one of the expansion by the code
 --     IsCodeFrom query mol place code      a code whose need is covered, from the place on
+--     IsOpenOf query open             what is kept of the code that is open
 --     Leaves query mol place codes open    what isn't below the place is to come
+--     BelongsTo query all             all that is kept is of the query
+--     given more numbers              the numbers that were found, where some were
 --     IsTakenHere .. found            the next one of the code that is open, or there is none
 --     IsOpened .. more                the next code is passed, or there is none
 --     TakesNext .. found              the next occurrence is taken, or there is none
-use Rattle.std.specs.Prelude.{◌≡◌, ◌⊎◌, ℕ, Bool, true, false, List, [], ◌∷◌, ◌++◌, Option, Some, None}
+use Rattle.std.specs.Prelude.{◌≡◌, ◌⊎◌, ℕ, Bool, true, false, List, [], ◌∷◌, ◌++◌, Option, Some, None, All}
 use Rattle.mk_text.specs.Rising.{Holds, IsLeast, IsLeastFrom}
 use Rattle.mk_model.specs.Expansions.{IsExpansion}
 use Rattle.mk_model.specs.Graphs.{GraphView}
@@ -14,12 +17,12 @@ use Rattle.mk_model.specs.Keys.{IsOccurrence}
 use Rattle.mk_model.specs.Logic.{IsValid}
 use Rattle.mk_model.specs.Molecules.{Molecule}
 use Rattle.mk_model.specs.Queries.{QueryView}
-use Rattle.mk_model.specs.Screens.{IsNeedOf}
 use Rattle.mk_choice.specs.Codes.{CodesLeft}
-use Rattle.mk_match.specs.Asked.{AreAsked}
+use Rattle.mk_search.specs.declared.occurrences.Occurrences.{Occurrences}
 use Rattle.mk_search.specs.declared.occurrences.Open.{Open}
 use Rattle.mk_search.specs.Begins.{IsLeftBy}
 use Rattle.mk_search.specs.Begun.{Begun, IsCovered}
+use Rattle.mk_search.specs.Kept.{IsKept}
 use Rattle.mk_search.specs.Levels.{AtBacks, AtFronts}
 
 -- the hit is one of the expansion by the code in the molecule
@@ -35,13 +38,16 @@ pub record IsCodeFrom (query : QueryView) (mol : Molecule) (place code : List �
 
 -- ---- what is left
 
+-- what is kept of the code that is open is its expansion
+abbrev pub IsOpenOf : QueryView → Open → Type 0
+IsOpenOf query open' =
+    IsKept query (record { code = open'.code; graph = open'.maps.graph; asked = open'.asked; need = open'.need })
+
 -- a code is open: its hits are left from where the matcher stands, and then the later codes
 pub record LeavesOpen (query : QueryView) (mol : Molecule) (place : List ℕ) (codes : CodesLeft)
     (open' : Open) : Type 0 where
   pub placed : codes.place ≡ open'.code.items ++ 0 ∷ []
-  pub expanded : IsExpansion query open'.code.items open'.maps.graph
-  pub asked : AreAsked open'.maps.graph open'.asked
-  pub need : IsNeedOf open'.maps.graph open'.need
+  pub of : IsOpenOf query open'
   pub mol_is : open'.maps.mol ≡ mol
   pub at : AtBacks (IsValid query) (HitsBehind query mol) place open'.code.items open'.maps.place
 
@@ -55,12 +61,23 @@ pub record Leaves (query : QueryView) (mol : Molecule) (place : List ℕ) (codes
   pub query_is : codes.query ≡ query
   pub by : LeavesBy query mol place codes open'
 
+-- the codes and the expansions that are kept are of the query
+pub record BelongsTo (query : QueryView) (all : Occurrences) : Type 0 where
+  pub query_is : all.query.now ≡ query
+  pub codes_of : all.codes.query ≡ query
+  pub kept_are : All (IsKept query) all.kept.items
+
 -- a code is open
 abbrev pub is_open : Option Open → Bool
 is_open None = false
 is_open (Some open') = true
 
 -- ---- the next one
+
+-- the numbers that were found, where some were
+abbrev pub given : Bool → List ℕ → Option (List ℕ)
+given true numbers = Some numbers
+given false numbers = None
 
 -- the next occurrence of the open code
 pub record TakesHere (query : QueryView) (mol : Molecule) (place : List ℕ) (codes : CodesLeft)

@@ -1,13 +1,15 @@
 // Expansions, and those that are kept for the next record.
 ghost use Rattle.std.specs.Prelude.{◌≡◌, ◌<◌, ◌↔◌, ◌∷◌, ◌++◌, [], ℕ, false, All, IfNone, IfOk, IfSome, IsTrue, drop};
 ghost use Rattle.mk_model.specs.Codes.{IsCode};
-ghost use Rattle.mk_model.specs.Screens.{Covers, IsNeedOf};
+ghost use Rattle.mk_model.specs.Queries.{QueryView};
+ghost use Rattle.mk_model.specs.Screens.{Covers, IsNeedOf, IsScreenOf};
 ghost use Rattle.mk_match.specs.Asked.{AreAsked};
-ghost use Rattle.mk_search.specs.Kept.{HoldsNone, IsKept};
+ghost use Rattle.mk_match.specs.Counts.{HasNoHit};
+ghost use Rattle.mk_search.specs.Kept.{IsKept};
 
 use mk_expand::expand;
-use mk_match::{Asked, Counts, cannot_hold, counts_asked};
-use mk_model::{Graph, Memory, Query, Steps};
+use mk_match::{Asked, cannot_hold, counts_asked, counts_there};
+use mk_model::{Graph, Memory, Mol, Query, Steps};
 use mk_screen::{Screen, covers, need_of};
 use std::alloc::Global;
 use std::collections::VecDeque;
@@ -38,7 +40,7 @@ pub fn expansion_by(
 ) -> Result<Expansion, Memory>
     requires kept { All (IsKept query.now) kept.old.items }
     requires code { IsCode query.now 0 code.now }
-    ensures kept { IfOk result (λ _. All (IsKept query.now) kept.new.items) }
+    ensures kept { All (IsKept query.now) kept.new.items }
     ensures is { IfOk result (IsKept query.now) }
     ensures code { IfOk result (λ expansion. expansion.code.items ≡ code.now) }
 {
@@ -71,9 +73,9 @@ fn taken(code: &[u32], kept: &mut VecDeque<Expansion>) -> Option<Expansion>
     kept.pop_front()
 }
 
-/// Puts an expansion behind the others that are kept.
+/// Puts an expansion behind the others that are kept, where memory allows.
 pub fn keep(expansion: Expansion, kept: &mut VecDeque<Expansion>) -> Result<(), Memory>
-    ensures { IfOk result (λ _. (n : ℕ) × (kept.new.items ≡ drop n kept.old.items ++ expansion ∷ [])) }
+    ensures { (query : QueryView) → All (IsKept query) kept.old.items → IsKept query expansion → All (IsKept query) kept.new.items }
 {
     make_room(kept);
     kept.push_back(expansion)?;
@@ -94,16 +96,17 @@ fn make_room(kept: &mut VecDeque<Expansion>)
 
 /// Tells that a molecule's screen covers the need, and that it has enough atoms of each element.
 /// Where it says no there is no hit.
-pub fn may_hold(expansion: &Expansion, counts: &Counts, screen: &Screen) -> bool
+pub fn may_hold(expansion: &Expansion, mol: &Mol, screen: &Screen) -> bool
     requires asked { AreAsked expansion.now.graph expansion.now.asked }
     requires need { IsNeedOf expansion.now.graph expansion.now.need }
+    requires screen { IsScreenOf mol.now screen.now }
     ensures covers { IsTrue result → Covers screen.now expansion.now.need }
-    ensures none { result ≡ false → HoldsNone screen.now counts.now expansion.now.graph }
+    ensures none { result ≡ false → HasNoHit expansion.now.graph mol.now }
 {
     if !is_covered::<Brand>(screen, &expansion.need, Blank::new(1)) {
         return false;
     }
-    if cannot_hold(&expansion.asked, counts) {
+    if cannot_hold(&expansion.asked, &counts_there(mol)) {
         return false;
     }
     true

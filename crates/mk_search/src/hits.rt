@@ -1,9 +1,12 @@
 // The keys of a query on a shelf, one after another.
-use crate::expansions::Expansion;
-use crate::finding::next_key;
+ghost use Rattle.std.specs.Prelude.{◌≡◌, ◌∷◌, ◌++◌, [], IfOk};
+
+use crate::finding::{following, next_key};
 use crate::needs::need_of_all;
-use crate::stages::{Found, Stage};
+use crate::occurrences::Occurrences;
+use crate::stages::Stage;
 use crate::starts::first_number;
+use mk_choice::Codes;
 use mk_index::Shelf;
 use mk_model::{Key, Memory, Place, Query, Screen, Steps};
 use std::alloc::Global;
@@ -12,16 +15,17 @@ use std::marker::Model;
 use std::mem;
 use std::sync::ledger::Ledger;
 
-/// The keys of a query on a shelf from a place on. It holds the place, what all codes of the query
-/// need, the expansions that were made last, and where it stands.
+/// The keys of a query on a shelf from a place on. It holds what is left of the record that is open,
+/// what all codes of the query need, the place, and where it stands. The next place is written
+/// beside the place, into room that stays.
 #[derive(Debug, Drop)]
 pub struct Hits<'a> {
-    shelf: &'a Shelf,
-    query: &'a Query,
-    place: Vec<u32>,
+    all: Occurrences<'a>,
     need: Option<Screen>,
-    kept: VecDeque<Expansion>,
+    place: Vec<u32>,
+    beside: Vec<u32>,
     stage: Stage<'a>,
+    shelf: &'a Shelf,
 }
 
 impl<'a> Model for Hits<'a> {
@@ -30,14 +34,14 @@ impl<'a> Model for Hits<'a> {
 
     ghost Value = { HitsLeft };
 
-    ghost view = { λ h. record { rows = h.shelf.now.rows; query = h.query.now; place = h.place.items; from = pairs_from h.stage } };
+    ghost view = { λ h. record { rows = h.shelf.now.rows; query = h.all.query.now; place = h.place.items; from = pairs_from h.stage h.all } };
 
-    ghost invariant = { λ h. IsStanding h.shelf.now.rows h.query.now h.place.items h.need h.kept.items h.stage };
+    ghost invariant = { λ h. IsStanding h.shelf.now.rows h.place.items h.need h.stage h.all };
 }
 
 impl<'a> Hits<'a> {
-    ghost use Rattle.std.specs.Prelude.{◌≡◌, ◌≤◌, IfErr, IfOk};
-    ghost use Rattle.mk_search.specs.Hits.{HitsLeft, IsMadeFrom, IsNextKey, IsSameSearch};
+    ghost use Rattle.std.specs.Prelude.{◌≡◌, ◌≤◌, IfErr, IfOk, length};
+    ghost use Rattle.mk_search.specs.Hits.{HitsLeft, IsMadeFrom, IsNextKey, IsPassed, IsSameSearch};
 
     /// The keys that aren't below the place. No matcher is begun.
     pub fn from_place(
@@ -50,15 +54,22 @@ impl<'a> Hits<'a> {
     {
         let from = first_number(place);
         let own = Vec::from_slice(alloc, place)?;
+        let mut codes = Codes::from_place(alloc, query, &[])?;
         let mut kept = VecDeque::new(alloc);
-        let need = need_of_all(alloc, query, &mut kept)?;
+        let need = need_of_all(alloc, query, &mut codes, &mut kept)?;
         Ok(Hits {
-            shelf,
-            query,
-            place: own,
+            all: Occurrences {
+                codes,
+                open: None,
+                kept,
+                numbers: Vec::new(alloc),
+                query,
+            },
             need,
-            kept,
+            place: own,
+            beside: Vec::new(alloc),
             stage: Stage::From(from),
+            shelf,
         })
     }
 
@@ -81,28 +92,61 @@ impl<'a> Hits<'a> {
         ensures place { IfErr result (λ _. self.new.place ≡ self.old.place) }
         ensures steps { steps.old ≤ steps.new }
     {
-        // What may fail works on what is taken out: left behind is a search from the place on.
+        // While it works, and after what fails, a search from the place on is left.
         let first = first_number(&self.place);
         let stage = mem::replace(&mut self.stage, Stage::From(first));
-        let mut kept = mem::replace(&mut self.kept, VecDeque::new(alloc));
         let found = next_key(
             alloc,
             self.shelf,
-            self.query,
-            &self.place,
             &self.need,
+            &self.place,
             stage,
-            &mut kept,
+            &mut self.all,
             steps,
         )?;
-        self.kept = kept;
-        let Some(found) = found else {
+        let Some(row) = found else {
             self.stage = Stage::Ended;
             return Ok(None);
         };
-        let Found { key, behind, stage } = found;
-        self.place = behind;
-        self.stage = stage;
+        let key = key_of(alloc, row.number, &self.all.numbers)?;
+        put_behind(&mut self.beside, &key)?;
+        mem::swap(&mut self.place, &mut self.beside);
+        self.stage = Stage::In(row);
         Ok(Some(Key::of(key)))
     }
+
+    /// Passes over what is left of the record of the last key, and says whether a record above it is
+    /// held. It takes no memory and begins no matcher. Where none is held above, nothing changes.
+    pub fn pass_record(&mut self) -> bool
+        requires key { 1 ≤ length self.old.place }
+        ensures passed { IsPassed self.old self.new result }
+    {
+        let Some(above) = following(self.shelf, self.place[0]) else {
+            return false;
+        };
+        self.place.truncate(1);
+        self.place[0] = above;
+        self.stage = Stage::From(above);
+        true
+    }
+}
+
+// A record's number, and an occurrence behind it.
+fn key_of(alloc: Global, number: u32, numbers: &[u32]) -> Result<Vec<u32>, Memory>
+    ensures { IfOk result (λ key. key.items ≡ number ∷ numbers.now) }
+{
+    let mut key = Vec::with_capacity(alloc, numbers.len() + 1)?;
+    key.push(number)?;
+    key.extend_from_slice(numbers)?;
+    Ok(key)
+}
+
+// Puts the place behind a key.
+fn put_behind(place: &mut Vec<u32>, key: &[u32]) -> Result<(), Memory>
+    ensures { IfOk result (λ _. place.new.items ≡ key.now ++ 0 ∷ []) }
+{
+    place.clear();
+    place.extend_from_slice(key)?;
+    place.push(0)?;
+    Ok(())
 }

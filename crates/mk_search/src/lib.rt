@@ -6,10 +6,10 @@
 //! gives the least of them, and `least_key_of` is the plain program on one molecule.
 //!
 //! A page is a loop over `Hits`, which goes from record to record, from code to code and from hit to
-//! hit. The matcher of a code stays open from key to key; each code is looked for anew from the
-//! place behind the last, which takes no memory. The expansions that were made last are kept for the
-//! next record. A molecule isn't searched where its screen doesn't cover what an expansion needs, or
-//! where it has too few atoms of an element.
+//! hit. The matcher of a code stays open from key to key, and one `Codes` is rewound from record to
+//! record. The expansions that were made last are kept for the next record. A molecule isn't searched
+//! where its screen doesn't cover what an expansion needs, or where it has too few atoms of an
+//! element.
 //!
 //! How codes, expansions and hits are found is left to mk_choice, mk_expand and mk_match.
 #![tactic(auto)]

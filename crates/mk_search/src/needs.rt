@@ -1,5 +1,5 @@
 // What the expansions of all codes need of a screen.
-ghost use Rattle.std.specs.Prelude.{All, IfOk, IfSome};
+ghost use Rattle.std.specs.Prelude.{◌≡◌, [], All, IfOk, IfSome};
 ghost use Rattle.mk_model.specs.Screens.{Covers};
 ghost use Rattle.mk_screen.specs.Covering.{CoversBits, CoversCounts};
 ghost use Rattle.mk_search.specs.Kept.{IsKept};
@@ -18,15 +18,18 @@ const MOST_CODES: usize = 64;
 pub fn need_of_all(
     alloc: Global,
     query: &Query,
+    codes: &mut Codes<'_>,
     kept: &mut VecDeque<Expansion>,
 ) -> Result<Option<Screen>, Memory>
+    requires query { codes.old.query ≡ query.now }
+    requires first { codes.old.place ≡ [] }
     requires kept { All (IsKept query.now) kept.old.items }
+    ensures query { IfOk result (λ _. codes.new.query ≡ query.now) }
     ensures kept { IfOk result (λ _. All (IsKept query.now) kept.new.items) }
     ensures need { IfOk result (λ found. IfSome found (IsNeedOfAll query.now)) }
 {
     // The reader's clause says what every query keeps.
     let _kept = query.templates();
-    let mut codes = Codes::from_place(alloc, query, &[])?;
     let Some(code) = codes.next() else {
         return Ok(None);
     };

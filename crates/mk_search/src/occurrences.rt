@@ -1,15 +1,16 @@
-// The occurrences of a query in one molecule, one after another: codes, and behind each the hits of
-// its expansion.
-ghost use Rattle.std.specs.Prelude.{◌≡◌, ◌≤◌, ◌++◌, All, IfOk, None};
+// The occurrences of a query in one molecule after another: codes, and behind each the hits of its
+// expansion.
+ghost use Rattle.std.specs.Prelude.{◌≡◌, ◌≤◌, ◌++◌, ℕ, List, IfOk, IfSome, None};
+ghost use Rattle.mk_model.specs.Molecules.{Molecule};
 ghost use Rattle.mk_model.specs.Screens.{IsScreenOf};
-ghost use Rattle.mk_search.specs.Kept.{IsKept};
-ghost use Rattle.mk_search.specs.Occurrences.{IsOpened, IsTakenHere, Leaves, TakesNext};
+ghost use Rattle.mk_search.specs.Occurrences.{BelongsTo, IsOpened, IsOpenOf, IsTakenHere, Leaves, TakesNext, given};
 
 use crate::expansions::{Expansion, expansion_by, keep, may_hold};
+use crate::stages::Row;
 use crate::starts::{behind, start};
 use mk_choice::Codes;
-use mk_match::{Asked, Maps, counts_there};
-use mk_model::{Key, Memory, Mol, Query, Screen, Steps};
+use mk_match::{Asked, Maps};
+use mk_model::{Memory, Query, Screen, Steps};
 use std::alloc::Global;
 use std::collections::VecDeque;
 use std::mem;
@@ -24,92 +25,89 @@ pub struct Open<'a> {
     pub need: Screen,
 }
 
-/// The occurrences of a query in a molecule: the codes that are left, and the code that is open,
-/// where one is.
+/// The occurrences of a query in the molecule of a record: the codes that are left, and the code that
+/// is open, where one is. What serves the next record too is kept: expansions, and the room for the
+/// numbers that were found last.
 #[derive(Debug, Drop)]
 pub struct Occurrences<'a> {
     pub codes: Codes<'a>,
     pub open: Option<Open<'a>>,
-    pub screen: &'a Screen,
-    pub mol: &'a Mol,
+    pub kept: VecDeque<Expansion>,
+    pub numbers: Vec<u32>,
     pub query: &'a Query,
 }
 
 impl<'a> Occurrences<'a> {
-    /// Those that aren't below the place. No matcher is begun.
-    pub fn from_place(
-        alloc: Global,
-        query: &'a Query,
-        mol: &'a Mol,
-        screen: &'a Screen,
-        place: &[u32],
-    ) -> Result<Occurrences<'a>, Memory>
-        ensures left { IfOk result (λ all. Leaves query.now mol.now place.now all.codes all.open) }
-        ensures shut { IfOk result (λ all. all.open ≡ None) }
-        ensures screen { IfOk result (λ all. all.screen.now ≡ screen.now) }
-        ensures mol { IfOk result (λ all. all.mol.now ≡ mol.now) }
-        ensures query { IfOk result (λ all. all.query.now ≡ query.now) }
+    /// Goes to those that aren't below the place, in any molecule. No code is open.
+    pub fn restart(&mut self, place: &[u32]) -> Result<(), Memory>
+        requires { BelongsTo self.old.query.now self.old }
+        ensures left { IfOk result (λ _. (mol : Molecule) → Leaves self.old.query.now mol place.now self.new.codes self.new.open) }
+        ensures shut { IfOk result (λ _. self.new.open ≡ None) }
+        ensures belongs { BelongsTo self.old.query.now self.new }
     {
-        let codes = Codes::from_place(alloc, query, start(query, place))?;
-        Ok(Occurrences {
-            codes,
-            open: None,
-            screen,
-            mol,
-            query,
-        })
+        self.open = None;
+        self.codes.rewind(start(self.query, place))
     }
 
-    /// The next one from the place on, where there is one. It begins a matcher for each code that it
-    /// opens.
+    /// Finds the next one from the place on, where there is one. It begins a matcher for each code
+    /// that it opens.
     pub fn next<L: Ledger>(
         &mut self,
         alloc: Global,
+        row: Row<'a>,
         place: &[u32],
-        kept: &mut VecDeque<Expansion>,
         steps: &mut Steps<L>,
-    ) -> Result<Option<Key>, Memory>
-        requires left { Leaves self.old.query.now self.old.mol.now place.now self.old.codes self.old.open }
-        requires screen { IsScreenOf self.old.mol.now self.old.screen.now }
-        requires kept { All (IsKept self.old.query.now) kept.old.items }
-        ensures next { IfOk result (TakesNext self.old.query.now self.old.mol.now place.now self.old.codes self.old.open self.new.codes self.new.open steps.old steps.new) }
-        ensures kept { IfOk result (λ _. All (IsKept self.old.query.now) kept.new.items) }
-        ensures screen { self.new.screen.now ≡ self.old.screen.now }
-        ensures mol { self.new.mol.now ≡ self.old.mol.now }
-        ensures query { self.new.query.now ≡ self.old.query.now }
+    ) -> Result<bool, Memory>
+        requires belongs { BelongsTo self.old.query.now self.old }
+        requires left { Leaves self.old.query.now row.mol.now place.now self.old.codes self.old.open }
+        requires screen { IsScreenOf row.mol.now row.screen.now }
+        ensures next { IfOk result (λ more. TakesNext self.old.query.now row.entry.mol.now place.now self.old.codes self.old.open self.new.codes self.new.open steps.old steps.new (given more self.new.numbers.items)) }
+        ensures belongs { BelongsTo self.old.query.now self.new }
         ensures steps { steps.old ≤ steps.new }
     {
         // The reader's clause says what every query keeps.
         let _fits = self.query.templates();
-        if let Some(numbers) = self.next_here(alloc, place, kept)? {
-            return Ok(Some(numbers));
+        if self.next_here()? {
+            return Ok(true);
         }
-        while self.open_next(alloc, place, kept, steps)? {
-            if let Some(numbers) = self.next_here(alloc, place, kept)? {
-                return Ok(Some(numbers));
+        while self.open_next(alloc, row, place, steps)? {
+            if self.next_here()? {
+                return Ok(true);
             }
         }
-        Ok(None)
+        Ok(false)
     }
 
     // The next one of the code that is open. Where there is none, none is open any more.
-    fn next_here(
-        &mut self,
-        alloc: Global,
-        place: &[u32],
-        kept: &mut VecDeque<Expansion>,
-    ) -> Result<Option<Key>, Memory>
-        requires left { Leaves self.old.query.now self.old.mol.now place.now self.old.codes self.old.open }
-        requires kept { All (IsKept self.old.query.now) kept.old.items }
-        ensures here { IfOk result (IsTakenHere self.old.query.now self.old.mol.now place.now self.old.codes self.old.open self.new.open) }
-        ensures kept { IfOk result (λ _. All (IsKept self.old.query.now) kept.new.items) }
+    fn next_here(&mut self) -> Result<bool, Memory>
+        requires belongs { BelongsTo self.old.query.now self.old }
+        requires of { IfSome self.old.open (IsOpenOf self.old.query.now) }
+        ensures here { IfOk result (λ more. (mol : Molecule) (place : List ℕ) → Leaves self.old.query.now mol place self.old.codes self.old.open
+            → IsTakenHere self.old.query.now mol place self.old.codes self.old.open self.new.open (given more self.new.numbers.items)) }
         ensures codes { self.new.codes ≡ self.old.codes }
-        ensures screen { self.new.screen.now ≡ self.old.screen.now }
-        ensures mol { self.new.mol.now ≡ self.old.mol.now }
-        ensures query { self.new.query.now ≡ self.old.query.now }
+        ensures belongs { BelongsTo self.old.query.now self.new }
+    {
+        let Some(open) = &mut self.open else {
+            return Ok(false);
+        };
+        let Some(hit) = open.maps.next() else {
+            self.close()?;
+            return Ok(false);
+        };
+        put_joined(&mut self.numbers, &open.code, hit)?;
+        Ok(true)
+    }
+
+    // Keeps the expansion of the code that was open. None is open any more.
+    fn close(&mut self) -> Result<(), Memory>
+        requires belongs { BelongsTo self.old.query.now self.old }
+        requires of { IfSome self.old.open (IsOpenOf self.old.query.now) }
+        ensures shut { self.new.open ≡ None }
+        ensures codes { self.new.codes ≡ self.old.codes }
+        ensures belongs { BelongsTo self.old.query.now self.new }
     {
         let Some(open) = mem::replace(&mut self.open, None) else {
-            return Ok(None);
+            return Ok(());
         };
         let Open {
             maps,
@@ -117,55 +115,38 @@ impl<'a> Occurrences<'a> {
             asked,
             need,
         } = open;
-        let mut maps = maps;
-        let Some(hit) = maps.next() else {
-            let graph = maps.into_graph();
-            let expansion = Expansion {
-                code,
-                graph,
-                asked,
-                need,
-            };
-            keep(expansion, kept)?;
-            return Ok(None);
-        };
-        let numbers = joined(alloc, &code, hit)?;
-        self.open = Some(Open {
-            maps,
+        let expansion = Expansion {
             code,
+            graph: maps.into_graph(),
             asked,
             need,
-        });
-        Ok(Some(numbers))
+        };
+        keep(expansion, &mut self.kept)
     }
 
     // Passes to the next code, where there is one, and opens it where the molecule may hold it.
     fn open_next<L: Ledger>(
         &mut self,
         alloc: Global,
+        row: Row<'a>,
         place: &[u32],
-        kept: &mut VecDeque<Expansion>,
         steps: &mut Steps<L>,
     ) -> Result<bool, Memory>
-        requires left { Leaves self.old.query.now self.old.mol.now place.now self.old.codes self.old.open }
+        requires belongs { BelongsTo self.old.query.now self.old }
+        requires left { Leaves self.old.query.now row.mol.now place.now self.old.codes self.old.open }
         requires shut { self.old.open ≡ None }
-        requires screen { IsScreenOf self.old.mol.now self.old.screen.now }
-        requires kept { All (IsKept self.old.query.now) kept.old.items }
-        ensures opened { IfOk result (IsOpened self.old.query.now self.old.mol.now place.now self.old.codes self.new.codes self.new.open steps.old steps.new) }
-        ensures kept { IfOk result (λ _. All (IsKept self.old.query.now) kept.new.items) }
-        ensures screen { self.new.screen.now ≡ self.old.screen.now }
-        ensures mol { self.new.mol.now ≡ self.old.mol.now }
-        ensures query { self.new.query.now ≡ self.old.query.now }
+        requires screen { IsScreenOf row.mol.now row.screen.now }
+        ensures opened { IfOk result (IsOpened self.old.query.now row.entry.mol.now place.now self.old.codes self.new.codes self.new.open steps.old steps.new) }
+        ensures belongs { BelongsTo self.old.query.now self.new }
         ensures steps { steps.old ≤ steps.new }
     {
         let Some(code) = self.codes.next() else {
             return Ok(false);
         };
         let back = behind(code, place);
-        let expansion = expansion_by(alloc, self.query, code, kept)?;
-        let counts = counts_there(self.mol);
-        if !may_hold(&expansion, &counts, self.screen) {
-            keep(expansion, kept)?;
+        let expansion = expansion_by(alloc, self.query, code, &mut self.kept)?;
+        if !may_hold(&expansion, row.mol, row.screen) {
+            keep(expansion, &mut self.kept)?;
             return Ok(true);
         }
         let Expansion {
@@ -174,7 +155,7 @@ impl<'a> Occurrences<'a> {
             asked,
             need,
         } = expansion;
-        let maps = Maps::from_place(alloc, graph, self.mol, back, steps)?;
+        let maps = Maps::from_place(alloc, graph, row.mol, back, steps)?;
         self.open = Some(Open {
             maps,
             code,
@@ -185,12 +166,12 @@ impl<'a> Occurrences<'a> {
     }
 }
 
-// Numbers, and others behind them.
-fn joined(alloc: Global, front: &[u32], back: &[u32]) -> Result<Key, Memory>
-    ensures { IfOk result (λ numbers. numbers ≡ front.now ++ back.now) }
+// Puts numbers, and others behind them.
+fn put_joined(numbers: &mut Vec<u32>, front: &[u32], back: &[u32]) -> Result<(), Memory>
+    ensures { IfOk result (λ _. numbers.new.items ≡ front.now ++ back.now) }
 {
-    let mut numbers = Vec::with_capacity(alloc, front.len() + back.len())?;
+    numbers.clear();
     numbers.extend_from_slice(front)?;
     numbers.extend_from_slice(back)?;
-    Ok(Key::of(numbers))
+    Ok(())
 }

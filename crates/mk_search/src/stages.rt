@@ -1,19 +1,19 @@
 // Where a search of a shelf stands.
-use crate::occurrences::Occurrences;
+use mk_model::{Mol, Screen};
+
+/// A row of the shelf: the number of a record, with its molecule and screen.
+#[derive(Clone, Copy, Debug)]
+pub struct Row<'a> {
+    pub number: u32,
+    pub mol: &'a Mol,
+    pub screen: &'a Screen,
+}
 
 /// No record is open, and those from a number on are to come; a record is open; or nothing is to
 /// come.
-#[derive(Debug, Drop)]
+#[derive(Clone, Copy, Debug)]
 pub enum Stage<'a> {
     From(u32),
-    In(u32, Occurrences<'a>),
+    In(Row<'a>),
     Ended,
-}
-
-/// A key that is found, the place behind it, and where the search stands then.
-#[derive(Debug, Drop)]
-pub struct Found<'a> {
-    pub key: Vec<u32>,
-    pub behind: Vec<u32>,
-    pub stage: Stage<'a>,
 }

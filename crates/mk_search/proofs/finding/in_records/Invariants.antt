@@ -1,12 +1,12 @@
-use Rattle.std.proofs.Common.{◌∷◌, [], ◌-◌, ◌≤◌, All}
-use Rattle.mk_search.specs.Kept.{IsKept}
+use Rattle.std.proofs.Common.{◌∷◌, [], ◌-◌, ◌≤◌}
+use Rattle.mk_search.specs.Occurrences.{BelongsTo}
 use Rattle.mk_search.proofs.SearchedLemmas.{HasSearched}
 use Rattle.mk_search.proofs.finding.in_records.Given as goal
 
 abbrev pub invariant-records : goal.invariant-records
 invariant-records g l = record {
-  searched : HasSearched l.shelf.rows l.query l.place (l.fn.from ∷ []) l.next l.fn.steps l.steps;
-  kept : All (IsKept l.query) l.kept.items;
+  searched : HasSearched l.shelf.rows l.fn.all.query.now l.place (l.fn.from ∷ []) l.next l.fn.steps l.steps;
+  belongs : BelongsTo l.fn.all.query.now l.all;
   steps : l.fn.steps ≤ l.steps;
 }
 

@@ -1,10 +1,8 @@
-use Rattle.std.proofs.Common.{◌∙◌, [], ℕ, List, None, drop, sym, subst}
-use Rattle.std.proofs.lemmas.List.Elements.{All-drop, All-push}
+use Rattle.std.proofs.Common.{◌∙◌, [], ℕ, List, None, sym, subst}
 use Rattle.mk_text.specs.Rising.{IsLeast, IsLeastFrom}
 use Rattle.mk_model.specs.Expansions.{IsExpansion}
 use Rattle.mk_model.specs.Logic.{IsValid}
 use Rattle.mk_model.specs.Queries.{QueryView}
-use Rattle.mk_search.specs.Kept.{IsKept}
 use Rattle.mk_search.proofs.NeedsLemmas.{IsNeedBelow, need_all, need_first, need_more}
 use Rattle.mk_search.proofs.needs.need_of_all.Goals as goal
 
@@ -13,17 +11,14 @@ loop-init c =
     let query = c.args.query.now in
     let expansion = c.in_ok-expansion.expansion in
     let code = c.in-Some.code.now in
-    let made = c.in_ok-codes.ensures.left in
-    let next = rw (c.in-Some.is, made.place_is) at c.next.follows.holds-at-none in
-    let least : IsLeast [] (IsValid query) code = subst (λ (q : QueryView). IsLeast [] (IsValid q) code) made.query_is next.least in
+    let next = rw (c.in-Some.is, c.requires.first) at c.next.follows.holds-at-none in
+    let least : IsLeast [] (IsValid query) code = subst (λ (q : QueryView). IsLeast [] (IsValid q) code) c.requires.query next.least in
     let is = c.in_ok-expansion.ensures.is in
     let expanded : IsExpansion query code expansion.graph = subst (λ (zs : List ℕ). IsExpansion query zs expansion.graph) c.in_ok-expansion.ensures.code is.is in
-    let n = c.in_ok-keep.ensures.0 in
-    let kept = All-push (IsKept query) (drop n c.expansion_by.new.kept.items) expansion (All-drop (IsKept query) n c.expansion_by.new.kept.items c.in_ok-expansion.ensures.kept) is in
     record {
       below = subst (λ (place : List ℕ). IsNeedBelow query place expansion.need) (sym next.place) (need_first query code expansion.graph expansion.need least expanded is.need);
-      query = next.query ∙ made.query_is;
-      kept = rw c.in_ok-keep.ensures.1 kept;
+      query = next.query ∙ c.requires.query;
+      kept = c.in_ok-keep.ensures query c.in_ok-expansion.ensures.kept is;
     }
 
 pub returns-in_default-next-clause-need : goal.returns-in_default-next-clause-need
@@ -43,12 +38,10 @@ loop-preserved c =
     let least : IsLeast c.loop.codes.place (IsValid query) code = subst (λ (q : QueryView). IsLeast c.loop.codes.place (IsValid q) code) invariant.query next.least in
     let is = c.in_ok-expansion-2.ensures.is in
     let expanded : IsExpansion query code expansion.graph = subst (λ (zs : List ℕ). IsExpansion query zs expansion.graph) c.in_ok-expansion-2.ensures.code is.is in
-    let n = c.in_ok-keep-2.ensures.0 in
-    let kept = All-push (IsKept query) (drop n c.expansion_by-in-loop.new.kept.items) expansion (All-drop (IsKept query) n c.expansion_by-in-loop.new.kept.items c.in_ok-expansion-2.ensures.kept) is in
     let both = c.meet-need.ensures in
     record {
       below = subst (λ (place : List ℕ). IsNeedBelow query place c.meet-need.result) (sym next.place)
           (need_more query c.loop.codes.place code expansion.graph c.loop.need expansion.need c.meet-need.result least expanded is.need both.first both.second invariant.below);
       query = next.query ∙ invariant.query;
-      kept = rw c.in_ok-keep-2.ensures.1 kept;
+      kept = c.in_ok-keep-2.ensures query c.in_ok-expansion-2.ensures.kept is;
     }

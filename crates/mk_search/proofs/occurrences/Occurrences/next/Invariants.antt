@@ -1,16 +1,13 @@
-use Rattle.std.proofs.Common.{◌≡◌, ◌≤◌, All}
+use Rattle.std.proofs.Common.{◌≤◌}
 use Rattle.mk_choice.proofs.ForCallers.{codes_left}
-use Rattle.mk_search.specs.Kept.{IsKept}
+use Rattle.mk_search.specs.Occurrences.{BelongsTo}
 use Rattle.mk_search.proofs.NextLemmas.{HasOpened}
 use Rattle.mk_search.proofs.occurrences.Occurrences.next.Given as goal
 
 abbrev pub invariant-loop-self : goal.invariant-loop-self
 invariant-loop-self g l = record {
-  opened : HasOpened l.fn.self.query.now l.fn.self.mol.now l.place l.fn.self.codes.place l.self.codes l.self.open l.fn.steps l.steps;
-  query : l.self.query.now ≡ l.fn.self.query.now;
-  mol : l.self.mol.now ≡ l.fn.self.mol.now;
-  screen : l.self.screen.now ≡ l.fn.self.screen.now;
-  kept : All (IsKept l.fn.self.query.now) l.kept.items;
+  opened : HasOpened l.fn.self.query.now l.row.mol.now l.place l.fn.self.codes.place l.self.codes l.self.open l.fn.steps l.steps;
+  belongs : BelongsTo l.fn.self.query.now l.self;
   steps : l.fn.steps ≤ l.steps;
 }
 

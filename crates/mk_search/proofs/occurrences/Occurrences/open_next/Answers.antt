@@ -1,8 +1,8 @@
-use Rattle.std.proofs.Common.{None, refl, subst}
+use Rattle.std.proofs.Common.{◌∙◌, None, refl, subst}
 use Rattle.mk_text.specs.Rising.{IsLeastFrom}
 use Rattle.mk_model.specs.Logic.{IsValid}
 use Rattle.mk_model.specs.Queries.{QueryView}
-use Rattle.mk_search.proofs.OpenLemmas.{kept_more, none_left, opened_at, passed_at}
+use Rattle.mk_search.proofs.OpenLemmas.{none_left, opened_at, passed_at}
 use Rattle.mk_search.proofs.occurrences.Occurrences.open_next.Goals as goal
 
 pub returns-in_default-clause-opened : goal.returns-in_default-clause-opened
@@ -10,25 +10,36 @@ returns-in_default-clause-opened g c =
     let self = c.args.self.now in
     let next = rw c.in_default.is at c.next.follows.holds-at-none in
     let none : IsLeastFrom self.codes.place (IsValid self.query.now) None = subst (λ (q : QueryView). IsLeastFrom self.codes.place (IsValid q) None) c.requires.left.query_is next.0 in
-    (none_left self.query.now self.mol.now c.args.place.now self.codes.place (rw c.requires.shut at c.requires.left.by) none, refl, next.1)
+    (none_left self.query.now c.args.row.mol.now c.args.place.now self.codes.place (rw c.requires.shut at c.requires.left.by) none, refl, next.1)
 
 pub returns-then-not-may_hold-clause-opened : goal.returns-then-not-may_hold-clause-opened
 returns-then-not-may_hold-clause-opened g c =
     let self = c.args.self.now in
     let next = rw c.in-Some.is at c.next.follows.holds-at-none in
-    passed_at self.query.now self.mol.now c.args.place.now self.codes c.next.follows.lender-at-none self.open c.requires.left c.requires.shut c.in-Some.code.now next
-    c.in_ok-expansion.expansion c.in_ok-expansion.ensures.code c.in_ok-expansion.ensures.is c.args.steps.now
-    (c.if-not-may_hold.ensures.none refl self.mol.now c.requires.screen c.counts_there-counts.ensures)
-
-pub returns-then-not-may_hold-clause-kept : goal.returns-then-not-may_hold-clause-kept
-returns-then-not-may_hold-clause-kept g c =
-    kept_more c.args.self.now.query.now c.in_ok-expansion.expansion c.in_ok-keep.ensures.0 c.expansion_by.new.kept.items c.keep.new.kept.items c.in_ok-keep.ensures.1
-    c.in_ok-expansion.ensures.kept c.in_ok-expansion.ensures.is
+    passed_at self.query.now c.args.row.mol.now c.args.place.now self.codes c.next.follows.lender-at-none self.open c.requires.left c.requires.shut c.in-Some.code.now next
+    c.in_ok-expansion.expansion c.in_ok-expansion.ensures.code c.in_ok-expansion.ensures.is c.args.steps.now (c.if-not-may_hold.ensures.none refl)
 
 pub returns-clause-opened : goal.returns-clause-opened
 returns-clause-opened g c =
     let self = c.args.self.now in
     let next = rw c.in-Some.is at c.next.follows.holds-at-none in
-    opened_at self.query.now self.mol.now c.args.place.now self.codes c.next.follows.lender-at-none self.open c.requires.left c.requires.shut c.in-Some.code.now next
-    c.in_ok-expansion.expansion c.in_ok-expansion.ensures.code c.in_ok-expansion.ensures.is c.args.steps.now c.from_place.new.steps c.in_ok-maps.maps c.behind-back.result.now self.screen.now
+    opened_at self.query.now c.args.row.mol.now c.args.place.now self.codes c.next.follows.lender-at-none self.open c.requires.left c.requires.shut c.in-Some.code.now next
+    c.in_ok-expansion.expansion c.in_ok-expansion.ensures.code c.in_ok-expansion.ensures.is c.args.steps.now c.from_place.new.steps c.in_ok-maps.maps c.behind-back.result.now c.args.row.screen.now
     c.in_ok-maps.ensures.left c.behind-back.ensures c.requires.screen (c.if-not-may_hold.ensures.covers refl) c.in_ok-maps.ensures.begin
+
+-- ---- what is kept
+
+pub returns-in_err-keep-clause-belongs : goal.returns-in_err-keep-clause-belongs
+returns-in_err-keep-clause-belongs g c =
+    let next = rw c.in-Some.is at c.next.follows.holds-at-none in
+    record { query_is = refl; codes_of = next.query ∙ c.requires.belongs.codes_of; kept_are = c.keep.ensures c.args.self.now.query.now c.expansion_by.ensures.kept c.in_ok-expansion.ensures.is }
+
+pub returns-then-not-may_hold-clause-belongs : goal.returns-then-not-may_hold-clause-belongs
+returns-then-not-may_hold-clause-belongs g c =
+    let next = rw c.in-Some.is at c.next.follows.holds-at-none in
+    record { query_is = refl; codes_of = next.query ∙ c.requires.belongs.codes_of; kept_are = c.keep.ensures c.args.self.now.query.now c.expansion_by.ensures.kept c.in_ok-expansion.ensures.is }
+
+pub returns-clause-belongs : goal.returns-clause-belongs
+returns-clause-belongs g c =
+    let next = rw c.in-Some.is at c.next.follows.holds-at-none in
+    record { query_is = refl; codes_of = next.query ∙ c.requires.belongs.codes_of; kept_are = c.expansion_by.ensures.kept }
