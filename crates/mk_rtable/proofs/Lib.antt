@@ -1,0 +1,7 @@
+pub mod SlotLemmas
+pub mod MembersLemmas
+pub mod TableLemmas
+pub mod RecordsLemmas
+pub mod SomeTableLemmas
+pub mod OnLiterals
+pub mod ForCallers

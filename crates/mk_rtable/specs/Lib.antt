@@ -1,0 +1,5 @@
+pub mod Members
+pub mod Table
+pub mod Begins
+pub mod Text
+pub mod Rows
