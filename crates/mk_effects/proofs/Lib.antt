@@ -10,6 +10,7 @@ pub mod OneEditLemmas
 pub mod OneQueryFileLemmas
 pub mod OneKeepLemmas
 pub mod OneSearchLemmas
+pub mod TableLemmas
 pub mod OneMatchLemmas
 pub mod GoingOnLemmas
 pub mod ForCallers

@@ -1,7 +1,7 @@
 -- Edits of the library: what is said of their files, and what they change.
 --     no_number        a number that is held isn't what is refused
 --     refused_first    a line is said of the first demand that isn't met
---     loaded_none, loaded_some   the answer of a load, by how many records it adds
+--     loaded_none                the answer of a load, by how many records it adds
 --     text_is_held     a record that has a text is held
 --     rows_as_records  the texts have the numbers of the records
 --     installed        a change of records changes the whole tables so
@@ -52,11 +52,6 @@ refused_first T P refusal.Memory line is refused = absurd is
 pub loaded_none : (next : ℕ) (changes : List Change) → length changes ≡ 0 → loaded_text next changes ≡ codes "loaded 0\n"
 loaded_none next [] is = refl
 loaded_none next (change ∷ changes) is = absurd cc
-
-pub loaded_some : (next : ℕ) (changes : List Change) (count : ℕ) → length changes ≡ count → count ≢ 0
-    → loaded_text next changes ≡ codes "loaded " ++ (decimal count ++ (codes " first " ++ (decimal next ++ codes "\n")))
-loaded_some next [] count is some = absurd (some (sym is))
-loaded_some next (change ∷ changes) count is some = ap (λ (k : ℕ). codes "loaded " ++ (decimal k ++ (codes " first " ++ (decimal next ++ codes "\n")))) is
 
 -- ---- what is held
 

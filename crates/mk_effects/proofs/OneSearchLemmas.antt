@@ -1,4 +1,5 @@
 -- `search` and `resume` come to one effect.
+--     one_named                 a name has one query
 --     one_search, one_resume
 use Rattle.std.proofs.Common.{◌≡◌, ℕ, true, false, List, [], ◌∷◌, length, nat_lt, if◌then◌else◌, Some, None, refl, sym, ap, subst, ◌∙◌, arith}
 use Rattle.std.proofs.lemmas.Bool.{le-ltb, lt-ltb}
@@ -24,7 +25,7 @@ use Rattle.mk_kept.proofs.ForCallers.{HasQueryLaws, one_query_of_text, named_of}
 -- ---- what is listed
 
 -- a name has one query
-one_named : HasQueryLaws → (rows : List QueryRow) (name : List ℕ) (a b : QueryView) → IsQueryNamed rows name a → IsQueryNamed rows name b → a ≡ b
+pub one_named : HasQueryLaws → (rows : List QueryRow) (name : List ℕ) (a b : QueryView) → IsQueryNamed rows name a → IsQueryNamed rows name b → a ≡ b
 one_named laws rows name a b p q =
     let held = sym p.held ∙ q.held in
     let same : q.text ≡ p.text = cc in

@@ -1,7 +1,8 @@
 -- What `search` and `resume` come to.
+--     item_is_at, at_is_item  the molecules of a library, as those of its records
 --     first_over_records, parts_over_records     the first keys over the molecules of a library, as those over its records
 --     begins_over_records     how often is begun over the molecules of a library, over its records
---     put_fits, drop_fits                        the changes of a saved search fit
+--     put_fits                                   the change of a saved search fits
 --     refused_if                                 what is said of a refusal
 use Rattle.std.proofs.Common.{◌≡◌, ℕ, ◌≤◌, true, false, List, [], ◌∷◌, nat_eq, Some, refl, sym, ap, ◌∙◌, subst, arith}
 use Rattle.std.specs.Prelude.{Result, Ok, Err, IfOk}
@@ -46,7 +47,7 @@ one_molecule filled sdfile text a b p q =
     filled p.is.raw.table a b p.kept q.kept p.filled (subst (λ (raw : RawRecord). IsFilled raw.table b) same q.filled)
 
 -- what a row of molecules holds is the molecule of the record beside it
-item_is_at : (records : List RecordRow) (rows : List (Numbered Molecule)) (n : ℕ) (mol : Molecule) → AreHeld records rows → IsHeldIn rows n mol → IsMoleculeAt records n mol
+pub item_is_at : (records : List RecordRow) (rows : List (Numbered Molecule)) (n : ℕ) (mol : Molecule) → AreHeld records rows → IsHeldIn rows n mol → IsMoleculeAt records n mol
 item_is_at [] [] n mol held is = cc
 item_is_at [] (x ∷ rows) n mol held is = absurd held
 item_is_at (r ∷ records) [] n mol held is = absurd held
@@ -62,7 +63,7 @@ item_is_at (r ∷ records) (x ∷ rows) n mol held is =
     is
 
 -- and the molecule of a record stands beside it
-at_is_item : OneFilledMolecule → HasOneValue → (records : List RecordRow) (rows : List (Numbered Molecule)) (n : ℕ)
+pub at_is_item : OneFilledMolecule → HasOneValue → (records : List RecordRow) (rows : List (Numbered Molecule)) (n : ℕ)
     (mol : Molecule) → AreHeld records rows → IsMoleculeAt records n mol → IsHeldIn rows n mol
 at_is_item filled sdfile [] [] n mol held at = let h = at.held in cc
 at_is_item filled sdfile [] (x ∷ rows) n mol held at = absurd held
@@ -109,13 +110,6 @@ put_fits saved pending number name place is named spare = record {
   places = rw is ((named, tt));
   queries = rw is (omega arith);
   cursors = rw is spare;
-}
-
-pub drop_fits : (saved : SavedView) (pending : SavedPendingView) (number : ℕ) → pending.changes ≡ DropCursor number ∷ [] → SavedFits saved pending
-drop_fits saved pending number is = record {
-  places = rw is ((tt, tt));
-  queries = rw is (omega arith);
-  cursors = rw is (omega arith);
 }
 
 -- ---- refusals

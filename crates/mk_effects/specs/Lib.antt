@@ -9,6 +9,7 @@ pub mod Match
 pub mod Records
 pub mod Queries
 pub mod Searching
+pub mod Table
 pub mod Ticks
 pub mod Loading
 pub mod Drilling

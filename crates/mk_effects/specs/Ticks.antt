@@ -1,16 +1,19 @@
--- How often `search` and `resume` begin the matcher: once for each of some pairs, as BeginsOfPage of
--- mk_search says, over the molecules of the records.
+-- How often `search`, `resume` and `table` begin the matcher: once for each of some pairs, as
+-- BeginsOfPage of mk_search and BeginsOfTable of mk_rtable say, over the molecules of the records.
 --     BeginsOfListing t name place limit c text old new     the count goes up as for the page of the
 --                                            keys of the query that the text lists
 --     BeginsOfRest t c limit text old new    the same from the place of a saved search on
 --     BeginsOfSearch t name limit effect old new     how often `search` begins it
 --     BeginsOfResume t c limit effect old new        how often `resume` does
+--     BeginsOfRows t name old new            the count goes up as for the table of the query
+--     BeginsOfTableAnswer t name effect old new      how often `table` begins it
 use Rattle.std.specs.Prelude.{◌≡◌, ℕ, List, [], length, nat_lt, Some}
 use Rattle.mk_model.specs.Queries.{QueryView}
 use Rattle.mk_outside.specs.declared.tables.CursorRow.{CursorRow}
 use Rattle.mk_outside.specs.declared.tables.Tables.{Tables}
 use Rattle.mk_search.specs.declared.pages.Page.{Page}
 use Rattle.mk_search.specs.Begins.{BeginsOfPage}
+use Rattle.mk_rtable.specs.Begins.{BeginsOfTable}
 use Rattle.mk_kept.specs.Named.{IsQueryNamed, search_of}
 use Rattle.mk_effects.specs.Effects.{Answers, Effect, Refuses}
 use Rattle.mk_effects.specs.Searching.{IsListing, IsMoleculeAt}
@@ -42,3 +45,16 @@ BeginsOfSearch t name limit (Answers batch text) old new = BeginsOfListing t nam
 abbrev pub BeginsOfResume : Tables → ℕ → ℕ → Effect → ℕ → ℕ → Type 0
 BeginsOfResume t c limit (Refuses line) old new = new ≡ old
 BeginsOfResume t c limit (Answers batch text) old new = BeginsOfRest t c limit text old new
+
+-- The count goes up by one for each of a rising list of pairs of a record and a code, for the query
+-- of the name: none is above the least code that has a hit in the record, and the least codes are
+-- among them.
+pub record BeginsOfRows (t : Tables) (name : List ℕ) (old new : ℕ) : Type 0 where
+  pub query : QueryView
+  pub named : IsQueryNamed t.queries name query
+  pub begins : BeginsOfTable (IsMoleculeAt t.records) query old new
+
+-- nothing is begun for a refusal, and an answer writes the rows of the query
+abbrev pub BeginsOfTableAnswer : Tables → List ℕ → Effect → ℕ → ℕ → Type 0
+BeginsOfTableAnswer t name (Refuses line) old new = new ≡ old
+BeginsOfTableAnswer t name (Answers batch text) old new = BeginsOfRows t name old new

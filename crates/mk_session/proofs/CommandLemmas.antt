@@ -16,7 +16,7 @@ use Rattle.mk_session.specs.declared.command.LineKind.{LineKind}
 use Rattle.mk_session.specs.declared.command.LineKind.TheVariants as line_kind
 use Rattle.mk_session.specs.declared.command.WordsKind.{WordsKind}
 use Rattle.mk_session.specs.declared.command.WordsKind.TheVariants as words_kind
-use Rattle.mk_session.specs.Commands.{CanAsk, CanAskLine, CanAskWords, CommandsAreRead, IsCommandOf, OneReading, behind_store, command_in, file_in, held_number, kind_behind_store, kind_of_line, kind_of_order, kind_of_words, kind_of_words_order, limit_in, name_in, number_in, row_of_one, row_of_three, row_of_two, with_one, with_two, within, MatchRow, LoadRow, ReplaceRow, RemoveRow, QueryRow, ForgetRow, SearchRow, ResumeRow, ShowRow, ListRow, DrillRow}
+use Rattle.mk_session.specs.Commands.{CanAsk, CanAskLine, CanAskWords, CommandsAreRead, IsCommandOf, OneReading, behind_store, command_in, file_in, held_number, kind_behind_store, kind_of_line, kind_of_order, kind_of_words, kind_of_words_order, limit_in, name_in, number_in, row_of_one, row_of_three, row_of_two, with_one, with_two, within, MatchRow, LoadRow, ReplaceRow, RemoveRow, QueryRow, ForgetRow, SearchRow, ResumeRow, ShowRow, TableRow, ListRow, DrillRow}
 use Rattle.mk_kept.specs.Names.{IsName, is_name}
 
 -- ---- from a row to what computes it
@@ -40,6 +40,7 @@ row_is words command (ForgetRow a name same is made) = of_words words _ command 
 row_is words command (SearchRow a b name limit same is is' made) = of_words words _ command same (two_is variant.Search (name_in a) (limit_in b) name limit command is is' made)
 row_is words command (ResumeRow a b cursor limit same is is' made) = of_words words _ command same (two_is variant.Resume (held_number a) (limit_in b) cursor limit command is is' made)
 row_is words command (ShowRow a number same is made) = of_words words _ command same (one_is variant.Show (held_number a) number command is made)
+row_is words command (TableRow a name same is made) = of_words words _ command same (one_is variant.Table (name_in a) name command is made)
 row_is words command (ListRow same made) = of_words words _ command same (ap Some (sym made))
 row_is words command (DrillRow a b start count same is is' made) = of_words words _ command same (two_is variant.Drill (number_in 0 999999999 a) (limit_in b) start count command is is' made)
 
@@ -96,7 +97,9 @@ row_two word a command is =
     (λ same is. let h = has_one variant.Forget (name_in a) command is in ForgetRow a h.a (as_word word _ _ same) h.is h.made)
     (λ is. by_word word (codes "show") _ _ command is
     (λ same is. let h = has_one variant.Show (held_number a) command is in ShowRow a h.a (as_word word _ _ same) h.is h.made)
-    (λ is. absurd cc))))
+    (λ is. by_word word (codes "table") _ _ command is
+    (λ same is. let h = has_one variant.Table (name_in a) command is in TableRow a h.a (as_word word _ _ same) h.is h.made)
+    (λ is. absurd cc)))))
 
 row_three : (word a b : List ℕ) (command : Command) → row_of_three word a b ≡ Some command → IsCommandOf (word ∷ a ∷ b ∷ []) command
 row_three word a b command is =
@@ -168,6 +171,7 @@ ranges words command (SearchRow a b name limit same is is' made) = subst CanAsk 
 ranges words command (ResumeRow a b cursor limit same is is' made) =
     subst CanAsk (sym made) (within_range 1 999999999 (digits_number a) cursor is, within_range 1 10000 (digits_number b) limit is')
 ranges words command (ShowRow a number same is made) = subst CanAsk (sym made) (within_range 1 999999999 (digits_number a) number is)
+ranges words command (TableRow a name same is made) = subst CanAsk (sym made) (name_is a name is)
 ranges words command (ListRow same made) = subst CanAsk (sym made) tt
 ranges words command (DrillRow a b start count same is is' made) =
     subst CanAsk (sym made) ((within_range 0 999999999 (digits_number a) start is).1, within_range 1 10000 (digits_number b) count is')

@@ -1,6 +1,7 @@
 -- Each order comes to an effect, where its files are there and the queries of the tables mean something.
 --     some_text            keys have lines
 --     some_listing         the first keys that remain are listed
+--     some_rows            the rows of a query over the records
 --     some_effect          EachOrderHasEffect
 use Rattle.std.proofs.Common.{◌≡◌, ◌<◌, ◌≤◌, ◌+◌, ℕ, Bool, true, false, cond, eqb, List, [], ◌∷◌, ◌++◌, Option, Some, None, refl, sym, ap, subst, arith, inl, inr, length, take}
 use Rattle.std.specs.Prelude.{◌⊎◌, ◌↔◌, IsSome, bytes_eq, codes, nat_eq, nat_lt}
@@ -35,6 +36,10 @@ use Rattle.mk_rgfile.proofs.ForCallers.{query_keeps}
 use Rattle.mk_search.specs.Pages.{IsHeldIn}
 use Rattle.mk_search.proofs.AllKeysLemmas.{keys_listed}
 use Rattle.mk_search.proofs.ListingLemmas.{list_same}
+use Rattle.mk_rtable.specs.declared.rows.TableRow.{TableRow}
+use Rattle.mk_rtable.specs.Table.{IsRGroupTable}
+use Rattle.mk_rtable.specs.Text.{table_text}
+use Rattle.mk_rtable.proofs.ForCallers.{some_table, table_over}
 use Rattle.mk_values.proofs.ForCallers.{drill_has_line, edit_is_judged, file_is_judged, list_by, rows_hold, rows_of, taken_first}
 use Rattle.mk_session.specs.declared.command.Command.TheVariants as variant
 use Rattle.mk_effects.specs.declared.files.HeldQuery.{HeldQuery}
@@ -58,6 +63,7 @@ use Rattle.mk_effects.specs.Records.{NoRecordRemoved, NoRecordShown, Removes, Sh
 use Rattle.mk_kept.specs.Saved.{HasMeaning, HasRoomFor, greatest_number, is_named, most_queries, most_query_number, most_search_number, most_searches, most_text_bytes, bytes_of_texts}
 use Rattle.mk_kept.specs.Saved.{HasSearchRoom}
 use Rattle.mk_effects.specs.Searching.{IsListing, IsMoleculeAt, IsResume, IsSearch, full_searches_text, no_search_text}
+use Rattle.mk_effects.specs.Table.{IsTableAnswer, NoQueryTabled, WritesRows}
 use Rattle.mk_kept.specs.Named.{IsQueryNamed, search_of}
 use Rattle.mk_effects.specs.Searching.{ListsAll, ListsRest, MovesPlace, NoQuerySearched, NoSearchResumed, SavesPlace, SearchesAreFull}
 use Rattle.mk_session.specs.Step.{Comes, no_command_text}
@@ -167,6 +173,27 @@ some_resume t c limit can = by_search (search_of c t.cursors) refl
         (let named = some_named row.name t.queries can.queries (its_query c (λ (r : CursorRow). is_named r.name t.queries ≡ true) row t.cursors can.cursors is) in
         let listing = some_listing t.records named.0 row.place limit c (text_fits named.1.text named.0 named.1.means.is) in
         by_count row is named.0 named.1 listing.0 listing.1.0 listing.1.1 (cases_lt (length listing.0) limit))
+
+-- ---- tables
+
+-- the rows of a query over the records
+some_rows : (records : List RecordRow) (query : QueryView) → QueryFits query → (rows : List TableRow) × IsRGroupTable (IsMoleculeAt records) query rows
+some_rows records query fits =
+    let all = some_table (rows_of records) query fits in (
+      all.0,
+      table_over (IsHeldIn (rows_of records)) (IsMoleculeAt records) query all.0
+          (λ n mol held. (let at = (rows_hold records n mol).0 held in record { text = at.text; held = at.held; is = at.is }))
+          (λ n mol at. (rows_hold records n mol).1 (record { text = at.text; held = at.held; is = at.is })) all.1,
+    )
+
+some_table_answer : (t : Tables) (name : List ℕ) → CanBeAsked t → (effect : Effect) × IsTableAnswer t name effect
+some_table_answer t name can =
+    elim (cases_Bool (is_named name t.queries)) [
+      | inl held ↦ (let named = some_named name t.queries can.queries held in
+          let rows = some_rows t.records named.0 (text_fits named.1.text named.0 named.1.means.is) in
+          (Answers [] (table_text named.0 rows.0), WritesRows named.0 named.1 rows.0 rows.1 refl))
+      | inr none ↦ (Refuses (no_query_text name), NoQueryTabled none refl)
+    ]
 
 -- ---- molecules' files
 
@@ -358,5 +385,6 @@ some_effect look t (Some (variant.Forget name)) can there = some_forget t name
 some_effect look t (Some (variant.Search name limit)) can there = some_search t name limit can
 some_effect look t (Some (variant.Resume cursor limit)) can there = some_resume t cursor limit can
 some_effect look t (Some (variant.Show number)) can there = some_show t number
+some_effect look t (Some (variant.Table name)) can there = some_table_answer t name can
 some_effect look t (Some variant.List) can there = (Answers [] (list_text t), refl)
 some_effect look t (Some (variant.Drill start count)) can there = (let line = drill_has_line start count in (Answers [] line.0, record { line = line.0; is = line.1; whole = refl }))

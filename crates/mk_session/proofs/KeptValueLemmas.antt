@@ -38,6 +38,7 @@ use Rattle.mk_effects.specs.Records.{NoRecordRemoved, NoRecordShown, Removes, Sh
 use Rattle.mk_kept.specs.Saved.{HasMeaning, greatest_number, is_named, is_waiting, kept_tables}
 use Rattle.mk_kept.specs.SavedPending.{IsInPlace}
 use Rattle.mk_effects.specs.Searching.{IsResume, IsSearch}
+use Rattle.mk_effects.specs.Table.{IsTableAnswer, NoQueryTabled, WritesRows}
 use Rattle.mk_effects.specs.Searching.{ListsAll, ListsRest, MovesPlace, NoQuerySearched, NoSearchResumed, SavesPlace, SearchesAreFull}
 use Rattle.mk_session.specs.Values.{CanBeAsked, EffectsKeepQueries}
 use Rattle.mk_effects.proofs.QueriesLemmas.{among_all, forget_places, kept_is_meant}
@@ -256,6 +257,10 @@ module _ (files : Option Look) (t : Tables) (can : CanBeAsked t) where
   resume_keeps c limit effect (ListsRest row held query named keys text listing fewer is) = changed_keeps t effect (DropCursor c ∷ []) text is (drop_keeps t c can)
   resume_keeps c limit effect (MovesPlace row held query named keys text listing many is) = changed_keeps t effect _ text is (cursor_keeps t c row.name _ (named_of row.name t.queries query named) can)
 
+  table_keeps : (name : List ℕ) (effect : Effect) → IsTableAnswer t name effect → CanBeAsked (after_effect effect t)
+  table_keeps name effect (NoQueryTabled none is) = refused_keeps t effect _ is can
+  table_keeps name effect (WritesRows query named rows table is) = changed_keeps t effect [] _ is can
+
 pub effect_keeps : EffectsKeepQueries
 effect_keeps look t None effect comes can = refused_keeps t effect _ comes can
 effect_keeps look t (Some (variant.Match query molecules)) effect comes can = match_keeps (Some look) t can query molecules effect comes
@@ -267,5 +272,6 @@ effect_keeps look t (Some (variant.Forget name)) effect comes can = forget_keeps
 effect_keeps look t (Some (variant.Search name limit)) effect comes can = search_keeps (Some look) t can name limit effect comes
 effect_keeps look t (Some (variant.Resume cursor limit)) effect comes can = resume_keeps (Some look) t can cursor limit effect comes
 effect_keeps look t (Some (variant.Show number)) effect comes can = show_keeps (Some look) t can number effect comes
+effect_keeps look t (Some (variant.Table name)) effect comes can = table_keeps (Some look) t can name effect comes
 effect_keeps look t (Some variant.List) effect comes can = changed_keeps t effect [] _ comes can
 effect_keeps look t (Some (variant.Drill start count)) effect comes can = changed_keeps t effect [] comes.line comes.whole can

@@ -15,7 +15,7 @@ use Rattle.mk_kept.specs.StoredRows.{AllRead}
 use Rattle.mk_kept.proofs.ForCallers.{one_first_bad, reads_not_bad}
 use Rattle.mk_library.specs.Edits.{Load}
 use Rattle.mk_effects.specs.Loading.{loaded_text}
-use Rattle.mk_effects.proofs.ForCallers.{one_edited, one_replace, one_forget, one_keep, one_resume, one_search, HasLaws, one_match, one_show, one_remove}
+use Rattle.mk_effects.proofs.ForCallers.{one_edited, one_replace, one_forget, one_keep, one_resume, one_search, one_table_answer, HasLaws, one_match, one_show, one_remove}
 
 -- ---- all commands
 
@@ -30,6 +30,7 @@ one_effect laws look t (Some (variant.Forget name)) a b p q = one_forget t.queri
 one_effect laws look t (Some (variant.Search name limit)) a b p q = one_search t name limit laws.queries a b p q
 one_effect laws look t (Some (variant.Resume cursor limit)) a b p q = one_resume t cursor limit laws.queries a b p q
 one_effect laws look t (Some (variant.Show number)) a b p q = one_show t.records number a b p q
+one_effect laws look t (Some (variant.Table name)) a b p q = one_table_answer laws.queries t name a b p q
 one_effect laws look t (Some variant.List) a b p q = p ∙ sym q
 one_effect laws look t (Some (variant.Drill start count)) a b p q = p.whole ∙ ap (λ (line : List ℕ). Answers [] line) (laws.drills start count p.line q.line p.is q.is) ∙ sym q.whole
 

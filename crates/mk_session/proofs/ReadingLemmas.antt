@@ -33,10 +33,6 @@ taken_more a b c front out n before here few within size = record {
   few = (let l = length-append front (take n out) in let k = length-take-le n out within in omega (arith, l, k, few, within, size));
 }
 
--- nothing was taken
-pub none_taken : (left : Option (List ℕ)) → IsInputTaken left left
-none_taken left = record { taken = []; is_taken = Consumes-nil left; few = omega arith }
-
 -- some text is the input, whether it is told or not
 pub record Held_input (old : Option (List ℕ)) : Type 0 where
   pub text : List ℕ

@@ -1,6 +1,6 @@
 -- One command on a session: what a change makes of the tables.
 --     stepped_err, step_counted        a command that failed
---     installed, saved_installed       a change of records, and one of queries and saved searches, changes the whole tables so
+--     saved_installed                  a change of queries and saved searches changes the whole tables so
 use Rattle.std.proofs.Common.{◌≡◌, ℕ, List, Option, refl, sym, ap, ◌∙◌, subst, All}
 use Rattle.std.specs.Prelude.{Result, Ok, Err, IsErr}
 use Rattle.mk_outside.specs.declared.tables.Change.{Change}
@@ -46,16 +46,6 @@ step_counted files t u order f f' k k' change text keep.Memory said is tables co
 -- what holds the same stands for the same tables
 pub same_tables : (a b : LibraryView) (saved other : SavedView) → IsSame a b → IsSameSaved saved other → stands_for b other ≡ stands_for a saved
 same_tables a b saved other same is = rw (same.records, same.next_record, is.queries, is.cursors, is.next_cursor) refl
-
--- what the library makes of its records, the batch makes of the whole tables
-pub installed : RecordsChangeAlone → (batch : List Change) (a b : LibraryView) (saved : SavedView) → All IsOfRecords batch → tables_of b ≡ after_batch batch (tables_of a)
-    → stands_for b saved ≡ after_batch batch (stands_for a saved)
-installed alone batch a b saved all is =
-    let whole = alone batch (stands_for a saved) all in
-    let records : b.records ≡ (after_batch batch (tables_of a)).records = ap (λ (t : Tables). t.records) is in
-    let next : b.next_record ≡ (after_batch batch (tables_of a)).next_record = ap (λ (t : Tables). t.next_record) is in
-    ap (λ (rows : List RecordRow). record (stands_for a saved) { records = rows; next_record = b.next_record }) records
-    ∙ ap (λ (n : ℕ). record (stands_for a saved) { records = (after_batch batch (tables_of a)).records; next_record = n }) next ∙ sym whole
 
 -- what is made of the queries and saved searches, the batch makes of the whole tables
 pub saved_installed : (batch : List Change) (library : LibraryView) (a b : SavedView) → All IsOfSaved batch → saved_tables b ≡ after_batch batch (saved_tables a)

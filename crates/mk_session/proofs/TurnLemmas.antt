@@ -179,9 +179,6 @@ pub line_misses : (files : Option Look) (t : Tables) (line : List ℕ) (order : 
     → Misses files t (order ∷ []) a b → Misses files t (orders_of_line line) a b
 line_misses files t line order kind a b is one m = subst (λ (os : List Order). Misses files t os a b) (sym one ∙ ap orders_of_kind is) m
 
-pub line_blank : (files : Option Look) (t : Tables) (line : List ℕ) (a : ℕ) → Misses files t (orders_of_line line) a a
-line_blank files t line a = same_misses files t (orders_of_line line) a
-
 -- ---- a loop over orders
 
 -- some are done, and then some more

@@ -70,6 +70,7 @@ pub data IsCommandOf (words : List (List ℕ)) (command : Command) : Type 0 wher
   ResumeRow : (a b : List ℕ) (cursor limit : ℕ) → words ≡ codes "resume" ∷ a ∷ b ∷ [] → held_number a ≡ Some cursor → limit_in b ≡ Some limit
       → command ≡ variant.Resume cursor limit → IsCommandOf words command
   ShowRow : (a : List ℕ) (number : ℕ) → words ≡ codes "show" ∷ a ∷ [] → held_number a ≡ Some number → command ≡ variant.Show number → IsCommandOf words command
+  TableRow : (a name : List ℕ) → words ≡ codes "table" ∷ a ∷ [] → name_in a ≡ Some name → command ≡ variant.Table name → IsCommandOf words command
   ListRow : words ≡ codes "list" ∷ [] → command ≡ variant.List → IsCommandOf words command
   DrillRow : (a b : List ℕ) (start count : ℕ) → words ≡ codes "drill" ∷ a ∷ b ∷ [] → number_in 0 999999999 a ≡ Some start → limit_in b ≡ Some count
       → command ≡ variant.Drill start count → IsCommandOf words command
@@ -97,7 +98,8 @@ row_of_two word a =
     if bytes_eq word (codes "load") then with_one variant.Load (file_in a)
     else (if bytes_eq word (codes "remove") then with_one variant.Remove (held_number a)
     else (if bytes_eq word (codes "forget") then with_one variant.Forget (name_in a)
-    else (if bytes_eq word (codes "show") then with_one variant.Show (held_number a) else None)))
+    else (if bytes_eq word (codes "show") then with_one variant.Show (held_number a)
+    else (if bytes_eq word (codes "table") then with_one variant.Table (name_in a) else None))))
 
 -- the command that is three words
 abbrev pub row_of_three : List ℕ → List ℕ → List ℕ → Option Command
@@ -187,6 +189,7 @@ CanAsk (variant.Search name limit) = IsName name × IsLimit limit
 CanAsk (variant.Resume cursor limit) = IsHeldNumber cursor × IsLimit limit
 CanAsk (variant.Show number) = IsHeldNumber number
 CanAsk variant.List = ⊤
+CanAsk (variant.Table name) = IsName name
 CanAsk (variant.Drill start count) = (start ≤ 999999999) × IsLimit count
 
 -- a line that is a command is one that a session can be asked

@@ -8,16 +8,18 @@ use Rattle.mk_session.specs.declared.command.Command.TheVariants as variant
 use Rattle.mk_session.specs.declared.status.Ended.{Ended}
 use Rattle.mk_effects.specs.Effects.{Effect, text_answered}
 use Rattle.mk_effects.specs.Files.{Look}
-use Rattle.mk_effects.specs.Ticks.{BeginsOfResume, BeginsOfSearch}
+use Rattle.mk_effects.specs.Ticks.{BeginsOfResume, BeginsOfSearch, BeginsOfTableAnswer}
 use Rattle.mk_session.specs.Step.{Comes}
 use Rattle.mk_session.specs.Stepping.{ended_of}
 
--- `search` and `resume` begin the matcher as the page that they list does. How often `match` does
--- isn't said. No other command begins it; `drill` counts for itself.
+-- `search` and `resume` begin the matcher as the page that they list does, and `table` as the rows
+-- that it writes do. How often `match` does isn't said. No other command begins it; `drill` counts
+-- for itself.
 abbrev pub BeginsOfCommand : Tables → Command → Effect → ℕ → ℕ → Type 0
 BeginsOfCommand t (variant.Match query molecules) effect old new = ⊤
 BeginsOfCommand t (variant.Search name limit) effect old new = BeginsOfSearch t name limit effect old new
 BeginsOfCommand t (variant.Resume cursor limit) effect old new = BeginsOfResume t cursor limit effect old new
+BeginsOfCommand t (variant.Table name) effect old new = BeginsOfTableAnswer t name effect old new
 BeginsOfCommand t _ effect old new = new ≡ old
 
 -- the command came to an effect, whose text is added to the answer, and began the matcher so often

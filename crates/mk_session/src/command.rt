@@ -25,6 +25,8 @@ pub enum Command {
     Show { number: u32 },
     /// Lists what is kept.
     List,
+    /// Says which members of a query stand in each record.
+    Table { name: Text },
     /// Makes a library of its own and searches it.
     Drill { start: u32, count: u32 },
 }

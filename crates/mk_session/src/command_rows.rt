@@ -49,6 +49,9 @@ fn row_of_two(alloc: Global, word: &[u8], a: &[u8]) -> Result<Option<Command>, M
     if word == b"show".as_slice() {
         return Ok(show_row(a));
     }
+    if word == b"table".as_slice() {
+        return table_row(alloc, a);
+    }
     Ok(None)
 }
 
@@ -169,6 +172,15 @@ fn show_row(a: &[u8]) -> Option<Command>
     match number_in(a, 1, GREATEST) {
         Some(number) => Some(Command::Show { number }),
         None => None,
+    }
+}
+
+fn table_row(alloc: Global, a: &[u8]) -> Result<Option<Command>, Memory>
+    ensures { IfOk result (λ command. command ≡ with_one Command.Table (name_in a.now)) }
+{
+    match name_in(alloc, a)? {
+        Some(name) => Ok(Some(Command::Table { name })),
+        None => Ok(None),
     }
 }
 

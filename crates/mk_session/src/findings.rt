@@ -13,7 +13,7 @@ ghost use Rattle.mk_session.specs.StepTicks.{BeginsOfCommand};
 use crate::Command;
 use mk_effects::{
     Found, StepFail, drill_found, forget_found, keep_found, list_found, load_found, match_found,
-    remove_found, replace_found, resume_found, search_found, show_found,
+    remove_found, replace_found, resume_found, search_found, show_found, table_found,
 };
 use mk_kept::Saved;
 use mk_library::Library;
@@ -61,6 +61,7 @@ pub fn found_of<F: Files, L: Ledger>(
         Command::Resume { cursor, limit } => {
             Ok(resume_found(alloc, library, saved, *cursor, *limit, steps)?)
         }
+        Command::Table { name } => Ok(table_found(alloc, library, saved, name.as_str(), steps)?),
         Command::Drill { start, count } => Ok(drill_found(alloc, *start, *count)?),
     }
 }
