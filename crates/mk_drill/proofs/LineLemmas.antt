@@ -9,15 +9,6 @@ use Rattle.mk_drill.specs.Drill.{fold, weighed_from}
 
 -- ---- sums
 
--- one number more
-pub sum_step : (numbers : List ℕ) (i x total : ℕ) → i < length numbers → x ≡ get_or numbers i x → total ≡ sum (take i numbers) % 1000000 → (total + x) % 1000000 ≡ sum (take (i + 1) numbers) % 1000000
-sum_step numbers i x total below is so_far =
-    ap (λ (t : ℕ). (t + x) % 1000000) so_far ∙ mod-add-mod (sum (take i numbers)) 1000000 x
-    ∙ ap (λ (t : ℕ). t % 1000000) (ap (λ (y : ℕ). sum (take i numbers) + y) is ∙ sym (sum_by_more (λ n. n) numbers i x below))
-
-pub sum_end : (numbers : List ℕ) (total : ℕ) → total ≡ sum (take (length numbers) numbers) % 1000000 → total ≡ sum numbers % 1000000
-sum_end numbers total is = is ∙ ap (λ (ns : List ℕ). sum ns % 1000000) (take_all (length numbers) numbers (omega arith))
-
 -- ---- weights
 
 -- a hit behind others
@@ -47,6 +38,3 @@ fold_step hits i folded hit s below is summed so_far =
     ap (λ (f : ℕ). (f + (i % 1000000 + 1) * s) % 1000000) so_far ∙ mod-add-mod w 1000000 ((i % 1000000 + 1) * s)
     ∙ sym (add-mod-mod w ((i % 1000000 + 1) * s) 1000000) ∙ ap (λ (k : ℕ). (w + k) % 1000000) (ap (λ (t : ℕ). ((i % 1000000 + 1) * t) % 1000000) summed ∙ product i (sum hit))
     ∙ add-mod-mod w ((i + 1) * sum hit) 1000000 ∙ ap (λ (k : ℕ). k % 1000000) (sym one_more)
-
-pub fold_end : (hits : List (List ℕ)) (folded : ℕ) → folded ≡ weighed_from 1 (take (length hits) hits) % 1000000 → folded ≡ fold hits
-fold_end hits folded is = is ∙ ap fold (take_all (length hits) hits (omega arith))

@@ -1,26 +1,31 @@
 -- The drill's query passes the checks across its tables, so it has no first fault.
 --     IsWritten query              what is known of any query of these tables
 --     none_first                   no check fails first
-use Rattle.std.proofs.Common.{[], ◌∷◌, ◌≡◌, ℕ, zero, suc, ◌+◌, ◌<◌, ◌≤◌, ◌==◌, Bool, true, false, cond, not, List, Some, length, Option, None, arith, refl, sym, ap, ◌∙◌, subst, lit<, lit≤}
-use Rattle.std.specs.Prelude.{Contains, slice_get, sum_by, count_by}
+use Rattle.std.proofs.Common.{[], ◌∷◌, ◌≡◌, ℕ, zero, suc, ◌+◌, ◌<◌, ◌≤◌, ◌==◌, ◌||◌, Bool, true, false, cond, not, List, Some, length, Option, None, arith, refl, sym, ap, ◌∙◌, subst, lit<, lit≤}
+use Rattle.std.specs.Prelude.{Contains, filter, pos, slice_get, sum_by, count_by}
 use Rattle.std.specs.List.{list_any, range_with_len}
 use Rattle.mk_model.specs.declared.group.Group.{Group}
 use Rattle.mk_model.specs.declared.template.Slot.{Slot}
 use Rattle.mk_model.specs.declared.template.Slot.TheVariants.{Site}
-use Rattle.mk_model.specs.Labels.{IsChain, PutsIn, members_at}
+use Rattle.mk_model.specs.Labels.{IsChain, PutsIn, is_member_of_one, joint_members, members_at}
 use Rattle.mk_model.specs.Queries.{QueryView, members_of, slots_of}
 use Rattle.mk_model.specs.QueryFits.{FitsPoints}
 use Rattle.mk_model.specs.Sizes.{greatest, size_by, size_of_slot, takes_atom}
 use Rattle.mk_model.specs.Templates.{TemplateView}
 use Rattle.mk_query.specs.declared.compile_fault.FaultAt.{FaultAt}
-use Rattle.mk_query.specs.Compiled.{IsQueryOf}
+use Rattle.mk_query.specs.Compiled.{IsQueryOf, labelled_groups}
 use Rattle.mk_query.specs.CompileFaults.{FitsTable, IsAcross, IsFirstCompileFault, IsNoCycle, IsSmall, IsWhole, across_tables, in_a_table, points, recursion, size, whole}
 use Rattle.mk_drill.proofs.QueryTables.{methoxy, query_raw, root_table, single}
 use Rattle.mk_drill.proofs.QueryCheckLemmas.{tables_pass}
 
 -- the site of the root
 abbrev root_slot : Slot
-root_slot = Site 7 1 1 0
+root_slot = Site 7 (1 ∷ []) 1 0
+
+-- its one label is the number of group 1
+one_label : labelled_groups (pos 1 ∷ []) ≡ 1 ∷ []
+unfolding labelled_groups
+one_label = refl
 
 -- what is known of a member: it has no slots and one point, and so many atoms
 record IsMember (atoms : ℕ) (template : TemplateView) : Type 0 where
@@ -61,7 +66,7 @@ four query (a ∷ b ∷ c ∷ d ∷ []) same is members =
       methoxy = d;
       templates = same;
       root_count = root_is.atoms.size;
-      root_slots = root_is.slots;
+      root_slots = root_is.slots ∙ ap (λ (groups : List ℕ). Site 7 groups 1 0 ∷ []) one_label;
       is_chlorine = record { count = chlorine_is.atoms.size; no_slots = chlorine_is.slots; one_point = ap length chlorine_is.points };
       is_bromine = record { count = bromine_is.atoms.size; no_slots = bromine_is.slots; one_point = ap length bromine_is.points };
       is_methoxy = record { count = methoxy_is.atoms.size; no_slots = methoxy_is.slots; one_point = ap length methoxy_is.points };
@@ -116,12 +121,19 @@ slots_at query is (suc t) slot held = by_option (slice_get query.templates (suc 
     by_option None none held = absurd (let below = (rw none at held).1 in omega (arith, below))
     by_option (Some template) at held = absurd (let below = (subst (λ (slots : List Slot). Contains slots slot) (at_member query is t template at) (rw at at held)).1 in omega (arith, below))
 
+-- the members of the site are those of its one label
+joint : (query : QueryView) → IsWritten query → joint_members query (1 ∷ []) ≡ 1 ∷ 2 ∷ 3 ∷ []
+unfolding joint_members
+joint query is =
+    ap (λ (n : ℕ). filter (is_member_of_one query (1 ∷ [])) (range_with_len 0 n)) (ap length is.templates)
+    ∙ ap (λ (members : List ℕ). filter (λ u. list_any (λ v. v == u) members || false) (range_with_len 0 4)) is.members
+
 -- only the root puts templates in, and those are others
 puts : (query : QueryView) (is : IsWritten query) (t u : ℕ) → PutsIn query t u → (t ≡ 0) × (1 ≤ u)
 puts query is t u put =
     let at = slots_at query is t put.slot put.at in
     let filled : Contains (members_at query root_slot) u = subst (λ (slot : Slot). Contains (members_at query slot) u) (sym at.1) put.fills in
-    (at.0, listed_from_one u (subst (λ (members : List ℕ). Contains members u) is.members filled))
+    (at.0, listed_from_one u (subst (λ (members : List ℕ). Contains members u) (joint query is) filled))
 
 chain : (query : QueryView) (is : IsWritten query) (t : ℕ) (via : List ℕ) (u : ℕ) → IsChain query t via u → (t ≡ 0) × (1 ≤ u)
 chain query is t [] u puts_in = puts query is t u puts_in
@@ -153,7 +165,7 @@ one_point query is u template (suc (suc zero), below, same) at = points_at query
 one_point query is u template (suc (suc (suc k)), below, same) at = absurd (omega (arith, below))
 
 root_fits : (query : QueryView) → IsWritten query → FitsPoints query root_slot
-root_fits query is u template member at = one_point query is u template (subst (λ (members : List ℕ). Contains members u) is.members member) at
+root_fits query is u template member at = one_point query is u template (subst (λ (members : List ℕ). Contains members u) (joint query is) member) at
 
 -- the slots of a template that is there are those of its number
 held_slot : (query : QueryView) (t : ℕ) (template : TemplateView) (slot : Slot) → slice_get query.templates t ≡ Some template → Contains template.slots slot → Contains (slots_of query t) slot
@@ -181,7 +193,7 @@ member_adds query template n is = ap (λ (slots : List Slot). added query templa
 
 root_adds : (query : QueryView) (is : IsWritten query) → size_by query sizes is.root ≡ 9
 root_adds query is =
-    let most : greatest sizes (members_of query 1) ≡ 2 = ap (greatest sizes) is.members in
+    let most : greatest sizes (members_at query root_slot) ≡ 2 = ap (greatest sizes) (joint query is) in
     let nine : added query is.root (root_slot ∷ []) 7 ≡ 9 = omega (arith, most) in
     ap (λ (slots : List Slot). added query is.root slots (length is.root.atoms)) is.root_slots ∙ ap (added query is.root (root_slot ∷ [])) is.root_count ∙ nine
 

@@ -100,14 +100,14 @@ known_point atoms some = record { named = pair_of_atom atoms 1 1 (lit≤ tt) som
 unlabelled : (groups : List RawGroup) (symbol : List ℕ) → is_site (plain_atom symbol) ≡ false → IsLabelled groups [] (plain_atom symbol)
 unlabelled groups symbol other = record {
   word = (λ test. absurd (false≢true (sym other ∙ test)), λ some. absurd (some refl));
-  alone = lit≤ tt;
+  once = λ i j d less below. absurd (omega (arith, below));
   members = All-nil (HasMember groups);
 }
 
 labelled : IsLabelled query_groups (pos 1 ∷ []) (plain_atom (codes "R#"))
 labelled = record {
   word = (λ test none. cc, λ some. refl);
-  alone = lit≤ tt;
+  once = λ i j d less below. absurd (omega (arith, less, below));
   members = All-cons (HasMember query_groups) (pos 1) [] (
     record { number = 1; members = single (codes "Cl") ∷ single (codes "Br") ∷ methoxy ∷ [] },
     (0, lit< tt, refl),

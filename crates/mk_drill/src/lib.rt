@@ -18,8 +18,6 @@ mod drilling;
 mod hits;
 mod laws;
 mod line;
-#[cfg(test)]
-mod tests;
 
 pub use drilling::drill;
 pub use laws::one_drill;

@@ -151,6 +151,11 @@ hit 3 choice 1 map 1 6 5 4 3 2 7
 hit 3 choice 3 map 4 3 2 1 6 5 8 9
 hit 3 choice 3 map 4 5 6 1 2 3 8 9
 end
+record\tsite 7
+1\t1
+2\t3
+3\t1
+end
 ";
 
 // The text with CR before each LF.
@@ -172,7 +177,7 @@ fn substituted_benzenes_are_found(rt: HostRuntime) -> Result<(), Fail> {
     let mut rows = FileRows::new(alloc);
     rows.push(named(alloc, "r.rgf", query)?)?;
     rows.push(named(alloc, "c.sdf", with_cr(alloc, MOLECULES)?)?)?;
-    let script = "load c.sdf\nquery r r.rgf\nsearch r 100\n";
+    let script = "load c.sdf\nquery r r.rgf\nsearch r 100\ntable r\n";
     assert!(rt; is_run(alloc, &[], rows, script, WANTED, Status::Done)?);
     Ok(())
 }

@@ -32,6 +32,8 @@ mod search_store_tests;
 #[cfg(test)]
 mod search_tests;
 #[cfg(test)]
+mod table_tests;
+#[cfg(test)]
 mod test_files;
 #[cfg(test)]
 mod words_tests;

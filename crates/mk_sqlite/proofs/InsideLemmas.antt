@@ -84,10 +84,6 @@ mapped (Err e) P Q f h = tt
 pub inside_as : {A E : Type 0} (old new : State) (r : Result A E) (P Q : A → Type 0) → ((a : A) → P a → Q a) → Inside old new r P → Inside old new r Q
 inside_as old new r P Q f h clean inside = let it = h clean inside in (it.0, mapped r _ _ (λ a p. (p.0, f a p.1)) it.1)
 
--- a step that failed is one that failed, whatever is said of what it would answer
-pub inside_failed : {E F : Type 0} (A B : Type 0) (old new : State) (e : E) (f : F) (P : A → Type 0) (Q : B → Type 0) → Inside {A = A} old new (Err e) P → Inside {A = B} old new (Err f) Q
-inside_failed A B old new e f P Q h clean inside = ((h clean inside).0, tt)
-
 -- a step that went well, and of which this holds
 abbrev pub Went : State → State → Type 0 → Type 0
 Went old new X = HasCleanDisk new → IsTrue old.in_transaction → KeepsCommit old new × (IsTrue new.in_transaction × X)

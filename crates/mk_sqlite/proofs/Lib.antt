@@ -12,7 +12,6 @@ pub mod StatementLemmas
 pub mod SelectLemmas
 pub mod MakeLemmas
 pub mod InsideLemmas
-pub mod FailsLemmas
 pub mod StoredLemmas
 pub mod KeepsLemmas
 pub mod PlaceLemmas

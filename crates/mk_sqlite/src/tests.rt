@@ -132,6 +132,13 @@ fn put_all<K: Keeper>(keeper: &mut K, alloc: Global) -> Result<bool, AllocError>
     put_second(keeper, alloc)
 }
 
+// Whether a batch was made that drops the query and the cursor.
+fn drop_both<K: Keeper>(keeper: &mut K, alloc: Global) -> Result<bool, AllocError> {
+    let cursor = Change::DropCursor { number: 7 };
+    let query = Change::DropQuery { name: name(alloc)? };
+    Ok(keeper.commit(alloc, &[cursor, query]).is_ok())
+}
+
 // What is loaded. Nothing where that fails.
 pub fn loaded<K: Keeper>(keeper: &mut K, alloc: Global) -> Result<Vec<u8>, AllocError> {
     match keeper.load(alloc) {
@@ -143,7 +150,10 @@ pub fn loaded<K: Keeper>(keeper: &mut K, alloc: Global) -> Result<Vec<u8>, Alloc
 fn kept_in_memory(alloc: Global) -> Result<Vec<u8>, AllocError> {
     let mut keeper = SureKeeper::new(Tables::new(alloc));
     put_all(&mut keeper, alloc)?;
-    loaded(&mut keeper, alloc)
+    let mut kept = loaded(&mut keeper, alloc)?;
+    drop_both(&mut keeper, alloc)?;
+    kept.extend_from_slice(&loaded(&mut keeper, alloc)?)?;
+    Ok(kept)
 }
 
 fn kept_in_file(rt: &HostRuntime) -> Result<Vec<u8>, AllocError> {
@@ -151,8 +161,16 @@ fn kept_in_file(rt: &HostRuntime) -> Result<Vec<u8>, AllocError> {
     let put = put_all(&mut keeper, rt.alloc())?;
     drop(keeper);
     let mut keeper = SqlKeeper::at(rt, "kept.db", Unknown);
-    let kept = loaded(&mut keeper, rt.alloc())?;
-    Ok(if put { kept } else { Vec::new(rt.alloc()) })
+    let mut kept = loaded(&mut keeper, rt.alloc())?;
+    let dropped = drop_both(&mut keeper, rt.alloc())?;
+    drop(keeper);
+    let mut keeper = SqlKeeper::at(rt, "kept.db", Unknown);
+    kept.extend_from_slice(&loaded(&mut keeper, rt.alloc())?)?;
+    Ok(if put && dropped {
+        kept
+    } else {
+        Vec::new(rt.alloc())
+    })
 }
 
 #[test]
@@ -160,7 +178,8 @@ fn a_file_keeps_what_memory_keeps(rt: HostRuntime) -> Result<(), Fail> {
     let kept = kept_in_file(&rt)?;
     fs::remove_file(&rt, "kept.db")?;
     fs::remove_file(&rt, "kept.db-wal")?;
-    assert!(rt; kept.as_slice() == b"3c2qt7q18548".as_slice());
+    // the record, the query, the cursor and the next numbers; then without the two that are dropped
+    assert!(rt; kept.as_slice() == b"3c2qt7q185483c48".as_slice());
     assert!(rt; kept == kept_in_memory(rt.alloc())?);
     Ok(())
 }

@@ -14,10 +14,16 @@ const THREE: Groups = &[(1, &[FLUORINE]), (2, &[CHLORINE]), (3, &[FLUORINE])];
 // Oxygen with a site of group 2.
 const ETHER: &str = "O R# | 1-2 {M  RGP  1   2   2}{M  APO  1   1   1}";
 
+// Group 2 has the first template, and group 1 the two behind it.
+const TURNED: Groups = &[
+    (2, &[CHLORINE]),
+    (1, &[FLUORINE, "Br | {M  APO  1   1   1}"]),
+];
+
 const NESTED: Groups = &[(1, &[ETHER]), (2, &[FLUORINE])];
 
 // A name, a root, its groups, how many valid codes there are, and the first of them.
-pub static CODES: [(&str, Drawn<'static>, usize, &[&[u32]]); 19] = [
+pub static CODES: [(&str, Drawn<'static>, usize, &[&[u32]]); 27] = [
     (
         "no slots: the empty code alone",
         Drawn {
@@ -160,6 +166,78 @@ pub static CODES: [(&str, Drawn<'static>, usize, &[&[u32]]); 19] = [
         &[&[1], &[2, 1], &[2, 2]],
     ),
     (
+        "a site of two labels",
+        Drawn {
+            root: "C R# | 1-2 {M  RGP  2   2   1   2   2}{M  LOG  1   1   0   0 0-1}{M  LOG  1   2   0   0 0-1}",
+            groups: TWO,
+        },
+        3,
+        &[&[1], &[2], &[3]],
+    ),
+    (
+        "two labels, of which the second has the first member",
+        Drawn {
+            root: "C R# | 1-2 {M  RGP  2   2   1   2   2}{M  LOG  1   1   0   0 0-1}{M  LOG  1   2   0   0 0-1}",
+            groups: TURNED,
+        },
+        4,
+        &[&[1], &[2], &[3], &[4]],
+    ),
+    (
+        "the second label once",
+        Drawn {
+            root: "C R# | 1-2 {M  RGP  2   2   1   2   2}{M  LOG  1   1   0   0 0-1}{M  LOG  1   2   0   0 1}",
+            groups: TURNED,
+        },
+        1,
+        &[&[1]],
+    ),
+    (
+        "IF R1 THEN R2 at one site of both",
+        Drawn {
+            root: "C R# | 1-2 {M  RGP  2   2   1   2   2}{M  LOG  1   1   2   0 0-1}{M  LOG  1   2   0   0 1}",
+            groups: TURNED,
+        },
+        2,
+        &[&[1], &[4]],
+    ),
+    (
+        "a label once that one of two sites bears alone",
+        Drawn {
+            root: "C R# R# | 1-2 1-3 {M  RGP  3   2   1   2   2   3   1}{M  LOG  1   1   0   0 1}{M  LOG  1   2   0   0 0-1}",
+            groups: TWO,
+        },
+        3,
+        &[&[1, 2], &[2, 1], &[3, 1]],
+    ),
+    (
+        "two labels of which each asks for a filled site",
+        Drawn {
+            root: "C R# | 1-2 {M  RGP  2   2   1   2   2}",
+            groups: TWO,
+        },
+        0,
+        &[],
+    ),
+    (
+        "one of each of two labels, at two sites of both",
+        Drawn {
+            root: "C R# R# | 1-2 1-3 {M  RGP  4   2   1   2   2   3   1   3   2}{M  LOG  1   1   0   0 1}{M  LOG  1   2   0   0 1}",
+            groups: TWO,
+        },
+        2,
+        &[&[1, 2], &[2, 1]],
+    ),
+    (
+        "IF R1 THEN R2, where a site bears both",
+        Drawn {
+            root: "C R# R# | 1-2 1-3 {M  RGP  3   2   1   2   2   3   2}{M  LOG  1   1   2   0 0-1}{M  LOG  1   2   0   0 1}",
+            groups: TWO,
+        },
+        5,
+        &[&[1, 1], &[2, 1], &[2, 2], &[3, 1], &[3, 2]],
+    ),
+    (
         "a link",
         Drawn {
             root: "O C N | 1-2 2-3 {M  LIN  1   2   3   1   3}",
@@ -215,7 +293,7 @@ pub static CODES: [(&str, Drawn<'static>, usize, &[&[u32]]); 19] = [
 ];
 
 // A name, a front, and the least code from there on, of the query whose codes are `1 1` and `1 2`.
-pub static FRONTS: [(&str, &[u32], Option<&[u32]>); 8] = [
+pub static FRONTS: [(&str, &[u32], Option<&[u32]>); 9] = [
     ("no number", &[], Some(&[1, 1])),
     ("inside a member", &[1], Some(&[1, 1])),
     ("longer than any code", &[1, 1, 5, 5], Some(&[1, 2])),
@@ -224,4 +302,5 @@ pub static FRONTS: [(&str, &[u32], Option<&[u32]>); 8] = [
     ("a code that isn't valid", &[2], None),
     ("above the root's numbers", &[9, 9], None),
     ("below all numbers", &[0, 7], Some(&[1, 1])),
+    ("the last code, and more", &[1, 2, 1, 2, 6, 0], None),
 ];

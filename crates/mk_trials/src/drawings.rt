@@ -10,8 +10,8 @@ pub struct Placed {
     /// The template, and the atom there; 0 for a hydrogen.
     pub template: u32,
     pub atom: u32,
-    /// What is still to be chosen here.
-    pub slot: Option<Slot>,
+    /// A slot stands here at which is still to be chosen.
+    pub open: bool,
     /// Free ends: those that face the first neighbour of a slot, and those that face the second.
     pub near: u32,
     pub far: u32,
@@ -97,7 +97,7 @@ impl Drawing {
                 base,
                 template: t,
                 atom: x,
-                slot: slot_at(template, x),
+                open: slot_at(template, x).is_some(),
                 near: 0,
                 far: 0,
             })?;
@@ -146,11 +146,12 @@ pub fn atom_count(template: &Template) -> u32 {
     template.atoms().len().min(1000) as u32
 }
 
-fn slot_at(template: &Template, x: u32) -> Option<Slot> {
+/// The slot at an atom.
+pub fn slot_at(template: &Template, x: u32) -> Option<&Slot> {
     for slot in template.slots() {
         let (Slot::Link { atom, .. } | Slot::Site { atom, .. }) = slot;
         if *atom == x {
-            return Some(*slot);
+            return Some(slot);
         }
     }
     None
@@ -161,8 +162,8 @@ fn end_in(template: &Template, base: u32, x: u32, y: u32) -> End {
     End {
         name: base.saturating_add(x),
         far: match slot_at(template, x) {
-            Some(Slot::Link { to, .. }) => to == y,
-            Some(Slot::Site { second, .. }) => second == y,
+            Some(Slot::Link { to, .. }) => *to == y,
+            Some(Slot::Site { second, .. }) => *second == y,
             None => false,
         },
     }

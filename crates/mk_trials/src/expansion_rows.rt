@@ -71,9 +71,28 @@ const RING_ON_LINK: Drawn<'static> = Drawn {
     groups: &[],
 };
 
+// Group 2 has the member of the lowest number, and one of group 1 has a site of its own.
+const BOTH: Groups = &[
+    (2, &["F | {M  APO  1   1   1}"]),
+    (
+        1,
+        &[
+            CHLORINE,
+            "O R# | 1-2 {M  RGP  1   2   3}{M  APO  1   1   1}",
+        ],
+    ),
+    (3, &[CHLORINE]),
+];
+
+// A site of the labels 1 and 2, of which the second says that hydrogens stand where it is open.
+pub const TWO_LABELS: Drawn<'static> = Drawn {
+    root: "C R# | 1-2 {M  RGP  2   2   1   2   2}{M  LOG  1   2   0   1 0-1}",
+    groups: BOTH,
+};
+
 // A name, a query, a code, what it becomes, the free ends of the first atoms (none behind), and how
 // many bonds are ring bonds and in the aromatic set.
-pub static EXPANSIONS: [(&str, Drawn<'static>, &[u32], &str, &[u32], (usize, usize)); 27] = [
+pub static EXPANSIONS: [(&str, Drawn<'static>, &[u32], &str, &[u32], (usize, usize)); 32] = [
     (
         "no slots",
         Drawn {
@@ -271,6 +290,49 @@ pub static EXPANSIONS: [(&str, Drawn<'static>, &[u32], &str, &[u32], (usize, usi
         &[1, 2],
         "C O H | 1-2 2-3",
         &[],
+        (0, 0),
+    ),
+    (
+        "a member of the second of two labels",
+        TWO_LABELS,
+        &[1],
+        "C F | 1-2",
+        &[],
+        (0, 0),
+    ),
+    (
+        "a member of the first of two labels",
+        TWO_LABELS,
+        &[2],
+        "C Cl | 1-2",
+        &[],
+        (0, 0),
+    ),
+    (
+        "its other member, with a site of its own",
+        TWO_LABELS,
+        &[3, 1],
+        "C O Cl | 1-2 2-3",
+        &[],
+        (0, 0),
+    ),
+    (
+        "a hydrogen by the second of two labels",
+        TWO_LABELS,
+        &[4],
+        "C H | 1-2",
+        &[],
+        (0, 0),
+    ),
+    (
+        "no hydrogen where neither of two labels says so",
+        Drawn {
+            root: "C R# | 1-2 {M  RGP  2   2   1   2   3}{M  LOG  1   2   0   1 0-1}",
+            groups: BOTH,
+        },
+        &[4],
+        "C |",
+        &[1],
         (0, 0),
     ),
     (

@@ -1,7 +1,7 @@
 // The expansions of drawn queries, written out, and those of more queries beside the plain program.
 use crate::comparing::{are_atoms, is_as_drawn, marks_of};
 use crate::drawn_queries::{Drawn, expansion_of, query_of};
-use crate::expansion_rows::{CHLORINE, EXPANSIONS, HYDROGEN_AND_LINK, TURNED};
+use crate::expansion_rows::{CHLORINE, EXPANSIONS, HYDROGEN_AND_LINK, TURNED, TWO_LABELS};
 use crate::plain_codes::structural_codes;
 use crate::plain_expansions::drawing_by;
 use mk_fixtures::graph_of_sketch;
@@ -26,7 +26,7 @@ fn queries_have_their_expansions(rt: HostRuntime) -> Result<(), Fail> {
 
 // Queries with everything that a template can hold, by every structural code, of which each has at
 // most 200.
-static QUERIES: [(&str, Drawn<'static>); 4] = [
+static QUERIES: [(&str, Drawn<'static>); 6] = [
     (
         "a link between sites of two groups, in a ring",
         Drawn {
@@ -67,6 +67,22 @@ static QUERIES: [(&str, Drawn<'static>); 4] = [
             ],
         },
     ),
+    (
+        "a site of two labels between two neighbours, and one in its member",
+        Drawn {
+            root: "O R# C | 1=2/1 2-3/2 {M  RGP  2   2   1   2   2}{M  LOG  1   2   0   1 0-1}",
+            groups: &[
+                (2, &["N | {M  APO  1   1   3}"]),
+                (
+                    1,
+                    &["C R# S | 1-2 1-3 {M  RGP  2   2   3   2   4}{M  APO  2   1   1   3   2}"],
+                ),
+                (4, &["F | {M  APO  1   1   1}"]),
+                (3, &[CHLORINE]),
+            ],
+        },
+    ),
+    ("a site of two labels", TWO_LABELS),
     ("open sites with hydrogens beside links", HYDROGEN_AND_LINK),
     ("neighbours the other way round", TURNED),
 ];

@@ -7,7 +7,8 @@
 //! replaces one slot of a drawing after another. Both are slow, and written from docs/MEANING.md,
 //! "Generic queries", and from nothing else.
 //!
-//! What is promised of codes and expansions is proved in mk_choice and mk_expand.
+//! What is promised of codes and expansions is proved in mk_choice and mk_expand. The tests of
+//! mk_fixtures, mk_match and mk_drill stand here too, since a crate with tests is proved twice.
 #![tactic(auto)]
 
 #[cfg(test)]
@@ -21,9 +22,15 @@ mod drawings;
 #[cfg(test)]
 mod drawn_queries;
 #[cfg(test)]
+mod drill_tests;
+#[cfg(test)]
 mod expansion_rows;
 #[cfg(test)]
 mod expansion_tests;
+#[cfg(test)]
+mod key_tests;
+#[cfg(test)]
+mod match_tests;
 #[cfg(test)]
 mod plain_codes;
 #[cfg(test)]
@@ -32,3 +39,5 @@ mod plain_expansions;
 mod plain_links;
 #[cfg(test)]
 mod plain_sites;
+#[cfg(test)]
+mod sketch_tests;

@@ -72,7 +72,7 @@ fn put_atom(all: &mut Drawing, copies: &Copies, atom: Placed, count: u32) -> Res
     for j in 1..=count {
         all.atoms.push(Placed {
             base: copies.start(j),
-            slot: None,
+            open: false,
             near: if j == 1 { atom.near } else { 0 },
             far: if j == count { atom.far } else { 0 },
             ..atom

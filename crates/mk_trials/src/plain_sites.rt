@@ -56,7 +56,7 @@ fn hydrogen(name: u32) -> Placed {
         base: name,
         template: 0,
         atom: 0,
-        slot: None,
+        open: false,
         near: 0,
         far: 0,
     }

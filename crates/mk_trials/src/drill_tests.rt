@@ -1,17 +1,8 @@
-// The first draws, and lines of the drill. The first line is worked out by hand, and the others by
-// a program of twenty lines that knows which hits benzenes with such substituents have.
-use crate::draws::{Draws, draw_below};
-use crate::drill;
+// Lines of the drill. The first is worked out by hand, and the others by a program of twenty lines
+// that knows which hits benzenes with such substituents have.
+use mk_drill::drill;
 use std::alloc::Global;
 use std::test::Fail;
-
-#[test]
-fn six_draws(rt: HostRuntime) {
-    let mut draws = Draws { state: 0 };
-    for want in [6, 0, 4, 1, 2, 6] {
-        assert_eq!(rt; draw_below(&mut draws, 8), want);
-    }
-}
 
 static ROWS: [(&str, u32, u32, &[u8]); 4] = [
     ("one molecule", 0, 1, b"drill 1 hits 6 fold 798\n"),
