@@ -15,3 +15,4 @@ pub mod MapsLemmas
 pub mod ForCallers
 pub mod TurnLemmas
 pub mod SearchTurnLemmas
+pub mod HeldLemmas

@@ -12,3 +12,4 @@ pub mod Lending
 pub mod Plain
 pub mod Turns
 pub mod SearchTurns
+pub mod Held

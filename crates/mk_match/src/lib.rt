@@ -3,7 +3,8 @@
 //! Callers use one promise: `least_map` gives the least hit that isn't below a front, and None
 //! exactly where there is none (`IsHit` in mk_model's `specs/Hits.antt`, `IsLeastFrom` in mk_text's
 //! `specs/Rising.antt`). `Maps` gives the hits from a place on, one after another, and its place
-//! (`specs/Maps.antt`). Either ticks exactly one begin.
+//! (`specs/Maps.antt`). Either ticks exactly one begin. `may_hold` tells by some turns whether a
+//! molecule may have a hit (`specs/Held.antt`).
 //!
 //! A walk goes through the graph's atoms in order, which is the order of the hits, and keeps its
 //! place in flat lists. Before an image is taken, a look ahead asks whether any hit begins so: it
@@ -17,6 +18,7 @@ mod asked;
 mod candidates;
 mod counts;
 mod earlier_bonds;
+mod held;
 mod laws;
 mod maps;
 mod order;
@@ -26,5 +28,6 @@ mod table;
 mod walk;
 
 pub use asked::{Asked, Counts, ElementCount, cannot_hold, counts_asked, counts_there};
+pub use held::may_hold;
 pub use laws::{hits_are_listed, hits_are_taken_in_order};
 pub use maps::{Maps, least_map};
