@@ -25,6 +25,7 @@ use Rattle.mk_pieces.specs.Rooms.{IsWithin}
 use Rattle.mk_pieces.proofs.DrawnLemmas.{drawn_inside, drawn_outside, drawn_spans}
 use Rattle.mk_pieces.proofs.PieceLemmas.{FitsSlot, fit_at}
 use Rattle.mk_pieces.proofs.SpanLemmas.{IsOf, Spans, one_atom}
+use Rattle.mk_pieces.proofs.StandLemmas.{own_only}
 use Rattle.mk_pieces.proofs.TakerLemmas.{taker_is_slot}
 use Rattle.mk_pieces.proofs.TemplateLemmas.{bonds_within}
 use Rattle.mk_open.specs.OpenGraphs.{is_loose}
@@ -96,13 +97,6 @@ module _ (template : TemplateView) (ps qs : List Piece) (others : List (List ℕ
 
       same : taker template bond.first ≡ taker template bond.second
       same = (let is = both.1 in grind (arith, nat_tests))
-
-      own_only : (a y : ℕ) → (eqb a y || false) ≡ true → a ≡ y
-      own_only a y is = by_test (eqb a y) refl is
-        where
-          by_test : (b : Bool) → eqb a y ≡ b → (b || false) ≡ true → a ≡ y
-          by_test true t is' = grind (arith, nat_tests)
-          by_test false t is' = absurd cc
 
       of_pieces : (p' q' : Piece) (places : List ℕ) → taker template bond.first ≡ taker template bond.second → (m : ℕ) → q' ≡ Copies m
           → piece template ps bond.first ≡ p' → piece template qs bond.first ≡ q' → own_places template others bond.first ≡ places → GrowsBy p' q' places → IsInLink bond.first bond.second

@@ -16,6 +16,7 @@ use Rattle.std.proofs.lemmas.Bool.Decides.{nat_tests}
 use Rattle.std.proofs.lemmas.List.Kept.{AllPairs-filter}
 use Rattle.std.proofs.lemmas.List.Sums.{length-filter, sum_by-append, sum_by-cons}
 use Rattle.std.proofs.lemmas.Map.Made.{IsDistinct-from_AllPairs, is_member-Decides, is_member-filter, length-le_from_is_member}
+use Rattle.mk_text.proofs.ForCallers.{both as both_parts}
 
 -- 1 where it is so
 abbrev pub one_if : Bool → ℕ
@@ -166,13 +167,8 @@ counted_within p xs ys distinct all =
     same_test : (a b : Ends) → same_ends a b ≡ true → p a ≡ p b
     same_test a b same = ap p ((ends_are a b).0 same)
 
-    parts : (a b : Bool) → (a && b) ≡ true → (a ≡ true) × (b ≡ true)
-    parts true true e = (refl, refl)
-    parts true false e = absurd cc
-    parts false b e = absurd cc
-
     member : (q : Ends) → is_member same_ends (filter p xs) q ≡ true → is_member same_ends (filter p ys) q ≡ true
     member q is =
-        let both = parts (is_member same_ends xs q) (p q) (sym (is_member-filter ends_equal p q (λ x. same_test q x) xs) ∙ is) in
+        let both = both_parts (is_member same_ends xs q) (p q) (sym (is_member-filter ends_equal p q (λ x. same_test q x) xs) ∙ is) in
         let there : is_member same_ends ys q ≡ true = (is_member-Decides ends_are ys q).1 (all q ((is_member-Decides ends_are xs q).0 both.0)) in
         is_member-filter ends_equal p q (λ x. same_test q x) ys ∙ rw (there, both.1) refl

@@ -18,6 +18,7 @@ use Rattle.mk_model.specs.Pieces.Piece.{Copies, Member, Hydrogens, Nothing}
 use Rattle.mk_model.specs.QueryFits.{AreNeighbours, HasSitesApart}
 use Rattle.mk_model.specs.Sizes.{takes_atom}
 use Rattle.mk_model.specs.Templates.{TemplateView, joins, slot_atom}
+use Rattle.mk_text.proofs.ForCallers.{both as both_parts}
 use Rattle.mk_pieces.specs.Kept.{IsSlotOf, IsTemplate}
 use Rattle.mk_pieces.proofs.JoinedLemmas.{slot_piece}
 use Rattle.mk_pieces.proofs.JoiningLemmas.{joins_ends}
@@ -40,11 +41,6 @@ zipped_total f (slot ∷ slots) [] size = absurd (omega arith)
 zipped_total f (slot ∷ slots) (p ∷ ps) size = omega (arith, zipped_total f slots ps (omega arith), sum_by-cons f (slot, p) (zip slots ps))
 
 -- ---- one template
-
-both_parts : (a b : Bool) → (a && b) ≡ true → (a ≡ true) × (b ≡ true)
-both_parts true true e = (refl, refl)
-both_parts true false e = absurd cc
-both_parts false b e = absurd cc
 
 module _ (template : TemplateView) (kept : IsTemplate template) (apart : HasSitesApart template) (qs : List Piece) (fit : FitSlots template.slots qs) where
   -- something stands beside a site

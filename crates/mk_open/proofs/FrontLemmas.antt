@@ -1,7 +1,10 @@
 -- Fronts as open codes, and past a front.
 --     opened_at            a choice whose numbers begin with a front, open behind it
+--     all_open             all slots left open, an open choice that agrees with each choice
 --     has_open_code        a front with which a code begins has an open code
 --     completed            each code that begins with the front completes it
+--     own_code             where an occurrence begins with the front, so does its code
+--     none_inside          no occurrence begins with a front whose graph has no hit
 --     passed_over          what remains inside a front that no code can hold
 use Rattle.std.proofs.Common.{◌≡◌, ◌∙◌, ℕ, zero, suc, ◌+◌, ◌-◌, ◌⊎◌, inl, inr, List, [], ◌∷◌, ◌++◌, length, replicate, refl, sym, ap, subst, arith, append_assoc}
 use Rattle.std.proofs.lemmas.Bool.{cases_lt}
@@ -27,19 +30,16 @@ use Rattle.mk_open.specs.OpenCodes.OpenChoice.{no_more, undecided, repeats, vaca
 use Rattle.mk_open.specs.OpenGraphs.{IsOpenGraph}
 use Rattle.mk_open.proofs.LawLemmas.{no_hit}
 use Rattle.mk_open.proofs.OpenChoiceLemmas.{one_open_choice}
+use Rattle.mk_open.proofs.SplitLemmas.{heads, tails}
 
 -- ---- numbers
 
-heads : (x y : ℕ) (xs ys : List ℕ) → x ∷ xs ≡ y ∷ ys → x ≡ y
-heads x y xs ys e = cc
-
-tails : (x y : ℕ) (xs ys : List ℕ) → x ∷ xs ≡ y ∷ ys → xs ≡ ys
-tails x y xs ys e = cc
-
-abbrev zeros : ℕ → List ℕ
+-- so many slots that are left open
+abbrev pub zeros : ℕ → List ℕ
 zeros n = replicate n 0
 
-zeros_add : (n m : ℕ) → zeros n ++ zeros m ≡ zeros (n + m)
+-- zeros behind zeros
+pub zeros_add : (n m : ℕ) → zeros n ++ zeros m ≡ zeros (n + m)
 zeros_add zero m = (let same : m ≡ 0 + m = omega arith in ap (λ (k : ℕ). zeros k) same)
 zeros_add (suc n) m = (let same : suc (n + m) ≡ suc n + m = omega arith in ap (λ (xs : List ℕ). 0 ∷ xs) (zeros_add n m) ∙ ap (λ (k : ℕ). zeros k) same)
 
@@ -49,19 +49,23 @@ nothing_left (x ∷ xs) ys e = absurd cc
 
 -- ---- all slots open
 
-abbrev all_open : List Slot → OpenChoice
+-- the open choice that leaves all slots open
+abbrev pub all_open : List Slot → OpenChoice
 all_open [] = no_more
 all_open (slot ∷ slots) = undecided (all_open slots)
 
-all_open_made : (query : QueryView) (slots : List Slot) → IsOpenChoice query slots (all_open slots)
+-- it is one at the slots
+pub all_open_made : (query : QueryView) (slots : List Slot) → IsOpenChoice query slots (all_open slots)
 all_open_made query [] = tt
 all_open_made query (slot ∷ slots) = all_open_made query slots
 
-all_open_spelt : (slots : List Slot) → open_spelling (all_open slots) ≡ zeros (length slots)
+-- it has 0 for each slot
+pub all_open_spelt : (slots : List Slot) → open_spelling (all_open slots) ≡ zeros (length slots)
 all_open_spelt [] = refl
 all_open_spelt (slot ∷ slots) = ap (λ (xs : List ℕ). 0 ∷ xs) (all_open_spelt slots)
 
-all_open_agrees : (query : QueryView) (slots : List Slot) (choice : Choice) → IsChoice query slots choice → Agrees (all_open slots) choice
+-- and agrees with each choice
+pub all_open_agrees : (query : QueryView) (slots : List Slot) (choice : Choice) → IsChoice query slots choice → Agrees (all_open slots) choice
 all_open_agrees query [] done is = tt
 all_open_agrees query [] (repeated n more) is = absurd is
 all_open_agrees query [] (unfilled n more) is = absurd is
@@ -269,31 +273,33 @@ one_begins (x ∷ xs) (y ∷ ys) us vs same = by (one_begins xs ys us vs (tails 
     by (inl (m, is)) = inl (m, ap (λ (z : ℕ). z ∷ xs) first ∙ ap (λ (zs : List ℕ). y ∷ zs) is)
     by (inr (m, is)) = inr (m, ap (λ (z : ℕ). z ∷ ys) (sym first) ∙ ap (λ (zs : List ℕ). x ∷ zs) is)
 
--- no occurrence begins with a front whose graph has no hit
-none_inside : (query : QueryView) (mol : Molecule) (front more : List ℕ) (n : ℕ) (part : GraphView) → QueryFits query → BeginsCode query front → IsOpenGraph query (front_code front n) part
-    → ((hit : List ℕ) → IsHit part mol hit → ⊥) → IsOccurrence query mol (front ++ more) → ⊥
-none_inside query mol front more n part fits begins graph none occurs = by (one_begins occurs.code front occurs.hit more (sym occurs.whole))
+-- where an occurrence begins with a front with which a code begins, its own code begins with it
+pub own_code : (query : QueryView) (mol : Molecule) (front more : List ℕ) → BeginsCode query front → (occurs : IsOccurrence query mol (front ++ more))
+    → (m : List ℕ) × (occurs.code ≡ front ++ m)
+own_code query mol front more begins occurs = by (one_begins occurs.code front occurs.hit more (sym occurs.whole))
   where
-    is_open : IsOpenCode query 0 (front_code front n)
-    is_open = record { choice = graph.choice; made = graph.made; spelt = graph.spelt }
-
     own : IsCode query 0 occurs.code
     own = record { choice = occurs.expanded.choice; made = occurs.expanded.made; spelt = occurs.expanded.spelt }
 
-    at : (m : List ℕ) → occurs.code ≡ front ++ m → ⊥
-    at m is =
-        let completes : Completes query occurs.code (front_code front n) =
-        subst (λ (code : List ℕ). Completes query code (front_code front n)) (sym is) (completed query front m n is_open (subst (IsCode query 0) is own)) in
-        no_hit query (front_code front n) part mol fits graph none occurs.code occurs.graph occurs.hit completes occurs.expanded occurs.hits
-
-    by : ((m : List ℕ) × (occurs.code ≡ front ++ m)) ⊎ ((m : List ℕ) × (front ≡ occurs.code ++ m)) → ⊥
-    by (inl (m, is)) = at m is
+    by : ((m : List ℕ) × (occurs.code ≡ front ++ m)) ⊎ ((m : List ℕ) × (front ≡ occurs.code ++ m)) → (m : List ℕ) × (occurs.code ≡ front ++ m)
+    by (inl found) = found
     by (inr (m, is)) =
         let longer : occurs.code ++ (m ++ begins.more) ≡ front ++ begins.more = sym (append_assoc occurs.code m begins.more) ∙ ap (λ (xs : List ℕ). xs ++ begins.more) (sym is) in
         let same = one_choice query (slots_of query 0) own.choice begins.code.choice (m ++ begins.more) [] own.made begins.code.made
         (ap (λ (xs : List ℕ). xs ++ (m ++ begins.more)) own.spelt ∙ longer ∙ sym begins.code.spelt ∙ sym (append-nil (spelling begins.code.choice))) in
         let empty : m ≡ [] = nothing_left m begins.more same.rests in
-        at [] (sym (is ∙ ap (λ (xs : List ℕ). occurs.code ++ xs) empty ∙ append-nil occurs.code) ∙ sym (append-nil front))
+        ([], sym (is ∙ ap (λ (xs : List ℕ). occurs.code ++ xs) empty ∙ append-nil occurs.code) ∙ sym (append-nil front))
+
+-- no occurrence begins with a front whose graph has no hit
+pub none_inside : (query : QueryView) (mol : Molecule) (front more : List ℕ) (n : ℕ) (part : GraphView) → QueryFits query → BeginsCode query front → IsOpenGraph query (front_code front n) part
+    → ((hit : List ℕ) → IsHit part mol hit → ⊥) → IsOccurrence query mol (front ++ more) → ⊥
+none_inside query mol front more n part fits begins graph none occurs =
+    let begun = own_code query mol front more begins occurs in
+    let is_open : IsOpenCode query 0 (front_code front n) = record { choice = graph.choice; made = graph.made; spelt = graph.spelt } in
+    let own : IsCode query 0 occurs.code = record { choice = occurs.expanded.choice; made = occurs.expanded.made; spelt = occurs.expanded.spelt } in
+    let completes : Completes query occurs.code (front_code front n) =
+    subst (λ (code : List ℕ). Completes query code (front_code front n)) (sym begun.1) (completed query front begun.0 n is_open (subst (IsCode query 0) begun.1 own)) in
+    no_hit query (front_code front n) part mol fits graph none occurs.code occurs.graph occurs.hit completes occurs.expanded occurs.hits
 
 pub passed_over : FrontsArePassedOver
 passed_over query mol numbers tail last n part fits begins graph none = record {

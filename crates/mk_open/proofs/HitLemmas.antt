@@ -25,18 +25,15 @@ use Rattle.mk_model.specs.Hits.{IsHit, image}
 use Rattle.mk_model.specs.Molecules.{Molecule}
 use Rattle.mk_model.specs.Pieces.{Fragment}
 use Rattle.mk_model.specs.Tests.{accepts, asked_kind, charge_fits, hydrogens_fit, is_double, is_single, meets, radical_fits, ring_bonds_fit, substitution_fits, takes_kind, takes_topology, unsaturation_fits}
+use Rattle.mk_text.proofs.ForCallers.{both as both_parts, or_left, or_right}
 use Rattle.mk_model.proofs.ForCallers.{at_place}
+use Rattle.mk_pieces.proofs.JoiningLemmas.{in_mapped}
 use Rattle.mk_open.specs.OpenGraphs.{weaker_atom, weaker_bond, weaker_kind, weaker_rings}
 use Rattle.mk_open.proofs.CountLemmas.{Ends, count_mapped, count_same, counted_within, one_if, with_ends}
 use Rattle.mk_open.proofs.SharedLemmas.{IsShared, moved}
 use Rattle.mk_open.proofs.SpokeLemmas.{meets_at, spoke}
 
 -- ---- weaker tests
-
-both_parts : (a b : Bool) → (a && b) ≡ true → (a ≡ true) × (b ≡ true)
-both_parts true true e = (refl, refl)
-both_parts true false e = absurd cc
-both_parts false b e = absurd cc
 
 -- more drawn, and no more drawn or free
 hydrogens_weaker : (column h f h' f' count : ℕ) → h ≤ h' → h' + f' ≤ h + f → hydrogens_fit column h' f' count ≡ true → hydrogens_fit column h f count ≡ true
@@ -78,14 +75,6 @@ rings_weaker : (asked : ℤ) (d d' count : ℕ) → ring_bonds_fit asked d' coun
 rings_weaker (pos n) d d' count fits = fits
 rings_weaker (negsuc zero) d d' count fits = fits
 rings_weaker (negsuc (suc n)) d d' count fits = refl
-
-or_right : (a b : Bool) → b ≡ true → (a || b) ≡ true
-or_right true b e = refl
-or_right false b e = e
-
-or_left : (a b : Bool) → a ≡ true → (a || b) ≡ true
-or_left true b e = refl
-or_left false b e = absurd cc
 
 -- a bond that meets a type meets the weaker one, whatever is aromatic in the graphs
 kind_weaker : (k : ℕ) (a c : Bool) (bond : MolBond) → takes_kind (cond (a && (eqb k 1 || eqb k 2)) 4 k) bond ≡ true
@@ -182,9 +171,6 @@ of_mapped f [] y (k, below, is) = absurd (omega (arith, below))
 of_mapped f (x ∷ xs) y (zero, below, is) = (x, (0, omega arith, refl), is)
 of_mapped f (x ∷ xs) y (suc k, below, is) = (let found = of_mapped f xs y (k, omega (arith, below), is) in (found.0, (suc found.1.0, (let less = found.1.1 in omega arith), found.1.2), found.2))
 
-to_mapped : {X Y : Type 0} (f : X → Y) (xs : List X) (x : X) → Contains xs x → Contains (map f xs) (f x)
-to_mapped f xs x (k, below, is) = (k, omega (arith, length-map xs f, below), get_or-map f xs k x (f x) below ∙ ap f is)
-
 -- the bonds of a graph differ in their ends
 ends_differ : (graph : GraphView) → IsGraph graph → AllPairs (λ a b. a ≢ b) (map ends_of graph.bonds)
 ends_differ graph kept i j d less within same =
@@ -251,7 +237,7 @@ module _ (small large : Fragment) (places : List ℕ) (shared : IsShared small l
   bond_shared : (bond : GraphBond) → Contains part.bonds bond → IsBondShared bond
   bond_shared bond held =
       let there = Contains-permutation (map unmarked part.bonds) (map weaker_bond small.bonds) (unmarked bond) (IsPermutation-sym (map weaker_bond small.bonds) (map unmarked part.bonds) weak.bonds)
-      (to_mapped unmarked part.bonds bond held) in
+      (in_mapped unmarked part.bonds bond held) in
       let from = of_mapped weaker_bond small.bonds (unmarked bond) there in
       let ends = shared.ends from.0 from.1 in
       let out = of_mapped unmarked whole.bonds (moved places from.0) (drawn.all (moved places from.0) (shared.bonds from.0 from.1)) in
@@ -299,7 +285,7 @@ module _ (small large : Fragment) (places : List ℕ) (shared : IsShared small l
         let first : (ends_of there.other).first ≡ (moved_ends one.0).first = there.first ∙ ap (λ (b : Ends). e b.first) two.2 in
         let second : (ends_of there.other).second ≡ (moved_ends one.0).second = there.second ∙ ap (λ (b : Ends). e b.second) two.2 in
         let same : ends_of there.other ≡ a = ap (λ (q : ℕ). with_ends q there.other.second) first ∙ ap (with_ends (e one.0.first)) second ∙ one.2 in
-        subst (Contains (map ends_of whole.bonds)) same (to_mapped ends_of whole.bonds there.other there.held)
+        subst (Contains (map ends_of whole.bonds)) same (in_mapped ends_of whole.bonds there.other there.held)
 
     moved_differ : AllPairs (λ a b. a ≢ b) (map moved_ends (map ends_of part.bonds))
     moved_differ i j d less within same =
@@ -341,7 +327,7 @@ module _ (small large : Fragment) (places : List ℕ) (shared : IsShared small l
         let two = bonds_to_is P (e x) whole drawn.kept in
         let inside = counted_within (ends_spoke P (e x)) (map ends_of whole.bonds) (map query_ends large.bonds) (ends_differ whole drawn.kept) (λ a held.
         (let from = of_mapped ends_of whole.bonds a held in
-        subst (Contains (map query_ends large.bonds)) from.2 (to_mapped query_ends large.bonds (unmarked from.0) (drawn.each from.0 from.1)))) in
+        subst (Contains (map query_ends large.bonds)) from.2 (in_mapped query_ends large.bonds (unmarked from.0) (drawn.each from.0 from.1)))) in
         let large_count = count_mapped (ends_spoke P (e x)) query_ends large.bonds in
         let spokes = shared.spokes P x d is_x.0 is_x.1 in
         let turned = sum_by-IsPermutation (λ b. one_if (spoke T x b)) (map weaker_bond small.bonds) (map unmarked part.bonds) weak.bonds in

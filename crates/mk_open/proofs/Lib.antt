@@ -19,4 +19,9 @@ pub mod OpenSlotLemmas
 pub mod CompletionLemmas
 pub mod MadeLemmas
 pub mod FrontLemmas
+pub mod SplitLemmas
+pub mod AloneLemmas
+pub mod PassingLemmas
 pub mod OpenOnLiterals
+pub mod AloneOnLiterals
+pub mod ForCallers

@@ -1,7 +1,7 @@
 -- The bonds of a part stand in the whole.
 --     moved_between      a bond between two places
 --     bonds_moved        each bond of the part stands in the whole, at the places of its ends there
-use Rattle.std.proofs.Common.{◌≡◌, ◌∙◌, ℕ, zero, suc, ◌+◌, ◌-◌, ◌≤◌, inl, inr, Bool, true, false, cond, ◌||◌, ltb, List, [], ◌∷◌, length, get_or, map, refl, sym, ap, subst, arith}
+use Rattle.std.proofs.Common.{◌≡◌, ◌∙◌, ℕ, ◌+◌, ◌-◌, ◌≤◌, inl, inr, Bool, true, false, cond, ◌||◌, ltb, List, [], ◌∷◌, length, get_or, map, refl, sym, ap, subst, arith}
 use Rattle.std.specs.Prelude.{Contains}
 use Rattle.std.specs.List.{flat_map}
 use Rattle.std.proofs.lemmas.Bool.{cases_eq, cases_lt}
@@ -10,7 +10,7 @@ use Rattle.std.proofs.lemmas.List.Elements.{All-contains, Contains-append_cases,
 use Rattle.mk_model.specs.declared.template.QueryBond.{QueryBond}
 use Rattle.mk_model.specs.declared.template.Slot.{Slot}
 use Rattle.mk_model.specs.declared.template.Slot.TheVariants.{Link, Site}
-use Rattle.mk_model.specs.Expansions.{all_within, bond_between, bond_joining, bonds_within, chained, copied, drawn, is_hydrogens, is_inside, is_nothing, joined, shifted, spanned}
+use Rattle.mk_model.specs.Expansions.{all_within, bond_between, bond_joining, bonds_within, chained, copied, drawn, is_hydrogens, is_inside, joined, shifted}
 use Rattle.mk_model.specs.Hits.{image}
 use Rattle.mk_model.specs.Pieces.{Piece, before, ending, numbers_to, piece, piece_numbered, room, width}
 use Rattle.mk_model.specs.Pieces.Piece.{Copies, Member, Hydrogens, Nothing}
@@ -18,7 +18,7 @@ use Rattle.mk_model.specs.QueryFits.{IsAtomOf}
 use Rattle.mk_model.specs.Templates.{TemplateView, slot_atom}
 use Rattle.mk_pieces.specs.Rooms.{AreEndsWithin, IsWithin, StandsAt}
 use Rattle.mk_pieces.proofs.DrawnLemmas.{copied_is, drawn_inside, drawn_outside}
-use Rattle.mk_pieces.proofs.JoiningLemmas.{in_flat, in_mapped, in_row, in_slots, spanned_is}
+use Rattle.mk_pieces.proofs.JoiningLemmas.{in_flat, in_mapped, in_row, in_slots, is_spanned, spanned_is}
 use Rattle.mk_pieces.proofs.PairLemmas.{one_of}
 use Rattle.mk_pieces.proofs.PieceLemmas.{FitsSlot, fit_at, fit_length}
 use Rattle.mk_pieces.proofs.TakerLemmas.{taker_of_slot}
@@ -120,41 +120,16 @@ module _ (template : TemplateView) (ps qs : List Piece) (others : List (List ℕ
 
   -- ---- between two pieces
 
-  -- the bond between two pieces, both of which stand
-  record IsSpanned (p q : Piece) (bond : QueryBond) (x y : ℕ) (b : QueryBond) : Type 0 where
-    first : is_nothing p ≡ false
-    second : is_nothing q ≡ false
-    is : b ≡ bond_between x y (cond (is_hydrogens p || is_hydrogens q) 1 bond.kind) (cond (is_hydrogens p || is_hydrogens q) 0 bond.topology)
-
-  spanned_held : (p q : Piece) (bond : QueryBond) (x y : ℕ) (b : QueryBond) → Contains (spanned p q bond x y) b → IsSpanned p q bond x y b
-  spanned_held p q bond x y b held = by (is_nothing p) (is_nothing q) refl refl
-    where
-      none : (c : Bool) → (is_nothing p || is_nothing q) ≡ true → Contains (spanned p q bond x y) b → ⊥
-      none c is (k, below, at) = (let empty : spanned p q bond x y ≡ [] = rw is refl in omega (arith, below, ap length empty))
-
-      alone : (d c : QueryBond) → Contains (d ∷ []) c → d ≡ c
-      alone d c (zero, below, is) = is
-      alone d c (suc k, below, is) = absurd (omega (arith, below))
-
-      by : (n m : Bool) → is_nothing p ≡ n → is_nothing q ≡ m → IsSpanned p q bond x y b
-      by true m is is' = absurd (none true (ap (λ (c : Bool). c || is_nothing q) is) held)
-      by false true is is' = absurd (none true (ap (λ (c : Bool). c || is_nothing q) is ∙ is') held)
-      by false false is is' = record {
-        first = is;
-        second = is';
-        is = sym (alone _ b (subst (λ (bs : List QueryBond). Contains bs b) (spanned_is p q bond x y is is') held));
-      }
-
   outside_moved : (bond b : QueryBond) → IsWithin template bond → is_inside template bond ≡ false → Contains (drawn template ps bond) b → IsMoved (drawn template qs bond) b
   outside_moved bond b within outside held =
       let u = bond.first in
       let v = bond.second in
-      let found = spanned_held (piece template ps u) (piece template ps v) bond (ending template ps u v) (ending template ps v u) b
+      let found = is_spanned (piece template ps u) (piece template ps v) bond (ending template ps u v) (ending template ps v u) b
       (subst (λ (bs : List QueryBond). Contains bs b) (drawn_outside template ps bond outside) held) in
-      let one = still_stands (piece template ps u) (piece template qs u) (own_places template others u) (grows template ps qs others level u) found.first in
-      let other = still_stands (piece template ps v) (piece template qs v) (own_places template others v) (grows template ps qs others level v) found.second in
-      let end = ending_moved template ps qs others level u v within.first within.second.0 found.first in
-      let end' = ending_moved template ps qs others level v u within.second within.first.0 found.second in
+      let one = still_stands (piece template ps u) (piece template qs u) (own_places template others u) (grows template ps qs others level u) found.one_there in
+      let other = still_stands (piece template ps v) (piece template qs v) (own_places template others v) (grows template ps qs others level v) found.other_there in
+      let end = ending_moved template ps qs others level u v within.first within.second.0 found.one_there in
+      let end' = ending_moved template ps qs others level v u within.second within.first.0 found.other_there in
       let h = is_hydrogens (piece template ps u) || is_hydrogens (piece template ps v) in
       let same : (is_hydrogens (piece template qs u) || is_hydrogens (piece template qs v)) ≡ (is_hydrogens (piece template ps u) || is_hydrogens (piece template ps v)) =
       ap (λ (c : Bool). c || is_hydrogens (piece template qs v)) one.1 ∙ ap (λ (c : Bool). is_hydrogens (piece template ps u) || c) other.1 in

@@ -24,6 +24,7 @@ use Rattle.mk_open.specs.OpenGraphs.{open_expansion, open_pieces, opened}
 use Rattle.mk_open.proofs.LevelLemmas.{level_shared}
 use Rattle.mk_open.proofs.PlaceLemmas.{IsLevel, level_places}
 use Rattle.mk_open.proofs.SharedLemmas.{AllGrow, GrowsBy, IsShared}
+use Rattle.mk_open.proofs.SplitLemmas.{heads, tails}
 
 -- ---- read one way
 
@@ -31,12 +32,6 @@ use Rattle.mk_open.proofs.SharedLemmas.{AllGrow, GrowsBy, IsShared}
 pub record AreOneOpen (choice other : OpenChoice) (rest others : List ℕ) : Type 0 where
   pub choices : choice ≡ other
   pub rests : rest ≡ others
-
-heads : (x y : ℕ) (xs ys : List ℕ) → x ∷ xs ≡ y ∷ ys → x ≡ y
-heads x y xs ys e = cc
-
-tails : (x y : ℕ) (xs ys : List ℕ) → x ∷ xs ≡ y ∷ ys → xs ≡ ys
-tails x y xs ys e = cc
 
 -- numbers that begin with an open choice at some slots begin with no other
 pub one_open_choice : (query : QueryView) (slots : List Slot) (choice other : OpenChoice) (rest others : List ℕ)

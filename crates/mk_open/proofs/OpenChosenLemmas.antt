@@ -5,13 +5,13 @@ use Rattle.std.proofs.Common.{◌≡◌, ◌∙◌, ℕ, ◌+◌, ◌<◌, ◌�
 use Rattle.std.proofs.lemmas.List.{drop_more, drop_all, append-nil}
 use Rattle.mk_model.specs.Pieces.{Piece}
 use Rattle.mk_model.specs.declared.template.Slot.{Slot}
-use Rattle.mk_model.specs.declared.template.Slot.TheVariants.{Link, Site}
 use Rattle.mk_open.specs.OpenCodes.{OpenChoice, IsOpenChoice, open_spelling}
 use Rattle.mk_open.specs.OpenCodes.OpenChoice.{no_more, undecided, repeats, vacates, fills}
 use Rattle.mk_open.specs.OpenGraphs.{open_pieces}
 use Rattle.mk_model.specs.Queries.{QueryView}
 use Rattle.mk_open.proofs.OpenChoiceLemmas.{one_open_choice}
 use Rattle.mk_open.specs.Opening.{AreOpenChosen, OpenBegins}
+use Rattle.mk_open.proofs.SplitLemmas.{IsOpenSplit, open_split}
 
 -- The first k slots have become these pieces by the numbers between two places, and the code goes on with a choice at the
 -- others; both together are a choice at all slots.
@@ -37,80 +37,31 @@ left_none query slots code begins = record {
   are = refl;
 }
 
--- a choice at the first of some slots, and one at those behind it
-record Parted (query : QueryView) (slot : Slot) (slots : List Slot) (choice : OpenChoice) : Type 0 where
-  one : OpenChoice
-  more : OpenChoice
-  made_one : IsOpenChoice query (slot ∷ []) one
-  made_more : IsOpenChoice query slots more
-  spelt : open_spelling choice ≡ open_spelling one ++ open_spelling more
-  are : open_pieces query (slot ∷ slots) choice ≡ open_pieces query (slot ∷ []) one ++ open_pieces query slots more
-
-parted : (query : QueryView) (slot : Slot) (slots : List Slot) (choice : OpenChoice) → IsOpenChoice query (slot ∷ slots) choice → Parted query slot slots choice
-unfolding open_pieces
-parted query slot slots (undecided others) is = record {
-  one = undecided no_more;
-  more = others;
-  made_one = tt;
-  made_more = is;
-  spelt = refl;
-  are = refl;
-}
-parted query (Link atom most from to) slots no_more is = absurd is
-parted query (Link atom most from to) slots (repeats n others) is = record {
-  one = repeats n no_more;
-  more = others;
-  made_one = (is.0, is.1, tt);
-  made_more = is.2;
-  spelt = refl;
-  are = refl;
-}
-parted query (Link atom most from to) slots (vacates n others) is = absurd is
-parted query (Link atom most from to) slots (fills k inside others) is = absurd is
-parted query (Site atom groups first second) slots no_more is = absurd is
-parted query (Site atom groups first second) slots (repeats n others) is = absurd is
-parted query (Site atom groups first second) slots (vacates n others) is = record {
-  one = vacates n no_more;
-  more = others;
-  made_one = (is.0, tt);
-  made_more = is.1;
-  spelt = refl;
-  are = refl;
-}
-parted query (Site atom groups first second) slots (fills k inside others) is = record {
-  one = fills k inside no_more;
-  more = others;
-  made_one = (is.0, is.1, is.2, tt);
-  made_more = is.3;
-  spelt = ap (λ s. k ∷ (s ++ open_spelling others)) (sym (append-nil (open_spelling inside)));
-  are = refl;
-}
-
 module _ (query : QueryView) (slots : List Slot) (k : ℕ) (code now : List ℕ) (pieces : List Piece) (d : Slot) (below : k < length slots) (left : Left query slots k code now pieces) where
-  next : Parted query (get_or slots k d) (drop (k + 1) slots) left.others
-  next = parted query (get_or slots k d) (drop (k + 1) slots) left.others (rw (drop_more slots k d below) at left.made_others)
+  next : IsOpenSplit query (get_or slots k d ∷ []) (drop (k + 1) slots) left.others
+  next = open_split query (get_or slots k d ∷ []) (drop (k + 1) slots) left.others (rw (drop_more slots k d below) at left.made_others)
 
-  behind : open_spelling next.one ++ (open_spelling next.more ++ left.rest) ≡ now
-  behind = sym (append_assoc (open_spelling next.one) (open_spelling next.more) left.rest) ∙ ap (λ s. s ++ left.rest) (sym next.spelt) ∙ left.spelt_others
+  behind : open_spelling next.first ++ (open_spelling next.second ++ left.rest) ≡ now
+  behind = sym (append_assoc (open_spelling next.first) (open_spelling next.second) left.rest) ∙ ap (λ s. s ++ left.rest) (sym next.spelt) ∙ left.spelt_others
 
   pub left_begins : OpenBegins query (get_or slots k d ∷ []) now
-  left_begins = record { choice = next.one; rest = open_spelling next.more ++ left.rest; made = next.made_one; spelt = behind }
+  left_begins = record { choice = next.first; rest = open_spelling next.second ++ left.rest; made = next.first_made; spelt = behind }
 
   pub left_more : (now' : List ℕ) (p : Piece) → AreOpenChosen query (get_or slots k d ∷ []) now now' (p ∷ []) → Left query slots (k + 1) code now' (pieces ++ p ∷ [])
   left_more now' p chosen =
-      let same = one_open_choice query (get_or slots k d ∷ []) next.one chosen.choice (open_spelling next.more ++ left.rest) now' next.made_one chosen.made (behind ∙ sym chosen.spelt) in
-      let piece : p ∷ [] ≡ open_pieces query (get_or slots k d ∷ []) next.one = chosen.are ∙ ap (open_pieces query (get_or slots k d ∷ [])) (sym same.choices) in
+      let same = one_open_choice query (get_or slots k d ∷ []) next.first chosen.choice (open_spelling next.second ++ left.rest) now' next.first_made chosen.made (behind ∙ sym chosen.spelt) in
+      let piece : p ∷ [] ≡ open_pieces query (get_or slots k d ∷ []) next.first = chosen.are ∙ ap (open_pieces query (get_or slots k d ∷ [])) (sym same.choices) in
       let all : pieces ++ open_pieces query (get_or slots k d ∷ drop (k + 1) slots) left.others ≡ open_pieces query slots left.whole = rw (drop_more slots k d below) at left.are in
       record {
-        others = next.more;
+        others = next.second;
         rest = left.rest;
         whole = left.whole;
-        made_others = next.made_more;
+        made_others = next.second_made;
         spelt_others = same.rests;
         made = left.made;
         spelt = left.spelt;
-        are = append_assoc pieces (p ∷ []) (open_pieces query (drop (k + 1) slots) next.more) ∙ ap (λ s. pieces ++ (s ++ open_pieces query (drop (k + 1) slots) next.more)) piece
-            ∙ ap (λ s. pieces ++ s) (sym next.are) ∙ all;
+        are = append_assoc pieces (p ∷ []) (open_pieces query (drop (k + 1) slots) next.second) ∙ ap (λ s. pieces ++ (s ++ open_pieces query (drop (k + 1) slots) next.second)) piece
+            ∙ ap (λ s. pieces ++ s) (sym next.pieces) ∙ all;
       }
 
 pub left_all : (query : QueryView) (slots : List Slot) (k : ℕ) (code now : List ℕ) (pieces : List Piece) → length slots ≤ k → Left query slots k code now pieces

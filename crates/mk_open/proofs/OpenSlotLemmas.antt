@@ -37,8 +37,8 @@ slot_there query (Site atom groups first second) code at begins = by begins.choi
     by (vacates n others) is spelt = (goes_on code at n _ spelt).within
     by (fills k inside others) is spelt = (goes_on code at k _ spelt).within
 
--- a choice at no slot
-nothing_more : (query : QueryView) (others : OpenChoice) → IsOpenChoice query [] others → others ≡ no_more
+-- a choice at no slot chooses nothing
+pub nothing_more : (query : QueryView) (others : OpenChoice) → IsOpenChoice query [] others → others ≡ no_more
 nothing_more query no_more is = refl
 nothing_more query (undecided others) is = absurd is
 nothing_more query (repeats n others) is = absurd is

@@ -11,6 +11,7 @@ use Rattle.std.proofs.lemmas.Bool.Decides.{nat_tests}
 use Rattle.mk_model.specs.declared.template.QueryBond.{QueryBond}
 use Rattle.mk_model.specs.Expansions.{bond_between, is_hydrogens, is_nothing, spanned}
 use Rattle.mk_model.specs.Pieces.{Piece}
+use Rattle.mk_pieces.proofs.FoundBondLemmas.{either_way}
 use Rattle.mk_open.proofs.CountLemmas.{count_cons, one_if}
 
 -- one of x and y is p, and the other passes the test
@@ -21,19 +22,13 @@ meets_at P p x y = (eqb x p && P y) || (eqb y p && P x)
 abbrev pub spoke : (ℕ → Bool) → ℕ → QueryBond → Bool
 spoke P p bond = meets_at P p bond.first bond.second
 
-or_turned : (a b : Bool) → (a || b) ≡ (b || a)
-or_turned true true = refl
-or_turned true false = refl
-or_turned false true = refl
-or_turned false false = refl
-
 pub spoke_between : (P : ℕ → Bool) (p x y kind topology : ℕ) → spoke P p (bond_between x y kind topology) ≡ meets_at P p x y
 spoke_between P p x y kind topology = by (ltb x y)
   where
     by : (less : Bool) → spoke P p (cond less (record { first = x; second = y; kind = kind; topology = topology }) (record { first = y; second = x; kind = kind; topology = topology }))
         ≡ meets_at P p x y
     by true = refl
-    by false = or_turned (eqb y p && P x) (eqb x p && P y)
+    by false = either_way (eqb y p && P x) (eqb x p && P y)
 
 -- a bond that doesn't end there
 pub no_spoke : (P : ℕ → Bool) (p x y : ℕ) → x ≢ p → y ≢ p → meets_at P p x y ≡ false

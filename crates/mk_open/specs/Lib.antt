@@ -2,4 +2,5 @@ pub mod OpenCodes
 pub mod OpenGraphs
 pub mod Laws
 pub mod Fronts
+pub mod Alone
 pub mod Opening

@@ -1,5 +1,6 @@
 // Laws over the definitions alone, each carried by a function that does nothing.
-ghost use Rattle.mk_open.specs.Fronts.{FrontsAreCompleted, FrontsArePassedOver, FrontsHaveOpenCodes};
+ghost use Rattle.mk_open.specs.Alone.{AloneFrontsHoldNone, SlotsHoldNone};
+ghost use Rattle.mk_open.specs.Fronts.{FrontsAreCompleted, FrontsArePassedOver, FrontsHaveOpenCodes, FrontsHoldNone, RootNeed};
 ghost use Rattle.mk_open.specs.Laws.{CompletionsCoverItsNeed, CompletionsHoldTheOpenGraph, NoHitNoCompletion};
 ghost use Rattle.mk_open.specs.OpenCodes.{OpenCodesAreReadOneWay};
 
@@ -37,8 +38,29 @@ pub fn fronts_are_completed()
     ensures { FrontsAreCompleted }
 {}
 
+/// Where the graph of a front's open code has no hit, no occurrence begins with the front.
+pub fn fronts_hold_none()
+    ensures { FrontsHoldNone }
+{}
+
 /// Where the graph of a front's open code has no hit, what remains inside the front is what remains
 /// behind it.
 pub fn fronts_are_passed_over()
     ensures { FrontsArePassedOver }
+{}
+
+/// The need of the graph in which all slots of the root are left open is a need of all occurrences.
+pub fn root_need()
+    ensures { RootNeed }
+{}
+
+/// Where the graph of a choice alone has no hit, no occurrence begins with numbers that end with that
+/// choice.
+pub fn alone_fronts_hold_none()
+    ensures { AloneFrontsHoldNone }
+{}
+
+/// Where the graph of no choice alone at a slot has a hit, there is no occurrence.
+pub fn slots_hold_none()
+    ensures { SlotsHoldNone }
 {}

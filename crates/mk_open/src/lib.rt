@@ -8,17 +8,21 @@
 //! `specs/OpenGraphs.antt`. What a search makes of it isn't known here.
 #![tactic(auto)]
 
+mod fronts;
 mod graphs;
 mod laws;
 mod loose;
 mod open_codes;
 mod parts;
-#[cfg(test)]
-mod tests;
+mod places;
+mod slots;
 
+pub use fronts::{alone_code, front_code};
 pub use graphs::open_graph;
 pub use laws::{
-    completions_cover_its_need, completions_hold_the_open_graph, fronts_are_completed,
-    fronts_are_passed_over, fronts_have_open_codes, no_hit_no_completion,
-    open_codes_are_read_one_way,
+    alone_fronts_hold_none, completions_cover_its_need, completions_hold_the_open_graph,
+    fronts_are_completed, fronts_are_passed_over, fronts_have_open_codes, fronts_hold_none,
+    no_hit_no_completion, open_codes_are_read_one_way, root_need, slots_hold_none,
 };
+pub use places::root_places;
+pub use slots::{choices_of, root_slots};
