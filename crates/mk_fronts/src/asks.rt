@@ -1,0 +1,97 @@
+// The graph of an open code, and whether a molecule may hold it.
+ghost use Rattle.std.specs.Prelude.{◌≡◌, ◌<◌, ◌↔◌, false, IfOk, IsTrue};
+ghost use Rattle.mk_model.specs.Screens.{Covers, IsNeedOf, IsScreenOf};
+ghost use Rattle.mk_match.specs.Asked.{AreThere};
+ghost use Rattle.mk_match.specs.Counts.{HasNoHit};
+ghost use Rattle.mk_open.specs.OpenCodes.{IsOpenCode};
+ghost use Rattle.mk_open.specs.OpenGraphs.{IsOpenGraph};
+
+use mk_match::{Asked, Counts, cannot_hold, counts_asked, may_hold};
+use mk_model::{Graph, Memory, Mol, Query, Screen, Steps};
+use mk_open::open_graph;
+use mk_screen::{covers, need_of};
+use std::alloc::Global;
+use std::marker::{Brand, Model};
+use std::sync::ledger::{Blank, Ledger};
+
+// How many turns a search may take that looks for a graph.
+const MOST_TURNS: u32 = 2_000;
+
+/// A graph, what it asks for in numbers, and what it needs of a screen.
+#[derive(Debug, Drop)]
+pub struct Ask {
+    graph: Graph,
+    asked: Asked,
+    need: Screen,
+}
+
+impl Model for Ask {
+    ghost use Rattle.mk_model.specs.Graphs.{GraphView};
+    ghost use Rattle.mk_fronts.specs.Asks.{IsAsk};
+
+    ghost Value = { GraphView };
+
+    ghost view = { λ a. a.graph };
+
+    ghost invariant = { λ a. IsAsk a.graph a.asked a.need };
+}
+
+impl Ask {
+    /// The graph of an open code.
+    pub fn of(alloc: Global, query: &Query, code: &[u32]) -> Result<Ask, Memory>
+        requires { IsOpenCode query.now 0 code.now }
+        ensures { IfOk result (IsOpenGraph query.now code.now) }
+    {
+        let graph = open_graph(alloc, query, code)?;
+        let asked = counts_asked(alloc, &graph)?;
+        let need = need_of(&graph);
+        Ok(Ask { graph, asked, need })
+    }
+
+    /// What it needs of a screen.
+    pub fn need(&self) -> Screen
+        ensures { IsNeedOf self.now result }
+    {
+        self.need
+    }
+
+    /// Tells whether the molecule may hold the graph. It asks for the screen and for counts first, and
+    /// then looks for a hit, but not for long.
+    pub fn may_be_held(
+        &self,
+        alloc: Global,
+        mol: &Mol,
+        screen: &Screen,
+        there: &Counts,
+    ) -> Result<bool, Memory>
+        requires screen { IsScreenOf mol.now screen.now }
+        requires there { AreThere mol.now there.now }
+        ensures { IfOk result (λ may. may ≡ false → HasNoHit self.now mol.now) }
+    {
+        if !is_covered::<Brand>(screen, &self.need, Blank::new(1)) {
+            return Ok(false);
+        }
+        if cannot_hold(&self.asked, there) {
+            return Ok(false);
+        }
+        may_hold(alloc, &self.graph, mol, MOST_TURNS)
+    }
+
+    /// About how many bytes it takes.
+    pub fn bytes(&self) -> usize {
+        let atoms = self.graph.atoms().len().saturating_mul(128);
+        let bonds = self.graph.bonds().len().saturating_mul(64);
+        atoms.saturating_add(bonds).saturating_add(1_024)
+    }
+}
+
+// Tells that a screen covers a need. The look is counted on a ledger of its own.
+fn is_covered<L: Ledger>(screen: &Screen, need: &Screen, blank: Blank) -> bool
+    requires name { blank.name ≡ L.name }
+    requires parts { blank.parts ≡ L.parts }
+    requires one { 0 < L.parts }
+    ensures { IsTrue result ↔ Covers screen.now need.now }
+{
+    let mut looks = Steps::<L>::new(blank);
+    covers(screen, need, &mut looks)
+}
