@@ -22,7 +22,7 @@ use Rattle.mk_rgfile.specs.declared.raw_query.RawGroup.{RawGroup}
 use Rattle.mk_query.specs.Checks.{HasQueryType, IsElementName, IsQueryAtom, IsQueryProperty, LeavesFewBonds}
 use Rattle.mk_query.specs.CompileFaults.{PassEach}
 use Rattle.mk_query.specs.Drawn.{bears_point, drawn_neighbours, is_site, is_site_at, labels_at, links_at, lists_at}
-use Rattle.mk_query.specs.FirstFault.{QueryCheck, Passes, PassesAll, attachment_points, element_lists, group_logic, link_atoms, query_atoms, query_bonds, query_properties, site_labels, site_orders, site_places}
+use Rattle.mk_query.specs.FirstFault.{QueryCheck, Passes, PassesAll, attachment_points, element_lists, group_logic, link_atoms, query_atoms, query_bonds, query_properties, labelled_sites, site_orders, site_places}
 use Rattle.mk_query.specs.LinkChecks.{AreRightLinks, IsLogical, IsPointed, SpeaksOfSame}
 use Rattle.mk_query.specs.SiteChecks.{ArePlaced, HasKnownMembers, HasMember, IsLabelled, IsListed, IsOrdered}
 use Rattle.mk_drill.specs.Draws.{plain_atom, plain_bond}
@@ -188,7 +188,7 @@ root_passes element_lists = λ item.
     let c = unlisted 67 [] (λ same. omega (arith, same)) in
     let r = unlisted 82 (35 ∷ []) (λ same. omega (arith, same)) in
     (λ first. All-nil (λ (list : RawList). IsAtom 7 list.atom), each_item (λ (n : ℕ). IsListed (lists_at root_table n)) root_table.atoms (c, (c, (c, (c, (c, (c, (r, tt))))))) item)
-root_passes site_labels =
+root_passes labelled_sites =
     let c = unlabelled query_groups (codes "C") refl in
     each_item (λ (n : ℕ). IsLabelled query_groups (labels_at root_table n)) root_table.atoms (c, (c, (c, (c, (c, (c, (labelled, tt)))))))
 root_passes site_places =
@@ -211,7 +211,7 @@ single_passes c text named no_list no_site query_bonds = bonds_pass query_groups
 single_passes c text named no_list no_site query_properties = each_item (λ (n : ℕ). IsQueryProperty 1) (single (c ∷ text)).props (known_point 1 (lit≤ tt), tt)
 single_passes c text named no_list no_site element_lists = λ item.
     (λ first. All-nil (λ (list : RawList). IsAtom 1 list.atom), each_item (λ (n : ℕ). IsListed (lists_at (single (c ∷ text)) n)) (single (c ∷ text)).atoms (unlisted c text no_list, tt) item)
-single_passes c text named no_list no_site site_labels =
+single_passes c text named no_list no_site labelled_sites =
     each_item (λ (n : ℕ). IsLabelled query_groups (labels_at (single (c ∷ text)) n)) (single (c ∷ text)).atoms (unlabelled query_groups (c ∷ text) no_site, tt)
 single_passes c text named no_list no_site site_places =
     each_item (λ (n : ℕ) (atom : RawAtom). IsTrue (is_site atom) → ArePlaced (single (c ∷ text)) (drawn_neighbours (single (c ∷ text)) n)) (single (c ∷ text)).atoms
@@ -241,7 +241,7 @@ methoxy_passes element_lists = λ item. (
   each_item (λ (n : ℕ). IsListed (lists_at methoxy n)) methoxy.atoms
       (unlisted 79 [] (λ same. omega (arith, same)), (unlisted 67 [] (λ same. omega (arith, same)), tt)) item,
 )
-methoxy_passes site_labels =
+methoxy_passes labelled_sites =
     each_item (λ (n : ℕ). IsLabelled query_groups (labels_at methoxy n)) methoxy.atoms (unlabelled query_groups (codes "O") refl, (unlabelled query_groups (codes "C") refl, tt))
 methoxy_passes site_places =
     each_item (λ (n : ℕ) (atom : RawAtom). IsTrue (is_site atom) → ArePlaced methoxy (drawn_neighbours methoxy n)) methoxy.atoms

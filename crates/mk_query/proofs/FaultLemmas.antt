@@ -6,7 +6,7 @@ use Rattle.mk_text.specs.Items.{FindsLeast}
 use Rattle.mk_ctab.specs.declared.raw.RawTable.{RawTable}
 use Rattle.mk_rgfile.specs.declared.raw_query.RawGroup.{RawGroup}
 use Rattle.mk_query.specs.declared.checking.Fault.{Fault}
-use Rattle.mk_query.specs.FirstFault.{QueryCheck, query_atoms, query_bonds, query_properties, element_lists, site_labels, site_places, site_orders, attachment_points, link_atoms, group_logic, query_check_number, QueryDemands, Passes, PassesAll, PassesBelow, IsFirstFault, FindsBelow}
+use Rattle.mk_query.specs.FirstFault.{QueryCheck, query_atoms, query_bonds, query_properties, element_lists, labelled_sites, site_places, site_orders, attachment_points, link_atoms, group_logic, query_check_number, QueryDemands, Passes, PassesAll, PassesBelow, IsFirstFault, FindsBelow}
 
 -- the check of a number
 abbrev check_at : ℕ → QueryCheck
@@ -15,7 +15,7 @@ check_at n =
     if n == 2 then query_bonds else (
     if n == 3 then query_properties else (
     if n == 4 then element_lists else (
-    if n == 5 then site_labels else (
+    if n == 5 then labelled_sites else (
     if n == 6 then site_places else (
     if n == 7 then site_orders else (
     if n == 8 then attachment_points else (
@@ -26,7 +26,7 @@ check_at-number query_atoms = refl
 check_at-number query_bonds = refl
 check_at-number query_properties = refl
 check_at-number element_lists = refl
-check_at-number site_labels = refl
+check_at-number labelled_sites = refl
 check_at-number site_places = refl
 check_at-number site_orders = refl
 check_at-number attachment_points = refl
@@ -43,7 +43,7 @@ number-within query_atoms = (omega arith, omega arith)
 number-within query_bonds = (omega arith, omega arith)
 number-within query_properties = (omega arith, omega arith)
 number-within element_lists = (omega arith, omega arith)
-number-within site_labels = (omega arith, omega arith)
+number-within labelled_sites = (omega arith, omega arith)
 number-within site_places = (omega arith, omega arith)
 number-within site_orders = (omega arith, omega arith)
 number-within attachment_points = (omega arith, omega arith)

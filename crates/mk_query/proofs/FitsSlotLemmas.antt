@@ -12,14 +12,14 @@ use Rattle.std.proofs.lemmas.List.Quantifiers.{all_pairs_push}
 use Rattle.mk_props.specs.declared.property.LinkEntry.{LinkEntry}
 use Rattle.mk_model.specs.declared.template.Slot.{Slot}
 use Rattle.mk_model.specs.declared.template.Slot.TheVariants.{Link, Site}
-use Rattle.mk_model.specs.Labels.{site_labels as slot_labels}
+use Rattle.mk_model.specs.Labels.{site_labels}
 use Rattle.mk_model.specs.QueryFits.{AreRisingLabels}
 use Rattle.mk_model.specs.Templates.{slot_atom}
 use Rattle.mk_ctab.specs.declared.raw.RawTable.{RawTable}
 use Rattle.mk_ctab.specs.Numbers.{natural}
 use Rattle.mk_query.specs.Compiled.{labelled_groups, ordered_neighbours, slot_at, slot_with, slots_at, slots_in, table_slots}
 use Rattle.mk_query.specs.Drawn.{is_site_at, labels_at, links_at}
-use Rattle.mk_query.specs.FirstFault.{site_labels}
+use Rattle.mk_query.specs.FirstFault.{labelled_sites}
 use Rattle.mk_query.specs.LinkChecks.{BearsSome}
 use Rattle.mk_query.specs.Passed.{HasPassed}
 use Rattle.mk_query.specs.SiteChecks.{IsLabelled}
@@ -94,7 +94,7 @@ slots_stand table =
 
 -- the labels of a slot rise, and are from 1 to 32
 abbrev HasRising : Slot → Type 0
-HasRising slot = AreRisingLabels (slot_labels slot)
+HasRising slot = AreRisingLabels (site_labels slot)
 
 -- a link has none
 none_rise : AreRisingLabels []
@@ -106,7 +106,7 @@ rising_with x [] (label ∷ labels) both slot is = subst HasRising (same_slot (S
 rising_with x [] [] both slot is = absurd cc
 
 -- the labels of each slot rise, and are from 1 to 32
-pub slots_labels_rise : (table : RawTable) → All (λ slot. AreRisingLabels (slot_labels slot)) (table_slots table)
+pub slots_labels_rise : (table : RawTable) → All (λ slot. AreRisingLabels (site_labels slot)) (table_slots table)
 slots_labels_rise table = each_slot HasRising table (λ x slot least most is. rising_with x (links_at table x) (labels_at table x) (ordered_neighbours table x) slot is)
 
 -- ---- what stands at a slot
@@ -120,7 +120,7 @@ no_link_with x (label ∷ labels) both slot is none = absurd cc
 pub labelled_is_site : (table : RawTable) (x : ℕ) → (passed : HasPassed table) → 1 ≤ x → x ≤ length table.atoms → labels_at table x ≢ [] → IsTrue (is_site_at table x)
 labelled_is_site table x passed least most some =
     let there = atom_line table x least most in
-    let right : IsLabelled passed.groups (labels_at table x) there.0 = passed.passes site_labels x there.0 least there.1 in
+    let right : IsLabelled passed.groups (labels_at table x) there.0 = passed.passes labelled_sites x there.0 least there.1 in
     rw there.1 (right.word.1 some)
 
 -- no slot is where neither a link nor a site stands

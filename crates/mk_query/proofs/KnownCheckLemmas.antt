@@ -34,7 +34,7 @@ use Rattle.mk_rgfile.specs.declared.raw_query.RawGroup.{RawGroup}
 use Rattle.mk_query.specs.declared.checking.Fault.{Fault}
 use Rattle.mk_query.specs.Checks.{HasQueryType, HasQueryValues, IsElementName, IsQueryAtom, IsQueryBond, IsQueryProperty, IsQueryWord, IsRingBondCount, NamesItsAtoms}
 use Rattle.mk_query.specs.Drawn.{ElementList, bears_point, by_numbers, by_symbols, drawn_neighbours, is_site, is_site_at, labels_at, links_at, lists_at, query_bonds}
-use Rattle.mk_query.specs.FirstFault.{QueryCheck, QueryDemands, IsFirstFault, PassesAll, PassesBelow, attachment_points, element_lists, group_logic, link_atoms, query_check_number, query_atoms, query_bonds as bonds_checked, query_properties, site_labels, site_orders, site_places}
+use Rattle.mk_query.specs.FirstFault.{QueryCheck, QueryDemands, IsFirstFault, PassesAll, PassesBelow, attachment_points, element_lists, group_logic, link_atoms, query_check_number, query_atoms, query_bonds as bonds_checked, query_properties, labelled_sites, site_orders, site_places}
 use Rattle.mk_query.specs.LinkChecks.{AreRightLinks, BearsSome, IsInBlock, CanBeLink, IsLogical, IsPlainBut, IsPointed, LeadAlike, SpeaksOfSame}
 use Rattle.mk_query.specs.SiteChecks.{ArePlaced, HasKnownMembers, HasMember, IsLabelled, IsListed, IsOrdered, OrdersNeighbours, OrdersSame}
 use Rattle.mk_query.proofs.FaultLemmas.{below_all, below_more, below_none}
@@ -399,7 +399,7 @@ module _ (groups : List RawGroup) (is_root : Bool) (table : RawTable) where
       known_both (known_if (known_equal item 0) (known_all (λ list. IsAtom atoms list.atom)
       (λ list. known_within (pos 1) (pos atoms) list.atom) table.lists))
       (known_item (IsListed (lists_at table item)) (known_listed (lists_at table item)) table.atoms item)
-  known_demand site_labels item = known_item (IsLabelled groups (labels_at table item)) (known_labelled groups (labels_at table item)) table.atoms item
+  known_demand labelled_sites item = known_item (IsLabelled groups (labels_at table item)) (known_labelled groups (labels_at table item)) table.atoms item
   known_demand site_places item =
       known_item (λ (atom : RawAtom). IsTrue (is_site atom) → ArePlaced table (drawn_neighbours table item))
       (λ atom. known_if (known_true (is_site atom)) (known_placed table (drawn_neighbours table item))) table.atoms
@@ -424,7 +424,7 @@ module _ (groups : List RawGroup) (is_root : Bool) (table : RawTable) where
   past_last bonds_checked before k past = bonds_past atoms table.bonds before k past
   past_last query_properties before k past = of_item-past (IsQueryProperty atoms) table.props k (omega (arith, past))
   past_last element_lists before k past = (λ none. absurd (omega (arith, none, past)), of_item-past (IsListed (lists_at table k)) table.atoms k (omega (arith, past)))
-  past_last site_labels before k past = of_item-past (IsLabelled groups (labels_at table k)) table.atoms k (omega (arith, past))
+  past_last labelled_sites before k past = of_item-past (IsLabelled groups (labels_at table k)) table.atoms k (omega (arith, past))
   past_last site_places before k past = of_item-past (λ (atom : RawAtom). IsTrue (is_site atom) → ArePlaced table (drawn_neighbours table k)) table.atoms k (omega (arith, past))
   past_last site_orders before k past = of_item-past (IsOrdered table (drop k table.props)) table.props k (omega (arith, past))
   past_last attachment_points before k past = of_item-past (λ (atom : RawAtom). IsPointed is_root table k) table.atoms k (omega (arith, past))
@@ -449,4 +449,4 @@ module _ (groups : List RawGroup) (is_root : Bool) (table : RawTable) where
   first_in_table =
       ⊎_elim (λ all. inl (below_all groups is_root table all)) (λ found. inr found)
       (one_more group_logic (one_more link_atoms (one_more attachment_points (one_more site_orders (one_more site_places
-      (one_more site_labels (one_more element_lists (one_more query_properties (one_more bonds_checked (one_more query_atoms (inl (below_none groups is_root table))))))))))))
+      (one_more labelled_sites (one_more element_lists (one_more query_properties (one_more bonds_checked (one_more query_atoms (inl (below_none groups is_root table))))))))))))

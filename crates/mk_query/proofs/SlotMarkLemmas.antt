@@ -25,7 +25,7 @@ use Rattle.mk_query.specs.declared.linked_atoms.Linked.TheVariants as linked
 use Rattle.mk_query.specs.declared.site_orders.SiteEnds.{SiteEnds}
 use Rattle.mk_query.specs.Compiled.{atom_placed, labelled_groups, neighbours_by, order_for, order_of, ordered_neighbours, rising_neighbours, slot_at, slot_with, slots_at, slots_in, table_slots}
 use Rattle.mk_query.specs.Drawn.{drawn_neighbours, is_site, labels_at, links_at, neighbours_at, query_bonds}
-use Rattle.mk_query.specs.FirstFault.{link_atoms, site_labels, site_places}
+use Rattle.mk_query.specs.FirstFault.{link_atoms, labelled_sites, site_places}
 use Rattle.mk_query.specs.LinkChecks.{AreRightLinks}
 use Rattle.mk_query.specs.LinkMarks.{AreLinked, IsLinked}
 use Rattle.mk_query.specs.Marks.{AreMarks, IsLabels, IsNear}
@@ -169,7 +169,7 @@ slot_is table i line linked site mark pair passed at are_links is_site_is are_la
     let place : i + 1 - 1 ≡ i = omega arith in
     let there : slice_get table.atoms (i + 1 - 1) ≡ Some line = rw place at in
     let right = passed.passes link_atoms (i + 1) line (omega arith) there in
-    let labelled = passed.passes site_labels (i + 1) line (omega arith) there in
+    let labelled = passed.passes labelled_sites (i + 1) line (omega arith) there in
     let placed = passed.passes site_places (i + 1) line (omega arith) there in
     by_links table (i + 1) (links_at table (i + 1)) linked site mark.groups (labels_at table (i + 1)) (ordered_neighbours table (i + 1)) pair are_links right
     (by_labels (i + 1) (labels_at table (i + 1)) site mark.groups (ordered_neighbours table (i + 1)) pair (rw is_site_is labelled.word)

@@ -25,7 +25,7 @@ pub data QueryCheck : Type 0 where
   query_bonds : QueryCheck
   query_properties : QueryCheck
   element_lists : QueryCheck
-  site_labels : QueryCheck
+  labelled_sites : QueryCheck
   site_places : QueryCheck
   site_orders : QueryCheck
   attachment_points : QueryCheck
@@ -38,7 +38,7 @@ query_check_number query_atoms = 1
 query_check_number query_bonds = 2
 query_check_number query_properties = 3
 query_check_number element_lists = 4
-query_check_number site_labels = 5
+query_check_number labelled_sites = 5
 query_check_number site_places = 6
 query_check_number site_orders = 7
 query_check_number attachment_points = 8
@@ -53,7 +53,7 @@ QueryDemands groups is_root table query_atoms item = OfItem IsQueryAtom table.at
 QueryDemands groups is_root table query_bonds item = IsQueryBond (length table.atoms) table.bonds item
 QueryDemands groups is_root table query_properties item = OfItem (IsQueryProperty (length table.atoms)) table.props item
 QueryDemands groups is_root table element_lists item = HasLists table item
-QueryDemands groups is_root table site_labels item = HasLabel groups table item
+QueryDemands groups is_root table labelled_sites item = HasLabel groups table item
 QueryDemands groups is_root table site_places item = HasSitePlace table item
 QueryDemands groups is_root table site_orders item = HasSiteOrder table item
 QueryDemands groups is_root table attachment_points item = HasPoint is_root table item
