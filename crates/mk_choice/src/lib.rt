@@ -21,8 +21,6 @@ mod outlook;
 mod pending;
 mod pruning;
 mod slot_list;
-#[cfg(test)]
-mod tests;
 mod within;
 
 pub use codes::{Codes, least_code};

@@ -24,7 +24,5 @@ mod joining;
 pub mod part;
 pub mod piece;
 pub mod places;
-#[cfg(test)]
-mod tests;
 
 pub use expanding::expand;

@@ -15,8 +15,6 @@ mod looking;
 mod posted;
 mod screens;
 mod shelf;
-#[cfg(test)]
-mod tests;
 mod words;
 
 pub use mk_model::Mol;

@@ -17,15 +17,11 @@ mod editing;
 mod installing;
 mod laws;
 mod library;
-#[cfg(test)]
-mod limit_tests;
 mod molecules;
 mod pending;
 mod rebuilding;
 mod refusal;
 mod restoring;
-#[cfg(test)]
-mod tests;
 
 pub use laws::{edits_keep_reading, records_change_alone};
 pub use library::Library;

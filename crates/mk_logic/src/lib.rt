@@ -14,8 +14,6 @@ mod allowing;
 mod range_laws;
 mod range_texts;
 mod ranges;
-#[cfg(test)]
-mod tests;
 
 pub use allowing::{allowed, is_asked};
 pub use mk_text::Memory;

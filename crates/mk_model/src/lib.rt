@@ -28,8 +28,6 @@ mod query;
 mod screen;
 mod steps;
 mod template;
-#[cfg(test)]
-mod tests;
 mod turn;
 
 pub use atom_test::{AtomTest, Kind};

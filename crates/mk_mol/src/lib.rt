@@ -20,8 +20,6 @@ mod hydrogen_filling;
 mod laws;
 mod preparing;
 mod property_checks;
-#[cfg(test)]
-mod tests;
 mod written_atoms;
 
 pub use fault::PrepareFault;

@@ -11,25 +11,19 @@
 //! mk_sqlite is the keeper of a file. What bytes mean isn't known here.
 #![tactic(auto)]
 
-#[cfg(test)]
-mod adapter_tests;
 mod adapters;
 mod answers;
 mod calls;
 mod causes;
 mod files;
-#[cfg(test)]
-mod keeper_tests;
 mod keepers;
 mod laws;
 mod rows;
 mod sinks;
 mod sources;
 mod store;
-mod streams;
+pub mod streams;
 mod tables;
-#[cfg(test)]
-mod tests;
 mod traits;
 
 pub use adapters::{DiskFiles, StdSink, StdSource};

@@ -19,8 +19,6 @@ mod property;
 mod reading;
 mod short_list;
 mod symbols;
-#[cfg(test)]
-mod tests;
 
 pub use fault::LineFault;
 pub use laws::property_is_exact;

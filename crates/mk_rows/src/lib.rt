@@ -9,8 +9,6 @@
 #![tactic(auto)]
 
 mod by_number;
-#[cfg(test)]
-mod tests;
 
 pub use by_number::{ByNumber, Numbered};
 pub use mk_text::Memory;

@@ -14,8 +14,6 @@ mod members;
 mod rows;
 mod slots;
 mod table;
-#[cfg(test)]
-mod tests;
 mod text;
 
 pub use members::members_of;

@@ -15,8 +15,6 @@ mod laws;
 mod marks;
 mod paths;
 mod taking;
-#[cfg(test)]
-mod tests;
 
 pub use covering::covers;
 pub use laws::screening_loses_no_hit;

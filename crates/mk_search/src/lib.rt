@@ -26,8 +26,6 @@ mod plain;
 mod records;
 mod stages;
 mod starts;
-#[cfg(test)]
-mod tests;
 
 pub use hits::Hits;
 pub use laws::{

@@ -15,8 +15,6 @@ mod bonds;
 mod columns;
 mod counts;
 mod kinds;
-#[cfg(test)]
-mod tests;
 
 pub use atoms::atom_fits;
 pub use bonds::bond_fits;

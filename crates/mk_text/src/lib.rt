@@ -19,8 +19,6 @@ mod kept;
 mod laws;
 mod line_start;
 mod lists;
-#[cfg(test)]
-mod tests;
 mod texts;
 
 pub use columns::{column, is_blank, trimmed_column};

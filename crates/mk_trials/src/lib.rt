@@ -8,9 +8,12 @@
 //! "Generic queries", and from nothing else.
 //!
 //! What is promised of codes and expansions is proved in mk_choice and mk_expand. The tests of
-//! mk_fixtures, mk_match and mk_drill stand here too, since a crate with tests is proved twice.
+//! mk_fixtures, mk_tests, mk_match, mk_logic, mk_choice, mk_expand and mk_drill stand here too, since
+//! a crate with tests is proved twice.
 #![tactic(auto)]
 
+#[cfg(test)]
+mod choice_tests;
 #[cfg(test)]
 mod code_rows;
 #[cfg(test)]
@@ -24,11 +27,17 @@ mod drawn_queries;
 #[cfg(test)]
 mod drill_tests;
 #[cfg(test)]
+mod expand_tests;
+#[cfg(test)]
 mod expansion_rows;
 #[cfg(test)]
 mod expansion_tests;
 #[cfg(test)]
+mod fitting_tests;
+#[cfg(test)]
 mod key_tests;
+#[cfg(test)]
+mod logic_tests;
 #[cfg(test)]
 mod match_tests;
 #[cfg(test)]

@@ -5,7 +5,7 @@ ghost use Rattle.std.specs.Prelude.{◌≡◌, ◌<◌, length};
 use mk_fixtures::{
     asked_atoms, asked_bonds, elements_of, graph_of, graph_of_sketch, mol_of, mol_of_sketch,
 };
-use mk_match::{Maps, cannot_hold, counts_asked, counts_there, least_map};
+use mk_match::{Maps, cannot_hold, counts_asked, counts_there, least_map, may_hold};
 use mk_model::{
     Atom, AtomTest, Edge, Graph, GraphAtom, GraphBond, Kind, Map, Memory, Mol, Place, Steps, Turn,
 };
@@ -219,6 +219,33 @@ fn turns_from<L: Ledger>(
     Ok(told)
 }
 
+// A graph, a molecule, the turns that a search may take, and whether the molecule may hold the graph.
+// Of the oxygens each atom of C-O-C is passed in a turn, and the fourth finds none left.
+static HELD: [(&str, &str, u32, bool); 11] = [
+    (CO, COC, 0, true),
+    (CO, COC, 1, true),
+    (CO, COC, 100, true),
+    ("O O | 1-2", COC, 0, true),
+    ("O O | 1-2", COC, 3, true),
+    ("O O | 1-2", COC, 4, false),
+    ("O O | 1-2", COC, 100, false),
+    ("C |", "|", 0, true),
+    ("C |", "|", 1, false),
+    ("|", COC, 1, true),
+    ("|", "|", 1, true),
+];
+
+#[test]
+fn held_in_so_many_turns(rt: HostRuntime) -> Result<(), Fail> {
+    for (query, molecule, turns, want) in &HELD {
+        let graph = graph_of_sketch(rt.alloc(), query)?;
+        let mol = mol_of_sketch(rt.alloc(), molecule)?;
+        let may = may_hold(rt.alloc(), &graph, &mol, *turns)?;
+        assert!(rt; may == *want, "{query} {molecule} {turns}");
+    }
+    Ok(())
+}
+
 // ---- the search beside the plain program
 
 #[test]
@@ -236,7 +263,7 @@ fn the_search_agrees_with_the_plain_program(rt: HostRuntime) -> Result<(), Fail>
 }
 
 // The hits that are looked for one by one from the front, those that are taken one after another,
-// and those of the plain program.
+// and those of the plain program; and whether there may be any, in more turns than there are nodes.
 fn compare(rt: &impl Abort, alloc: Global, graph: Graph, mol: &Mol) -> Result<usize, Memory> {
     let hits = all_hits(alloc, &graph, mol)?;
     let plain = plain_hits(alloc, &graph, mol)?;
@@ -244,6 +271,8 @@ fn compare(rt: &impl Abort, alloc: Global, graph: Graph, mol: &Mol) -> Result<us
     for (hit, other) in hits.iter().zip(&plain) {
         assert!(rt; hit.as_slice() == other.as_slice(), "{graph:?} {mol:?}");
     }
+    let may = may_hold(alloc, &graph, mol, 1000)?;
+    assert!(rt; may != plain.is_empty(), "{graph:?} {mol:?}");
     let taken = hits_taken::<Brand>(alloc, graph, mol, &[], Blank::new(1))?;
     assert!(rt; taken.len() == plain.len(), "{mol:?}");
     for (hit, other) in taken.iter().zip(&plain) {

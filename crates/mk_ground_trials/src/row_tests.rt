@@ -1,0 +1,42 @@
+// Items by number, from outside.
+use mk_rows::ByNumber;
+use std::process::Abort;
+use std::test::Fail;
+
+// Numbers 30, 10 and 20, of which 20 is replaced and then taken out. Each look-up is asked at,
+// below and above what is held.
+#[test]
+fn items_by_number(rt: HostRuntime) -> Result<(), Fail> {
+    let mut map = ByNumber::new(rt.alloc());
+    assert!(rt; map.last_row() == None && map.next_row(0) == None);
+    put(&mut map, 30, 3)?;
+    put(&mut map, 10, 1)?;
+    put(&mut map, 20, 2)?;
+    assert!(rt; put_over(&mut map, 20, 4)? == 2);
+    assert!(rt; map.get(20) == Some(&4));
+    assert!(rt; map.remove(20) == Some(4));
+    assert!(rt; map.remove(20) == None);
+    assert!(rt; map.get(20) == None);
+    assert!(rt; !map.holds(20) && map.holds(30));
+    assert!(rt; map.next_row(0) == Some(10) && map.next_row(10) == Some(10));
+    assert!(rt; map.next_row(11) == Some(30) && map.next_row(31) == None);
+    assert!(rt; map.rows().len() == 2 && map.last_row() == Some(30));
+    assert!(rt; map.place(10) == 0 && map.place(11) == 1 && map.place(31) == 2);
+    Ok(())
+}
+
+fn put(map: &mut ByNumber<u8>, number: u32, item: u8) -> Result<(), Fail> {
+    if map.holds(number) {
+        return Err(Fail::from("a number that is held"));
+    }
+    map.reserve(1)?;
+    map.insert(number, item);
+    Ok(())
+}
+
+fn put_over(map: &mut ByNumber<u8>, number: u32, item: u8) -> Result<u8, Fail> {
+    if !map.holds(number) {
+        return Err(Fail::from("a number that isn't held"));
+    }
+    Ok(map.replace(number, item))
+}

@@ -1,4 +1,0 @@
-use Rattle.mk_index.proofs.tests.next.Given as goal
-
-abbrev pub ghosts-next_on : goal.ghosts-next_on
-ghosts-next_on a = record { name = a.blank.name; parts = a.blank.parts }

@@ -1,0 +1,146 @@
+// Screens and needs of small molecules and graphs. The bits were computed by another program, which
+// goes through all lists of up to four atoms. The shorthand is that of docs/TESTING.md, "Tables of
+// tests".
+ghost use Rattle.std.specs.Prelude.{◌≡◌, ◌<◌};
+
+use mk_fixtures::{elements_of, graph_of, graph_of_sketch, mol_of_sketch};
+use mk_model::{AtomTest, Graph, GraphAtom, Kind, Memory, Steps};
+use mk_screen::{Screen, covers, need_of, screen_of};
+use std::alloc::Global;
+use std::marker::Brand;
+use std::process::Abort;
+use std::sync::ledger::{Blank, Ledger};
+use std::test::Fail;
+
+const COC: &str = "C O C | 1-2 2-3";
+
+const FIFTEEN: &str = "C C C C C C C C C C C C C C C | 1-2 2-3 3-4 4-5";
+
+const SIXTEEN: &str = "C C C C C C C C C C C C C C C C | 1-2 2-3";
+
+// A molecule, and all bits of its paths. Its graph needs the same.
+static ROWS: [(&str, &str, &[u32]); 11] = [
+    ("a carbon", "C |", &[137]),
+    ("an oxygen", "O |", &[139]),
+    ("a path and its reverse", "C O | 1-2", &[48, 137, 139, 300]),
+    ("three atoms", COC, &[48, 137, 139, 293, 300]),
+    ("hydrogens alone", "H H | 1-2", &[]),
+    (
+        "no path leads over a hydrogen",
+        "C H O | 1-2 2-3",
+        &[137, 139],
+    ),
+    (
+        "a path of four whose ends are one atom is none",
+        "C C C | 1-2 2-3 1-3",
+        &[31, 137, 298],
+    ),
+    (
+        "all around a ring of four",
+        "C C C C | 1-2 2-3 3-4 1-4",
+        &[31, 52, 137, 298],
+    ),
+    (
+        "a ring of three elements",
+        "C N O | 1-2 2-3 1-3",
+        &[
+            46, 48, 49, 50, 137, 138, 139, 164, 180, 294, 298, 299, 300, 429, 431,
+        ],
+    ),
+    (
+        "at most four atoms",
+        "C N O F S | 1-2 2-3 3-4 4-5",
+        &[
+            4, 49, 51, 65, 70, 75, 100, 137, 138, 139, 140, 147, 164, 180, 181, 189, 299, 372, 410,
+            429, 431, 452,
+        ],
+    ),
+    (
+        "a ring and what hangs on it",
+        "C N O F S | 1-2 2-3 1-3 3-4 4-5",
+        &[
+            4, 46, 48, 49, 50, 51, 64, 65, 70, 75, 99, 100, 137, 138, 139, 140, 147, 164, 180, 181,
+            189, 216, 280, 294, 296, 298, 299, 300, 372, 410, 429, 431, 452, 473,
+        ],
+    ),
+];
+
+#[test]
+fn bits_of_paths(rt: HostRuntime) -> Result<(), Fail> {
+    for (name, sketch, want) in ROWS.iter() {
+        let held = screen_of(&mol_of_sketch(rt.alloc(), sketch)?);
+        assert_eq!(rt; bits_set(rt.alloc(), &held)?.as_slice(), *want, "{name}");
+        let need = need_of(&graph_of_sketch(rt.alloc(), sketch)?);
+        assert_eq!(rt; need, held, "{name}");
+    }
+    Ok(())
+}
+
+// The bits that are set, rising.
+fn bits_set(alloc: Global, screen: &Screen) -> Result<Vec<u32>, Memory> {
+    let mut bits = Vec::new(alloc);
+    for b in 0..512u32 {
+        if (screen.bits[(b / 64) as usize] >> (b % 64)) & 1 == 1 {
+            bits.push(b)?;
+        }
+    }
+    Ok(bits)
+}
+
+#[test]
+fn counts_of_elements(rt: HostRuntime) -> Result<(), Fail> {
+    let all = "B C N O F Na Mg Si P S Cl K As Se Br I Fe H C |";
+    let held = screen_of(&mol_of_sketch(rt.alloc(), all)?);
+    let want = [1u8, 2, 1, 1, 1, 1, 1, 1, 1, 1, 1, 1, 1, 1, 1, 1];
+    assert_eq!(rt; held.counts.as_slice(), want.as_slice());
+    assert!(rt; screen_of(&mol_of_sketch(rt.alloc(), FIFTEEN)?).counts[1] == 15);
+    assert!(rt; screen_of(&mol_of_sketch(rt.alloc(), SIXTEEN)?).counts[1] == 15);
+    Ok(())
+}
+
+// A need of many carbons, which is met by 15; needs of a list of one element and of no single
+// element, which anything meets; and bits or counts that are missing.
+#[test]
+fn covered_needs(rt: HostRuntime) -> Result<(), Fail> {
+    let alloc = rt.alloc();
+    let fifteen = screen_of(&mol_of_sketch(alloc, FIFTEEN)?);
+    let sixteen = need_of(&graph_of_sketch(alloc, SIXTEEN)?);
+    assert!(rt; is_covered(&fifteen, &sixteen));
+    let coc = screen_of(&mol_of_sketch(alloc, COC)?);
+    assert!(rt; !is_covered(&coc, &sixteen));
+    assert!(rt; is_covered(&coc, &need_of(&graph_of_sketch(alloc, COC)?)));
+    assert!(rt; !is_covered(&fifteen, &need_of(&graph_of_sketch(alloc, "C O | 1-2")?)));
+    assert!(rt; !is_covered(&coc, &need_of(&graph_of_sketch(alloc, "C C C |")?)));
+    let hydrogens = screen_of(&mol_of_sketch(alloc, "H H | 1-2")?);
+    let free = need_of(&one_carbon_in_a_list(alloc)?);
+    assert!(rt; is_covered(&hydrogens, &free));
+    let any = need_of(&graph_of_sketch(alloc, "A Q * H | 1-2 2-3 3-4")?);
+    assert!(rt; is_covered(&hydrogens, &any));
+    assert!(rt; !is_covered(&hydrogens, &need_of(&graph_of_sketch(alloc, "C |")?)));
+    Ok(())
+}
+
+// A graph of one atom, whose list has carbon alone.
+fn one_carbon_in_a_list(alloc: Global) -> Result<Graph, Fail> {
+    let list = Kind::OneOf(elements_of(alloc, &[6])?);
+    let mut atoms = Vec::new(alloc);
+    atoms.push(GraphAtom {
+        test: AtomTest::of_kind(list),
+        free: 0,
+    })?;
+    graph_of(alloc, atoms, Vec::new(alloc))
+}
+
+// Whether the screen covers the need.
+fn is_covered(held: &Screen, need: &Screen) -> bool {
+    covers_on::<Brand>(held, need, Blank::new(1))
+}
+
+fn covers_on<L: Ledger>(held: &Screen, need: &Screen, blank: Blank) -> bool
+    requires name { blank.name ≡ L.name }
+    requires parts { blank.parts ≡ L.parts }
+    requires one { 0 < L.parts }
+{
+    let mut looks = Steps::<L>::new(blank);
+    covers(held, need, &mut looks)
+}

@@ -1,4 +1,0 @@
-use Rattle.mk_screen.proofs.tests.is_covered.Given as goal
-
-abbrev pub ghosts-covers_on : goal.ghosts-covers_on
-ghosts-covers_on a = record { name = a.blank.name; parts = a.blank.parts }

@@ -1,4 +1,0 @@
-use Rattle.mk_search.proofs.tests.hits_from.Given as goal
-
-abbrev pub ghosts-hits_on : goal.ghosts-hits_on
-ghosts-hits_on a = record { name = a.blank.name; parts = a.blank.parts }

@@ -1,0 +1,138 @@
+// The codes of the query of the example: `[C R# R# | 1-2 1-3]` with the groups 1 and 2, `[F | ]`
+// and `[Cl | ]`, IF R1 THEN R2, R1 `0-1`, R2 `1`.
+use mk_choice::{Codes, code_within, least_code};
+use mk_fixtures::query_of_two_sites;
+use mk_model::{Memory, Query, Turn};
+use std::alloc::Global;
+use std::test::Fail;
+
+// Fronts, and the least code that isn't below each.
+static ROWS: [(&str, &[u32], &[u32]); 5] = [
+    ("the empty front", &[], &[1, 1]),
+    ("a front that is no valid code", &[1, 2], &[2, 1]),
+    ("behind a code", &[2, 1, 0], &[2, 2]),
+    ("a code itself", &[2, 2], &[2, 2]),
+    ("a front that begins a code", &[2], &[2, 1]),
+];
+
+#[test]
+fn least_codes(rt: HostRuntime) -> Result<(), Fail> {
+    let query = query_of_two_sites(rt.alloc())?;
+    for (name, front, want) in &ROWS {
+        assert!(rt; is_least(rt.alloc(), &query, front, want)?, "{name}");
+    }
+    assert!(rt; least_code(rt.alloc(), &query, &[2, 2, 0])?.is_none());
+    Ok(())
+}
+
+#[test]
+fn codes_in_order(rt: HostRuntime) -> Result<(), Fail> {
+    let query = query_of_two_sites(rt.alloc())?;
+    let mut codes = Codes::from_place(rt.alloc(), &query, &[])?;
+    let mut told = Vec::new(rt.alloc());
+    for _ in 0..4 {
+        match codes.next() {
+            Some(code) => told.extend_from_slice(code)?,
+            None => told.push(0)?,
+        }
+    }
+    assert_eq!(rt; told.as_slice(), [1, 1, 2, 1, 2, 2, 0].as_slice());
+    assert_eq!(rt; codes.place(rt.alloc())?.as_slice(), [2, 2, 0].as_slice());
+    Ok(())
+}
+
+// One `Codes` goes to each front in turn, from wherever it stands, and to one that is longer than
+// its room.
+#[test]
+fn rewound(rt: HostRuntime) -> Result<(), Fail> {
+    let query = query_of_two_sites(rt.alloc())?;
+    let mut codes = Codes::from_place(rt.alloc(), &query, &[2, 2, 0])?;
+    for (name, front, want) in &ROWS {
+        codes.rewind(front)?;
+        assert_eq!(rt; codes.place(rt.alloc())?.as_slice(), *front, "{name}");
+        assert!(rt; is_code(codes.next(), want), "{name}");
+    }
+    codes.rewind(&[1; 600])?;
+    assert!(rt; is_code(codes.next(), &[2, 1]));
+    codes.rewind(&[2, 2, 0])?;
+    assert!(rt; codes.next().is_none());
+    Ok(())
+}
+
+// Places, and the turns from each: `M` comes to a beginning of a code, `I` takes the code out that
+// stands behind it, and `E` finds nothing left. The beginnings are 1, 1 1, 1 2, 2, 2 1 and 2 2.
+static TURNS: [(&str, &[u32], &str); 9] = [
+    ("the empty place", &[], "MI11MMI21I22E"),
+    ("numbers that begin a code", &[1], "MI11MMI21I22E"),
+    ("a code that isn't valid", &[1, 2], "MMI21I22E"),
+    ("a code itself", &[2, 1], "I21I22E"),
+    ("behind a code", &[2, 1, 0], "I22E"),
+    ("a code and more", &[1, 1, 2, 6, 0], "MMI21I22E"),
+    ("no code", &[1, 3, 1], "MI21I22E"),
+    ("no number", &[0, 9], "MI11MMI21I22E"),
+    ("behind the last", &[2, 2, 0], "E"),
+];
+
+#[test]
+fn turns(rt: HostRuntime) -> Result<(), Fail> {
+    let query = query_of_two_sites(rt.alloc())?;
+    for (name, place, want) in &TURNS {
+        let told = turns_from(rt.alloc(), &query, place)?;
+        assert!(rt; told.as_slice() == want.as_bytes(), "{name}");
+    }
+    Ok(())
+}
+
+// Numbers, and how many of the first are a structural code.
+static NUMBERS: [(&str, &[u32], Option<usize>); 6] = [
+    ("a code", &[1, 1], Some(2)),
+    ("a code that isn't valid, and more", &[1, 2, 9, 9], Some(2)),
+    ("the middle of a code", &[2], None),
+    ("no number", &[], None),
+    ("a number above the greatest", &[1, 3], None),
+    ("a number below the least", &[0, 1], None),
+];
+
+#[test]
+fn codes_at_the_front(rt: HostRuntime) -> Result<(), Fail> {
+    let query = query_of_two_sites(rt.alloc())?;
+    for (name, numbers, want) in &NUMBERS {
+        assert!(rt; code_within(&query, numbers) == *want, "{name}");
+    }
+    Ok(())
+}
+
+fn turns_from(alloc: Global, query: &Query, place: &[u32]) -> Result<Vec<u8>, Memory> {
+    let mut codes = Codes::from_place(alloc, query, place)?;
+    let mut told = Vec::new(alloc);
+    for _ in 0..16 {
+        match codes.advance() {
+            Turn::Item => {
+                told.push(b'I')?;
+                for number in codes.item() {
+                    told.push(b'0'.saturating_add((*number).min(9) as u8))?;
+                }
+            }
+            Turn::Moved => told.push(b'M')?,
+            Turn::End => {
+                told.push(b'E')?;
+                return Ok(told);
+            }
+        }
+    }
+    Ok(told)
+}
+
+fn is_code(found: Option<&[u32]>, want: &[u32]) -> bool {
+    match found {
+        Some(code) => code == want,
+        None => false,
+    }
+}
+
+fn is_least(alloc: Global, query: &Query, front: &[u32], want: &[u32]) -> Result<bool, Memory> {
+    match least_code(alloc, query, front)? {
+        Some(code) => Ok(code.as_slice() == want),
+        None => Ok(false),
+    }
+}
