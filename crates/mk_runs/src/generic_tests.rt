@@ -7,6 +7,8 @@ use std::test::Fail;
 
 const FLUORINE: &str = "F | {M  APO  1   1   1}";
 
+const CHLORINE: &str = "Cl | {M  APO  1   1   1}";
+
 // A ring that is closed by a member with two attachment points.
 const CLOSED: Content = Grouped(
     "C C C R# | 1=2 2-3 1-4 3=4 {M  RGP  1   4   1}",
@@ -23,7 +25,60 @@ const NITRO: Content = Drawn("C N O O | 1-2 2=3 2=4");
 // The same by charges.
 const CHARGED: Content = Drawn("C N(c3) O O(c5) | 1-2 2=3 2-4");
 
-static HITS: [(&str, Content, Content, &str); 15] = [
+// A site that may hold fluorine of group 1 or chlorine of group 2, each at most once.
+const EITHER: Content = Grouped(
+    "C R# | 1-2 {M  RGP  2   2   1   2   2}{M  LOG  1   1   0   0 0-1}{M  LOG  1   2   0   0 0-1}",
+    &[(1, &[FLUORINE]), (2, &[CHLORINE])],
+);
+
+// The same without ranges: each group has to fill the one site.
+const BOTH: Content = Grouped(
+    "C R# | 1-2 {M  RGP  2   2   1   2   2}",
+    &[(1, &[FLUORINE]), (2, &[CHLORINE])],
+);
+
+// A site of three labels. In the file members of group 3 stand before and behind that of group 1,
+// and hydrogens stand there for group 2 alone.
+const THREE_LABELS: Content = Grouped(
+    "C R# | 1-2 {M  RGP  3   2   1   2   2   2   3}{M  LOG  1   1   0   0 0-1}{M  LOG  1   2   0   1 0-1}{M  LOG  1   3   0   0 0-1}",
+    &[
+        (3, &["Br | {M  APO  1   1   1}", "I | {M  APO  1   1   1}"]),
+        (1, &[FLUORINE]),
+        (2, &[CHLORINE]),
+    ],
+);
+
+static HITS: [(&str, Content, Content, &str); 20] = [
+    (
+        "a site of two labels",
+        EITHER,
+        Drawn("C Cl | 1-2"),
+        "hit 1 choice 2 map 1 2\nhit 1 choice 3 map 1\nend\n",
+    ),
+    (
+        "two groups that each have to fill one site",
+        BOTH,
+        Drawn("C Cl | 1-2"),
+        "end\n",
+    ),
+    (
+        "a site of three labels, by the number in the file",
+        THREE_LABELS,
+        Drawn("C F | 1-2"),
+        "hit 1 choice 3 map 1 2\nhit 1 choice 5 map 1 3\nhit 1 choice 5 map 1 4\nhit 1 choice 5 map 1 5\nend\n",
+    ),
+    (
+        "a site of three labels, by iodine",
+        THREE_LABELS,
+        Drawn("C I Br | 1-2 1-3"),
+        "hit 1 choice 1 map 1 3\nhit 1 choice 2 map 1 2\nhit 1 choice 5 map 1 4\nhit 1 choice 5 map 1 5\nend\n",
+    ),
+    (
+        "a site of three labels, unfilled",
+        THREE_LABELS,
+        Drawn("C O | 1=2"),
+        "hit 1 choice 5 map 1 3\nhit 1 choice 5 map 1 4\nend\n",
+    ),
     (
         "hydrogens that are added",
         Drawn("H |"),
@@ -129,7 +184,7 @@ fn generic_queries_have_their_hits(rt: HostRuntime) -> Result<(), Fail> {
 const ONE_FLUORINE: Groups = &[(1, &[FLUORINE])];
 
 // Each check fails once.
-static REFUSALS: [(&str, Content, &str); 17] = [
+static REFUSALS: [(&str, Content, &str); 19] = [
     (
         "an unknown symbol",
         Grouped("C Xx | 1-2", ONE_FLUORINE),
@@ -158,6 +213,19 @@ static REFUSALS: [(&str, Content, &str); 17] = [
     (
         "a site without a label",
         Drawn("C R# | 1-2"),
+        "refused 3 query check Q5 table 0 item 2\n",
+    ),
+    (
+        "a label twice at a site",
+        Grouped(
+            "C R# | 1-2 {M  RGP  2   2   1   2   1}{M  LOG  1   1   0   0 0-1}{M  LOG  1   2   0   0 0-1}",
+            &[(1, &[FLUORINE]), (2, &[CHLORINE])],
+        ),
+        "refused 3 query check Q5 table 0 item 2\n",
+    ),
+    (
+        "two labels, and a group of no member",
+        Grouped("C R# | 1-2 {M  RGP  2   2   1   2   2}", ONE_FLUORINE),
         "refused 3 query check Q5 table 0 item 2\n",
     ),
     (
