@@ -12,7 +12,7 @@ use Rattle.mk_model.specs.Logic.{IsValid}
 use Rattle.mk_model.specs.Nodes.{BeginsCode, SameFrom}
 use Rattle.mk_model.specs.Queries.{QueryView, slots_of}
 use Rattle.mk_model.specs.QueryFits.{QueryFits}
-use Rattle.mk_model.proofs.ForCallers.{not_below_through}
+use Rattle.mk_model.proofs.ForCallers.{below_next, not_below_through}
 use Rattle.mk_choice.specs.declared.frames.Frames.{Frames}
 use Rattle.mk_choice.specs.Ahead.{HasRows, IsAhead}
 use Rattle.mk_choice.specs.Bounds.{AreBounds}
@@ -88,6 +88,12 @@ module _ (query : QueryView) (most : List ℕ) where
       sought_up =
           rw is.once
           (subst (λ (xs : List ℕ). IsBelow (numbers_of frames ++ (number + 1) ∷ []) xs → ⊥) (sym front_is) (past_up (numbers_of frames) number tail))
+
+      pub sought_over : IsBelow front (from_at frames.once (numbers_of frames) number)
+      sought_over =
+          rw is.once
+          (subst (λ (xs : List ℕ). IsBelow xs (numbers_of frames ++ (number + 1) ∷ [])) (sym front_is)
+          (below_next (numbers_of frames) number (number + 1) tail [] (omega arith)))
 
     -- or they are all
     pub sought_all : length front ≤ i → numbers_of frames ≡ front

@@ -1,6 +1,6 @@
 -- Turns of `Codes`: what is left behind what they come to, and what they pay.
 --     turn_item, turn_open, turn_dead, turn_end      what a turn comes to
---     ready_behind, ready_still, ready_place         what is kept
+--     ready_behind, ready_still, ready_place, ready_over         what is kept
 use Rattle.std.proofs.Common.{◌≡◌, ℕ, ◌<◌, ◌≤◌, inl, inr, List, [], ◌∷◌, ◌++◌, length, take, None, refl, sym, subst, arith, append-nil}
 use Rattle.mk_text.specs.Rising.{IsBelow, IsLeast, IsLeastFrom}
 use Rattle.mk_text.proofs.ForCallers.{below_through, below_what_isnt, between_none, not_below_itself}
@@ -140,6 +140,18 @@ module _ (query : QueryView) (most : List ℕ) (frames : Frames) (are : AreFrame
     same = rw is (same_of (BeginsCode query) (IsValid query) (begins_itself query) from (from_of frames) same);
     up = rw is up;
     owed = λ none. absurd (omega (arith, none));
+  }
+
+  -- the same where what comes first is above it
+  pub ready_over : (place : List ℕ) (n : ℕ) → 514 ≤ length place → n ≤ length place → (from : List ℕ) → take n place ≡ from
+      → SameFrom (BeginsCode query) from (from_of frames) → IsBelow from (from_of frames) → IsReady query most frames place n 0
+  ready_over place n room within from is same over = record {
+    frames_are = are;
+    within = within;
+    room = room;
+    same = rw is (same_of (BeginsCode query) (IsValid query) (begins_itself query) from (from_of frames) same);
+    up = rw is (λ below. not_below_itself from (below_through from (from_of frames) from over below));
+    owed = λ _. rw is over;
   }
 
 -- the empty place of a root with slots isn't a code

@@ -7,7 +7,7 @@
 --     AreLeft left codes   these are the codes that are left, in rising order
 use Rattle.std.specs.Prelude.{◌≡◌, ◌≤◌, ◌+◌, ◌==◌, if◌then◌else◌, ℕ, Bool, true, false, List, [], ◌∷◌, ◌++◌, Option, Some, None, length, take}
 use Rattle.std.specs.Borrow.{Bor}
-use Rattle.mk_text.specs.Rising.{IsBelow, IsLeast, IsLeastFrom, IsRisingListOfAll}
+use Rattle.mk_text.specs.Rising.{IsBelow, IsFrom, IsLeast, IsLeastFrom, IsRisingListOfAll}
 use Rattle.mk_model.specs.declared.turn.Turn.{Turn}
 use Rattle.mk_model.specs.declared.turn.Turn.TheVariants.{Item, Moved, End}
 use Rattle.mk_model.specs.Nodes.{BeginsCode, Pays, SameFrom}
@@ -33,12 +33,13 @@ pub record IsReady (query : QueryView) (most : List ℕ) (frames : Frames) (plac
   pub up : IsBelow (from_of frames) (take len place) → ⊥
   pub owed : debt ≡ 0 → IsBelow (take len place) (from_of frames)
 
--- the codes are those from the place on, and no more is owed than the place has numbers; where the
--- root has no slots, it may be one more
+-- The codes are those from the place on, and no more is owed than the place has numbers; where the
+-- root has no slots, it may be one more. Where no structural code begins with the place, nothing is.
 pub record IsMadeFrom (query : QueryView) (place : List ℕ) (left : CodesLeft) : Type 0 where
   pub query_is : left.query ≡ query
   pub place_is : left.place ≡ place
   pub few : left.debt ≤ length place + (if length (slots_of query 0) == 0 then 1 else 0)
+  pub unowed : (BeginsCode query place → ⊥) → left.debt ≡ 0
 
 -- a code is the least that is left, and the place is behind it
 pub record IsNext (old new : CodesLeft) (code : List ℕ) : Type 0 where
@@ -78,7 +79,7 @@ IsTurn old new End = IsLeastFrom old.place (IsValid old.query) None × (new ≡ 
 
 -- the codes are those that are left, in rising order
 abbrev pub AreLeft : CodesLeft → List (List ℕ) → Type 0
-AreLeft left codes = IsRisingListOfAll (λ code. IsValid left.query code × (IsBelow code left.place → ⊥)) codes
+AreLeft left codes = IsRisingListOfAll (IsFrom (IsValid left.query) left.place) codes
 
 -- a code that is taken is the first of those left before, and what is left behind it are the others
 abbrev pub NextIsFirst : Type 0

@@ -5,6 +5,7 @@ ghost use Rattle.mk_model.specs.Queries.{slots_of};
 ghost use Rattle.std.specs.Borrow.{sem};
 ghost use Rattle.mk_text.specs.Rising.{IsLeastFrom};
 ghost use Rattle.mk_model.specs.Logic.{IsValid};
+ghost use Rattle.mk_model.specs.Nodes.{BeginsCode};
 ghost use Rattle.mk_choice.specs.Codes.{IsReady};
 ghost use Rattle.mk_choice.specs.Frames.{AreFrames};
 
@@ -131,6 +132,13 @@ impl<'a> Codes<'a> {
         Turn::Moved
     }
 
+    /// The numbers of the place.
+    pub fn reached(&self) -> &[u32]
+        ensures { result.now ≡ self.now.place }
+    {
+        &self.place[..self.len]
+    }
+
     /// The code that the last turn took out.
     pub fn item(&self) -> &[u32]
         requires behind { (code : List ℕ) × (self.now.place ≡ code ++ 0 ∷ []) }
@@ -193,6 +201,7 @@ fn go_to<'a>(frames: &mut Frames<'a>, query: &'a Query, most: &[u32], place: &[u
     requires frames { AreFrames query.now most.now frames.old }
     requires none { (frames.old.depth ≡ 0) × (frames.old.above ≡ 0) × (frames.old.once ≡ false) }
     ensures few { result ≤ length place.now + (if length (slots_of query.now 0) == 0 then 1 else 0) }
+    ensures unowed { (BeginsCode query.now place.now → ⊥) → result ≡ 0 }
     ensures ready { (kept : List ℕ) → 514 ≤ length kept → length place.now ≤ length kept → take (length place.now) kept ≡ place.now
         → IsReady query.now most.now frames.new kept (length place.now) result }
 {
@@ -200,7 +209,10 @@ fn go_to<'a>(frames: &mut Frames<'a>, query: &'a Query, most: &[u32], place: &[u
         return 0;
     }
     frames.seek(query, most, place);
-    1
+    if frames.once {
+        return 1;
+    }
+    0
 }
 
 // Tells that the place is the empty one, and that it is no code: then nothing is owed, since what

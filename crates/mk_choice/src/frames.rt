@@ -80,6 +80,8 @@ impl<'a> Frames<'a> {
         ensures frames { AreFrames query.now most.now self.new }
         ensures same { SameFrom (BeginsCode query.now) front.now (from_of self.new) }
         ensures up { IsBelow (from_of self.new) front.now → ⊥ }
+        ensures begins { IsTrue self.new.once → BeginsCode query.now front.now }
+        ensures over { self.new.once ≡ false → IsBelow front.now (from_of self.new) }
     {
         for i in 0..front.len() {
             let number = front[i];

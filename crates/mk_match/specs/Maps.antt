@@ -8,7 +8,7 @@
 --     AreLeft left hits    these are the hits that are left, in rising order
 use Rattle.std.specs.Prelude.{◌≡◌, ◌≤◌, ◌+◌, ◌==◌, if◌then◌else◌, ℕ, Bool, true, false, List, [], ◌∷◌, ◌++◌, Option, Some, None, length, take}
 use Rattle.std.specs.Borrow.{Bor}
-use Rattle.mk_text.specs.Rising.{IsBelow, IsLeast, IsLeastFrom, IsRisingListOfAll}
+use Rattle.mk_text.specs.Rising.{IsFrom, IsLeast, IsLeastFrom, IsRisingListOfAll}
 use Rattle.mk_model.specs.Molecules.{Molecule}
 use Rattle.mk_model.specs.Graphs.{GraphView}
 use Rattle.mk_model.specs.Hits.{IsHit}
@@ -86,7 +86,7 @@ IsTurn old new End = IsLeastFrom old.place (IsHit old.graph old.mol) None × (ne
 
 -- the hits are those that are left, in rising order
 abbrev pub AreLeft : MapsLeft → List (List ℕ) → Type 0
-AreLeft left hits = IsRisingListOfAll (λ hit. IsHit left.graph left.mol hit × (IsBelow hit left.place → ⊥)) hits
+AreLeft left hits = IsRisingListOfAll (IsFrom (IsHit left.graph left.mol) left.place) hits
 
 -- a hit that is taken is the first of those left before, and what is left behind it are the others
 abbrev pub NextIsFirst : Type 0

@@ -133,6 +133,13 @@ impl<'a> Maps<'a> {
         }
     }
 
+    /// The numbers of the place.
+    pub fn reached(&self) -> &[u32]
+        ensures { result.now ≡ self.now.place }
+    {
+        &self.place[..self.len]
+    }
+
     /// The hit that the last turn took out.
     pub fn item(&self) -> &[u32]
         requires behind { (hit : List ℕ) × (self.now.place ≡ hit ++ 0 ∷ []) }
