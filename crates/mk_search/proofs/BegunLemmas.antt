@@ -1,5 +1,5 @@
 -- Lists for which a matcher was begun, from one list up to another.
---     begun_none, begun_one, begun_over     none, one, and one that is passed over
+--     begun_none, begun_one, begun_over     none, one, and none while the place goes up
 --     begun_append                          some, and others behind them
 --     begun_same                            what they have, in other words
 use Rattle.std.proofs.Common.{◌≡◌, ℕ, ◌+◌, inl, inr, List, [], ◌∷◌, ◌++◌, sym, subst, arith, length-append}
@@ -24,15 +24,15 @@ module _ (P : List ℕ → Type 0) where
     ticked = omega (arith, same);
   }
 
-  -- one is passed over
-  unfoldable pub begun_over : (from next to : List ℕ) (before after : ℕ) → (IsBelow next from → ⊥) → to ≡ next ++ 0 ∷ [] → after ≡ before → Begun P from to before after
-  begun_over from next to before after not at same = record {
+  -- none, while the place goes up
+  unfoldable pub begun_over : (from to : List ℕ) (before after : ℕ) → (IsBelow to from → ⊥) → after ≡ before → Begun P from to before after
+  begun_over from to before after up same = record {
     begun = [];
     rise = tt;
     each = λ xs held. absurd held;
     from_is = λ xs held. absurd held;
     to_is = λ xs held. absurd held;
-    up = not_after from next to not at;
+    up = up;
     ticked = omega (arith, same);
   }
 

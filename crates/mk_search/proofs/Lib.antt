@@ -4,6 +4,7 @@ pub mod LevelLemmas
 pub mod BegunLemmas
 pub mod OccurrencesLemmas
 pub mod OpenLemmas
+pub mod PassingLemmas
 pub mod NextLemmas
 pub mod RecordsLemmas
 pub mod MeetLemmas

@@ -1,20 +1,21 @@
 -- The next occurrence of a query in one molecule.
 --     opened_none, opened_more    codes were passed, and nothing stood behind them
 --     taken_first, taken_later, taken_none     the next occurrence, or none
---     opened_fewer                fewer codes are left behind each that is passed
-use Rattle.std.proofs.Common.{◌≡◌, ℕ, ◌<◌, inl, inr, List, [], ◌∷◌, ◌++◌, length, Option, Some, None, refl, sym, ap, subst, ◌∙◌, arith, length-append}
-use Rattle.mk_text.specs.Rising.{Holds, IsLeast, IsLeastFrom}
+--     opened_fewer                fewer codes are left behind what is passed
+use Rattle.std.proofs.Common.{◌≡◌, ℕ, ◌<◌, inl, inr, List, [], ◌∷◌, ◌++◌, length, Option, Some, None, refl, sym, ap, subst, ◌∙◌, arith, append-nil, length-append}
+use Rattle.mk_text.specs.Rising.{Holds}
 use Rattle.mk_text.proofs.ForCallers.{holds_append, not_below_itself}
-use Rattle.mk_model.specs.Keys.{IsOccurrence}
-use Rattle.mk_model.specs.Logic.{IsValid}
+use Rattle.mk_model.specs.Codes.{IsCode}
 use Rattle.mk_model.specs.Molecules.{Molecule}
+use Rattle.mk_model.specs.Nodes.{BeginsCode}
 use Rattle.mk_model.specs.Queries.{QueryView}
 use Rattle.mk_model.specs.QueryFits.{QueryFits}
-use Rattle.mk_choice.specs.Codes.{CodesLeft, IsNext}
-use Rattle.mk_choice.proofs.ForCallers.{codes_left, fewer_left}
+use Rattle.mk_model.proofs.ForCallers.{code_of_valid}
+use Rattle.mk_choice.specs.Codes.{CodesLeft}
+use Rattle.mk_choice.proofs.CodesLeftLemmas.{fewer_nodes, nodes_left}
 use Rattle.mk_search.specs.declared.occurrences.Open.{Open}
 use Rattle.mk_search.specs.Begun.{Begun}
-use Rattle.mk_search.specs.Occurrences.{IsBegunFor, IsCodeFrom, IsOpenedAt, Leaves, TakesHere, TakesNext}
+use Rattle.mk_search.specs.Occurrences.{IsBegunFor, IsCodeFrom, IsNoneOpened, IsOpenedAt, Leaves, TakesHere, TakesNext}
 use Rattle.mk_search.proofs.BegunLemmas.{begun_append, begun_none}
 
 -- ---- places
@@ -80,7 +81,8 @@ module _ (query : QueryView) (mol : Molecule) (place : List ℕ) where
   unfolding begun_next begun_append
   taken_later start codes new opened open' more last before now after numbers h o t =
       let begun = begun_next start.place codes new open' more before now after h o in
-      let same : o.code ≡ t.code = before_zero o.code t.code (sym o.placed ∙ t.placed) in
+      let opened' = o.for_it t.was_open in
+      let same : o.code ≡ t.code = before_zero o.code t.code (sym opened'.placed ∙ t.placed) in
       record {
         least = t.least;
         begun = begun;
@@ -92,33 +94,25 @@ module _ (query : QueryView) (mol : Molecule) (place : List ℕ) where
               whole = t.whole;
               placed = t.placed;
               begun_for = inl
-                  (holds_append h.begun.begun o.begun.begun t.code (inr (subst (Holds o.begun.begun) same (o.for_it t.was_open))));
+                  (holds_append h.begun.begun o.begun.begun t.code (inr (subst (Holds o.begun.begun) same opened'.held)));
             });
         now_open = λ xs e. t.now_open;
       }
 
   -- there is none
   pub taken_none : (start codes new : CodesLeft) (opened open' last : Option Open) (before now after : ℕ) → HasOpened query mol place start.place codes open' before now
-      → IsLeastFrom place (IsOccurrence query mol) None → after ≡ now → new ≡ codes
-      → TakesNext query mol place start opened new last before after None
-  taken_none start codes new opened open' last before now after h none ticked same = record {
-    least = none;
-    begun = subst (λ (c : CodesLeft). Begun (IsCodeFrom query mol place) start.place c.place before after) (sym same)
-        (subst (λ (n : ℕ). Begun (IsCodeFrom query mol place) start.place codes.place before n) (sym ticked) h.begun);
+      → IsNoneOpened query mol place codes new now after → TakesNext query mol place start opened new last before after None
+  taken_none start codes new opened open' last before now after h o = record {
+    least = o.none;
+    begun = begun_append (IsCodeFrom query mol place) start.place codes.place codes.place new.place before now after h.begun (not_below_itself codes.place) o.begun;
     left = λ xs e. absurd cc;
     taken = λ xs e. absurd cc;
     now_open = λ xs e. absurd cc;
   }
 
-  -- fewer codes are left behind each that is passed
-  pub opened_fewer : QueryFits query → (codes new : CodesLeft) (open' more : Option Open) (now after : ℕ) → Leaves query mol place codes open'
-      → IsOpenedAt query mol place codes new more now after
-      → codes_left query new.place < codes_left query codes.place
-  opened_fewer fits codes new open' more now after left o =
-      let next : IsNext codes new o.code = record {
-        least = subst (λ (q : QueryView). IsLeast codes.place (IsValid q) o.code) (sym left.query_is) o.least;
-        query = o.left.query_is ∙ sym left.query_is;
-        place = o.placed;
-      } in
-      subst (λ (q : QueryView). codes_left q new.place < codes_left q codes.place) left.query_is
-      (fewer_left codes new o.code (subst QueryFits (sym left.query_is) fits) next)
+  -- fewer codes are left behind each that is passed, and behind more of them too
+  pub opened_fewer : QueryFits query → (codes new : CodesLeft) (more : Option Open) (now after : ℕ) → IsOpenedAt query mol place codes new more now after
+      → nodes_left query new.place < nodes_left query codes.place
+  opened_fewer fits codes new more now after o =
+      let begins : BeginsCode query o.code = record { more = []; code = subst (IsCode query 0) (sym (append-nil o.code)) (code_of_valid query o.code o.least.has) } in
+      fewer_nodes query codes.place new.place o.code fits begins o.least.from o.passed

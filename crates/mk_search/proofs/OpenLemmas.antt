@@ -6,7 +6,7 @@
 use Rattle.std.proofs.Common.{◌≡◌, ℕ, ◌+◌, inl, inr, Bool, true, false, if◌then◌else◌, List, [], ◌∷◌, ◌++◌, All, drop, Option, Some, None, refl, sym, ap, subst, ◌∙◌, append-nil}
 use Rattle.std.proofs.lemmas.List.Elements.{All-drop, All-push}
 use Rattle.mk_text.specs.Rising.{IsBelow, IsLeast, IsLeastFrom}
-use Rattle.mk_text.proofs.ForCallers.{below_joined, below_or_not, below_through, between_none, not_below_after, not_below_itself}
+use Rattle.mk_text.proofs.ForCallers.{below_after, below_joined, below_or_not, below_through, between_none, not_below_after, not_below_itself}
 use Rattle.mk_model.specs.Expansions.{IsExpansion}
 use Rattle.mk_model.specs.Graphs.{GraphView}
 use Rattle.mk_model.specs.Hits.{IsHit}
@@ -26,11 +26,12 @@ use Rattle.mk_match.specs.Maps.{IsMadeFrom, MapsLeft}
 use Rattle.mk_search.specs.declared.expansions.Expansion.{Expansion}
 use Rattle.mk_search.specs.declared.occurrences.Open.{Open}
 use Rattle.mk_search.specs.Begins.{IsLeftBy}
+use Rattle.mk_search.specs.Begun.{Begun}
 use Rattle.mk_search.specs.Kept.{IsKept}
 use Rattle.mk_search.specs.Levels.{AtBacks, AtFronts, IsPair}
-use Rattle.mk_search.specs.Occurrences.{HitsBehind, IsCodeFrom, IsOpenOf, IsOpenedAt, Leaves, LeavesBy, LeavesOpen, TakesHere, is_open}
+use Rattle.mk_search.specs.Occurrences.{HitsBehind, IsCodeFrom, IsNoneOpened, IsOpenOf, IsOpenedAt, Leaves, LeavesBy, LeavesOpen, TakesHere, is_open}
 use Rattle.mk_search.specs.Starts.{IsBehind, IsStart}
-use Rattle.mk_search.proofs.BegunLemmas.{begun_one, begun_over}
+use Rattle.mk_search.proofs.BegunLemmas.{begun_none, begun_one, begun_over, not_after}
 use Rattle.mk_search.proofs.LevelLemmas.{closes, ends, goes_up, longer, nested, opens, shorter, takes, takes_least}
 use Rattle.mk_search.proofs.StartsLemmas.{back_is_above, no_longer_code, none_below_start}
 
@@ -173,8 +174,12 @@ module _ (query : QueryView) (mol : Molecule) where
 
   -- ---- the next code
 
-  pub none_left : (place from : List ℕ) → AtFronts (IsValid query) (HitsBehind query mol) place from → IsLeastFrom from (IsValid query) None → IsLeastFrom place (IsOccurrence query mol) None
-  none_left place from at none = no_pair place (ends (IsValid query) (HitsBehind query mol) place from at none)
+  pub none_left : (place : List ℕ) (old new : CodesLeft) (n : ℕ) → AtFronts (IsValid query) (HitsBehind query mol) place old.place
+      → IsLeastFrom old.place (IsValid query) None → new ≡ old → IsNoneOpened query mol place old new n n
+  none_left place old new n at none same = record {
+    none = no_pair place (ends (IsValid query) (HitsBehind query mol) place old.place at none);
+    begun = subst (λ (codes : CodesLeft). Begun (IsCodeFrom query mol place) old.place codes.place n n) (sym same) (begun_none (IsCodeFrom query mol place) old.place n n refl);
+  }
 
   opened_next : (place from back : List ℕ) (codes : CodesLeft) (new : Open) → AtFronts (IsValid query) (HitsBehind query mol) place from
       → IsLeast from (IsValid query) new.code.items → IsBehind new.code.items place back
@@ -223,14 +228,18 @@ module _ (query : QueryView) (mol : Molecule) (place : List ℕ) (old new : Code
   expanded : IsExpansion query code expansion.graph
   expanded = subst (λ (zs : List ℕ). IsExpansion query zs expansion.graph) code_is kept.is
 
+  -- the place behind it is above it
+  behind_it : IsBelow code new.place
+  behind_it = subst (λ (zs : List ℕ). IsBelow code zs) (sym next.place) (below_after code)
+
   pub passed_at : (n : ℕ) → HasNoHit expansion.graph mol → IsOpenedAt query mol place old new open' n n
   passed_at n none = record {
     code = code;
     least = least_code;
-    placed = next.place;
+    passed = behind_it;
     left = subst (λ (m : Option Open). Leaves query mol place new m) (sym shut)
         (passed_next query mol place old.place code expansion.graph new no_code_open least_code (next.query ∙ left.query_is) next.place expanded none);
-    begun = begun_over (IsCodeFrom query mol place) old.place code new.place n n least_code.from next.place refl;
+    begun = begun_over (IsCodeFrom query mol place) old.place new.place n n (not_after old.place code new.place least_code.from next.place) refl;
     for_it = λ is. absurd (let no : is_open None ≡ true = subst (λ (m : Option Open). is_open m ≡ true) shut is in cc);
   }
 
@@ -241,7 +250,7 @@ module _ (query : QueryView) (mol : Molecule) (place : List ℕ) (old new : Code
   opened_at n m maps back screen made behind shows covers more = record {
     code = code;
     least = least_code;
-    placed = next.place;
+    passed = behind_it;
     left = opened_next query mol place old.place back new (record { maps = maps; code = expansion.code; asked = expansion.asked; need = expansion.need }) no_code_open
         (subst (IsLeast old.place (IsValid query)) (sym code_is) least_code)
         (subst (λ (zs : List ℕ). IsBehind zs place back) (sym code_is) behind)
@@ -263,7 +272,7 @@ module _ (query : QueryView) (mol : Molecule) (place : List ℕ) (old new : Code
           from = no_code_open.fronts code least_code.has least_code.from;
         })
         least_code.from next.place more;
-    for_it = λ is. inl refl;
+    for_it = λ is. record { placed = next.place; held = inl refl };
   }
 
 -- what is kept when an expansion was put behind the others, or couldn't be

@@ -29,7 +29,9 @@ use Rattle.mk_search.specs.Levels.{AtFronts}
 use Rattle.mk_search.specs.Starts.{first_number, rest_in}
 use Rattle.mk_search.specs.Occurrences.{BelongsTo, IsBegunFor, IsCodeFrom, Leaves, TakesNext, given, is_open}
 use Rattle.mk_search.specs.Pages.{IsHeldIn}
-use Rattle.mk_search.specs.Records.{IsNeedOfAll, IsNextRecord, NoRecord}
+use Rattle.mk_search.specs.Passing.{KnowOf}
+use Rattle.mk_open.specs.Fronts.{IsNeedOfAll}
+use Rattle.mk_search.specs.Records.{IsNextRecord, NoRecord}
 use Rattle.mk_search.specs.Stages.{Finds, FindsIn, FindsKey, FindsNoKey, FindsNone, IsBegunKey, IsReadyIn, IsRecord, IsStanding, OccursIn}
 use Rattle.mk_search.proofs.BegunLemmas.{begun_append, begun_none}
 use Rattle.mk_search.proofs.StartsLemmas.{behind_same}
@@ -172,16 +174,18 @@ belongs_itself query all belongs = subst (λ (q : QueryView). BelongsTo q all) (
 -- a record is opened
 pub ready_first : (rows : List (Numbered Molecule)) (query : QueryView) (place : List ℕ) (next : ℕ) → AtFronts (IsRecord rows) (OccursIn rows query) place (next ∷ []) → (row : Row)
     → IsHeldIn rows row.number row.mol.now → IsScreenOf row.mol.now row.screen.now → IsNextRecord rows query next row.number → (all : Occurrences)
-    → Leaves query row.mol.now (rest_in place row.number) all.codes all.open → IsReadyIn rows query place row all
-ready_first rows query place next at row held shows is all left = record {
+    → Leaves query row.mol.now (rest_in place row.number) all.codes all.open → KnowOf row.mol.now all.fronts → IsReadyIn rows query place row all
+ready_first rows query place next at row held shows is all left know = record {
   held = held;
   shows = shows;
   left = left;
+  know = know;
   at = ready_in rows query row.number row.mol.now held place next at is;
   from = at.fronts (row.number ∷ []) (record { number = row.number; mol = row.mol.now; held = held; is = refl }) (number_from next row.number is.not_below);
 }
 
-module _ (rows : List (Numbered Molecule)) (query : QueryView) (place : List ℕ) (row : Row) (old new : Occurrences) (before after : ℕ) (ready : IsReadyIn rows query place row old) where
+module _ (rows : List (Numbered Molecule)) (query : QueryView) (place : List ℕ) (row : Row) (old new : Occurrences) (before after : ℕ) (ready : IsReadyIn rows query place row old)
+    (know : KnowOf row.mol.now new.fronts) where
   finds_none : TakesNext query row.mol.now (rest_in place row.number) old.codes old.open new.codes new.open before after None
       → FindsNone rows query place row.number (row.number ∷ old.codes.place) before after
   finds_none t = record {
@@ -201,6 +205,7 @@ module _ (rows : List (Numbered Molecule)) (query : QueryView) (place : List ℕ
           held = ready.held;
           shows = ready.shows;
           left = subst (λ (zs : List ℕ). Leaves query row.mol.now zs new.codes new.open) (sym (rest_same row.number (numbers ++ 0 ∷ []))) (t.left numbers refl);
+          know = know;
           at = found_at rows query row.number row.mol.now ready.held numbers;
           from = inr (numbers ++ 0 ∷ [], refl);
         };

@@ -5,6 +5,7 @@ pub mod Records
 pub mod Begins
 pub mod Begun
 pub mod Levels
+pub mod Passing
 pub mod Occurrences
 pub mod Stages
 pub mod Hits

@@ -6,10 +6,11 @@
 --     BelongsTo query all             all that is kept is of the query
 --     given more numbers              the numbers that were found, where some were
 --     IsTakenHere .. found            the next one of the code that is open, or there is none
---     IsOpened .. more                the next code is passed, or there is none
+--     IsOpened .. more                the next code, or all codes behind a front that holds none,
+--                                     are passed; or there is none
 --     TakesNext .. found              the next occurrence is taken, or there is none
 use Rattle.std.specs.Prelude.{◌≡◌, ◌⊎◌, ℕ, Bool, true, false, List, [], ◌∷◌, ◌++◌, Option, Some, None, All}
-use Rattle.mk_text.specs.Rising.{Holds, IsLeast, IsLeastFrom}
+use Rattle.mk_text.specs.Rising.{Holds, IsBelow, IsLeast, IsLeastFrom}
 use Rattle.mk_model.specs.Expansions.{IsExpansion}
 use Rattle.mk_model.specs.Graphs.{GraphView}
 use Rattle.mk_model.specs.Hits.{IsHit}
@@ -24,6 +25,7 @@ use Rattle.mk_search.specs.Begins.{IsLeftBy}
 use Rattle.mk_search.specs.Begun.{Begun, IsCovered}
 use Rattle.mk_search.specs.Kept.{IsKept}
 use Rattle.mk_search.specs.Levels.{AtBacks, AtFronts}
+use Rattle.mk_search.specs.Passing.{FrontsOf}
 
 -- the hit is one of the expansion by the code in the molecule
 pub record HitsBehind (query : QueryView) (mol : Molecule) (code hit : List ℕ) : Type 0 where
@@ -61,10 +63,11 @@ pub record Leaves (query : QueryView) (mol : Molecule) (place : List ℕ) (codes
   pub query_is : codes.query ≡ query
   pub by : LeavesBy query mol place codes open'
 
--- the codes and the expansions that are kept are of the query
+-- the codes, the fronts and the expansions that are kept are of the query
 pub record BelongsTo (query : QueryView) (all : Occurrences) : Type 0 where
   pub query_is : all.query.now ≡ query
   pub codes_of : all.codes.query ≡ query
+  pub fronts_of : FrontsOf query all.fronts
   pub kept_are : All (IsKept query) all.kept.items
 
 -- a code is open
@@ -97,21 +100,32 @@ abbrev pub IsTakenHere : QueryView → Molecule → List ℕ → CodesLeft → O
 IsTakenHere query mol place codes old new None = Leaves query mol place codes new × (new ≡ None)
 IsTakenHere query mol place codes old new (Some numbers) = TakesHere query mol place codes old new numbers
 
--- the next code is passed: a matcher is begun for it exactly where it is opened
+-- the code is opened: it stands before the place, and a matcher was begun for it
+pub record IsOpenFor (new : CodesLeft) (begun : List (List ℕ)) (code : List ℕ) : Type 0 where
+  pub placed : new.place ≡ code ++ 0 ∷ []
+  pub held : Holds begun code
+
+-- the next code is passed, or all codes behind a front that holds none: a matcher is begun for the
+-- code itself exactly where it is opened
 pub record IsOpenedAt (query : QueryView) (mol : Molecule) (place : List ℕ) (old new : CodesLeft)
     (open' : Option Open) (before after : ℕ) : Type 0 where
   pub code : List ℕ
   pub least : IsLeast old.place (IsValid query) code
-  pub placed : new.place ≡ code ++ 0 ∷ []
+  pub passed : IsBelow code new.place
   pub left : Leaves query mol place new open'
   pub begun : Begun (IsCodeFrom query mol place) old.place new.place before after
-  pub for_it : is_open open' ≡ true → Holds begun.begun code
+  pub for_it : is_open open' ≡ true → IsOpenFor new begun.begun code
 
--- the next code is passed; or there is none, and nothing is left
+-- nothing is left, and no matcher is begun
+pub record IsNoneOpened (query : QueryView) (mol : Molecule) (place : List ℕ) (old new : CodesLeft)
+    (before after : ℕ) : Type 0 where
+  pub none : IsLeastFrom place (IsOccurrence query mol) None
+  pub begun : Begun (IsCodeFrom query mol place) old.place new.place before after
+
+-- the next code, or all behind a front, are passed; or nothing is left
 abbrev pub IsOpened : QueryView → Molecule → List ℕ → CodesLeft → CodesLeft → Option Open → ℕ → ℕ → Bool → Type 0
 IsOpened query mol place old new open' before after true = IsOpenedAt query mol place old new open' before after
-IsOpened query mol place old new open' before after false = IsLeastFrom place (IsOccurrence query mol) None
-    × (after ≡ before) × (new ≡ old)
+IsOpened query mol place old new open' before after false = IsNoneOpened query mol place old new before after
 
 -- the code of what was taken is one for which a matcher was begun, or it was open before
 pub record IsBegunFor (old : CodesLeft) (opened : Option Open) (new : CodesLeft) (begun : List (List ℕ))

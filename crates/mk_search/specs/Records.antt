@@ -1,19 +1,14 @@
--- For the code: the next record that may have a key, and what all codes of a query need.
+-- For the code: the next record that may have a key.
 --     HasKeys rows query n              some occurrence of the query is in the molecule under n
 --     IsNextRecord rows query from n    a held number from there on, and none below it has keys
 --     NoRecord rows query from          from there on none has keys
---     IsNeedOfAll query need            a molecule with an occurrence of the query covers it
 use Rattle.std.specs.Prelude.{◌≡◌, ◌≤◌, ℕ, true, List}
 use Rattle.mk_model.specs.Keys.{IsOccurrence}
 use Rattle.mk_model.specs.Molecules.{Molecule}
 use Rattle.mk_model.specs.Queries.{QueryView}
-use Rattle.mk_model.specs.Screens.{Covers, IsScreenOf}
-use Rattle.mk_model.specs.declared.screen.Screen.{Screen}
 use Rattle.mk_rows.specs.declared.by_number.Numbered.{Numbered}
 use Rattle.mk_rows.specs.Rows.{holds}
 use Rattle.mk_search.specs.Pages.{IsHeldIn}
-
--- ---- records
 
 -- the query has an occurrence in the molecule under the number
 pub record HasKeys (rows : List (Numbered Molecule)) (query : QueryView) (n : ℕ) : Type 0 where
@@ -31,10 +26,3 @@ pub record IsNextRecord (rows : List (Numbered Molecule)) (query : QueryView) (f
 -- from there on none has keys
 abbrev pub NoRecord : List (Numbered Molecule) → QueryView → ℕ → Type 0
 NoRecord rows query from = (n : ℕ) → from ≤ n → HasKeys rows query n → ⊥
-
--- ---- needs
-
--- a molecule with an occurrence of the query covers this need
-abbrev pub IsNeedOfAll : QueryView → Screen → Type 0
-IsNeedOfAll query need =
-    (mol : Molecule) (numbers : List ℕ) (held : Screen) → IsOccurrence query mol numbers → IsScreenOf mol held → Covers held need

@@ -25,7 +25,8 @@ use Rattle.mk_search.specs.Levels.{AtBacks, AtFronts}
 use Rattle.mk_search.specs.Starts.{rest_in}
 use Rattle.mk_search.specs.Occurrences.{BelongsTo, Leaves, is_open}
 use Rattle.mk_search.specs.Pages.{IsHeldIn}
-use Rattle.mk_search.specs.Records.{IsNeedOfAll}
+use Rattle.mk_search.specs.Passing.{KnowOf}
+use Rattle.mk_open.specs.Fronts.{IsNeedOfAll}
 
 -- the number of a record that is held, as a list
 pub record IsRecord (rows : List (Numbered Molecule)) (front : List ℕ) : Type 0 where
@@ -47,6 +48,7 @@ pub record IsReadyIn (rows : List (Numbered Molecule)) (query : QueryView) (plac
   pub held : IsHeldIn rows row.number row.mol.now
   pub shows : IsScreenOf row.mol.now row.screen.now
   pub left : Leaves query row.mol.now (rest_in place row.number) all.codes all.open
+  pub know : KnowOf row.mol.now all.fronts
   pub at : AtBacks (IsRecord rows) (OccursIn rows query) place (row.number ∷ []) (rest_in place row.number)
   pub from : IsLeftBy place (row.number ∷ [])
 

@@ -4,6 +4,7 @@ ghost use Rattle.std.specs.Prelude.{◌≡◌, ◌∷◌, ◌++◌, [], IfOk};
 use crate::finding::{following, next_key};
 use crate::needs::need_of_all;
 use crate::occurrences::Occurrences;
+use crate::passing::{fronts_of, need_by};
 use crate::stages::Stage;
 use crate::starts::first_number;
 use mk_choice::Codes;
@@ -56,11 +57,14 @@ impl<'a> Hits<'a> {
         let own = Vec::from_slice(alloc, place)?;
         let mut codes = Codes::from_place(alloc, query, &[])?;
         let mut kept = VecDeque::new(alloc);
-        let need = need_of_all(alloc, query, &mut codes, &mut kept)?;
+        let (common, several) = need_of_all(alloc, query, &mut codes, &mut kept)?;
+        let fronts = fronts_of(alloc, query, several)?;
+        let need = need_by(query, common, &fronts);
         Ok(Hits {
             all: Occurrences {
                 codes,
                 open: None,
+                fronts,
                 kept,
                 numbers: Vec::new(alloc),
                 query,

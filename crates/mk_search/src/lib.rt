@@ -9,9 +9,10 @@
 //! hit. The matcher of a code stays open from key to key, and one `Codes` is rewound from record to
 //! record. The expansions that were made last are kept for the next record. A molecule isn't searched
 //! where its screen doesn't cover what an expansion needs, or where it has too few atoms of an
-//! element.
+//! element. All codes that begin with numbers that the molecule can't hold are passed over at once.
 //!
-//! How codes, expansions and hits are found is left to mk_choice, mk_expand and mk_match.
+//! How codes, expansions and hits are found is left to mk_choice, mk_expand and mk_match, and which
+//! numbers a molecule can't hold to mk_fronts.
 #![tactic(auto)]
 
 mod expansions;
@@ -22,6 +23,7 @@ mod needs;
 mod occurrences;
 mod pages;
 mod paging;
+mod passing;
 mod plain;
 mod records;
 mod stages;

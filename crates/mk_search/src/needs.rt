@@ -3,7 +3,7 @@ ghost use Rattle.std.specs.Prelude.{◌≡◌, [], All, IfOk, IfSome};
 ghost use Rattle.mk_model.specs.Screens.{Covers};
 ghost use Rattle.mk_screen.specs.Covering.{CoversBits, CoversCounts};
 ghost use Rattle.mk_search.specs.Kept.{IsKept};
-ghost use Rattle.mk_search.specs.Records.{IsNeedOfAll};
+ghost use Rattle.mk_open.specs.Fronts.{IsNeedOfAll};
 
 use crate::expansions::{Expansion, expansion_by, keep};
 use mk_choice::Codes;
@@ -14,37 +14,38 @@ use std::collections::VecDeque;
 // How many codes may share a need at most: as many as there are expansions that are kept.
 const MOST_CODES: usize = 64;
 
-/// What the expansions of all codes need, where there are few codes. These expansions are kept.
+/// What the expansions of all codes need, where there are few codes, and whether there are several.
+/// These expansions are kept.
 pub fn need_of_all(
     alloc: Global,
     query: &Query,
     codes: &mut Codes<'_>,
     kept: &mut VecDeque<Expansion>,
-) -> Result<Option<Screen>, Memory>
+) -> Result<(Option<Screen>, bool), Memory>
     requires query { codes.old.query ≡ query.now }
     requires first { codes.old.place ≡ [] }
     requires kept { All (IsKept query.now) kept.old.items }
     ensures query { IfOk result (λ _. codes.new.query ≡ query.now) }
     ensures kept { IfOk result (λ _. All (IsKept query.now) kept.new.items) }
-    ensures need { IfOk result (λ found. IfSome found (IsNeedOfAll query.now)) }
+    ensures need { IfOk result (λ found. IfSome found.0 (IsNeedOfAll query.now)) }
 {
     // The reader's clause says what every query keeps.
     let _kept = query.templates();
     let Some(code) = codes.next() else {
-        return Ok(None);
+        return Ok((None, false));
     };
     let expansion = expansion_by(alloc, query, code, kept)?;
     let mut need = expansion.need;
     keep(expansion, kept)?;
-    for _ in 1..MOST_CODES {
+    for count in 1..MOST_CODES {
         let Some(code) = codes.next() else {
-            return Ok(Some(need));
+            return Ok((Some(need), count > 1));
         };
         let expansion = expansion_by(alloc, query, code, kept)?;
         need = meet(&need, &expansion.need);
         keep(expansion, kept)?;
     }
-    Ok(None)
+    Ok((None, true))
 }
 
 // What two needs have in common: what covers one of them covers it.

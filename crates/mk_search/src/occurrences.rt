@@ -4,11 +4,14 @@ ghost use Rattle.std.specs.Prelude.{◌≡◌, ◌≤◌, ◌++◌, ℕ, List, I
 ghost use Rattle.mk_model.specs.Molecules.{Molecule};
 ghost use Rattle.mk_model.specs.Screens.{IsScreenOf};
 ghost use Rattle.mk_search.specs.Occurrences.{BelongsTo, IsOpened, IsOpenOf, IsTakenHere, Leaves, TakesNext, given};
+ghost use Rattle.mk_search.specs.Passing.{KnowOf};
 
 use crate::expansions::{Expansion, expansion_by, keep, may_hold};
+use crate::passing::{forget, passed, put_raised};
 use crate::stages::Row;
 use crate::starts::{behind, start};
 use mk_choice::Codes;
+use mk_fronts::Fronts;
 use mk_match::{Asked, Maps};
 use mk_model::{Memory, Query, Screen, Steps};
 use std::alloc::Global;
@@ -25,13 +28,14 @@ pub struct Open<'a> {
     pub need: Screen,
 }
 
-/// The occurrences of a query in the molecule of a record: the codes that are left, and the code that
-/// is open, where one is. What serves the next record too is kept: expansions, and the room for the
-/// numbers that were found last.
+/// The occurrences of a query in the molecule of a record: the codes that are left, the code that is
+/// open, where one is, and the fronts that are asked before a code is opened, where some are. What
+/// serves the next record too is kept: expansions, and the room for the numbers that were found last.
 #[derive(Debug, Drop)]
 pub struct Occurrences<'a> {
     pub codes: Codes<'a>,
     pub open: Option<Open<'a>>,
+    pub fronts: Option<Fronts<'a>>,
     pub kept: VecDeque<Expansion>,
     pub numbers: Vec<u32>,
     pub query: &'a Query,
@@ -43,9 +47,11 @@ impl<'a> Occurrences<'a> {
         requires { BelongsTo self.old.query.now self.old }
         ensures left { IfOk result (λ _. (mol : Molecule) → Leaves self.old.query.now mol place.now self.new.codes self.new.open) }
         ensures shut { IfOk result (λ _. self.new.open ≡ None) }
+        ensures know { IfOk result (λ _. (mol : Molecule) → KnowOf mol self.new.fronts) }
         ensures belongs { BelongsTo self.old.query.now self.new }
     {
         self.open = None;
+        forget(&mut self.fronts);
         self.codes.rewind(start(self.query, place))
     }
 
@@ -60,8 +66,10 @@ impl<'a> Occurrences<'a> {
     ) -> Result<bool, Memory>
         requires belongs { BelongsTo self.old.query.now self.old }
         requires left { Leaves self.old.query.now row.mol.now place.now self.old.codes self.old.open }
+        requires know { KnowOf row.mol.now self.old.fronts }
         requires screen { IsScreenOf row.mol.now row.screen.now }
         ensures next { IfOk result (λ more. TakesNext self.old.query.now row.entry.mol.now place.now self.old.codes self.old.open self.new.codes self.new.open steps.old steps.new (given more self.new.numbers.items)) }
+        ensures know { IfOk result (λ _. KnowOf row.entry.mol.now self.new.fronts) }
         ensures belongs { BelongsTo self.old.query.now self.new }
         ensures steps { steps.old ≤ steps.new }
     {
@@ -85,6 +93,7 @@ impl<'a> Occurrences<'a> {
         ensures here { IfOk result (λ more. (mol : Molecule) (place : List ℕ) → Leaves self.old.query.now mol place self.old.codes self.old.open
             → IsTakenHere self.old.query.now mol place self.old.codes self.old.open self.new.open (given more self.new.numbers.items)) }
         ensures codes { self.new.codes ≡ self.old.codes }
+        ensures fronts { self.new.fronts ≡ self.old.fronts }
         ensures belongs { BelongsTo self.old.query.now self.new }
     {
         let Some(open) = &mut self.open else {
@@ -104,6 +113,7 @@ impl<'a> Occurrences<'a> {
         requires of { IfSome self.old.open (IsOpenOf self.old.query.now) }
         ensures shut { self.new.open ≡ None }
         ensures codes { self.new.codes ≡ self.old.codes }
+        ensures fronts { self.new.fronts ≡ self.old.fronts }
         ensures belongs { BelongsTo self.old.query.now self.new }
     {
         let Some(open) = mem::replace(&mut self.open, None) else {
@@ -124,7 +134,8 @@ impl<'a> Occurrences<'a> {
         keep(expansion, &mut self.kept)
     }
 
-    // Passes to the next code, where there is one, and opens it where the molecule may hold it.
+    // Passes to the next code, where there is one, and opens it where the molecule may hold it. Where
+    // the code begins with a front that it can't hold, all codes behind that front are passed.
     fn open_next<L: Ledger>(
         &mut self,
         alloc: Global,
@@ -135,14 +146,25 @@ impl<'a> Occurrences<'a> {
         requires belongs { BelongsTo self.old.query.now self.old }
         requires left { Leaves self.old.query.now row.mol.now place.now self.old.codes self.old.open }
         requires shut { self.old.open ≡ None }
+        requires know { KnowOf row.mol.now self.old.fronts }
         requires screen { IsScreenOf row.mol.now row.screen.now }
         ensures opened { IfOk result (IsOpened self.old.query.now row.entry.mol.now place.now self.old.codes self.new.codes self.new.open steps.old steps.new) }
+        ensures know { IfOk result (λ _. KnowOf row.entry.mol.now self.new.fronts) }
         ensures belongs { BelongsTo self.old.query.now self.new }
         ensures steps { steps.old ≤ steps.new }
     {
+        // The reader's clause says what every query keeps.
+        let _fits = self.query.templates();
         let Some(code) = self.codes.next() else {
             return Ok(false);
         };
+        if let Some(n) = passed(alloc, self.query, code, row, &mut self.fronts)? {
+            if !put_raised(&mut self.numbers, &code[..n])? {
+                return Ok(false);
+            }
+            self.codes.rewind(&self.numbers)?;
+            return Ok(true);
+        }
         let back = behind(code, place);
         let expansion = expansion_by(alloc, self.query, code, &mut self.kept)?;
         if !may_hold(&expansion, row.mol, row.screen) {

@@ -31,9 +31,10 @@ returns-then-branch-clause-found g c =
     let held : IsHeldIn rows row.number row.mol.now = c.in-Some-get.ensures.some in
     let all = c.restart.new.self in
     let left = c.in_ok-restart.ensures.left row.mol.now in
-    let ready = ready_first rows query place c.records.next c.records.invariant.searched.at row held (rw held at c.screen-screen.ensures) next all (rw (own, c.rest_in-rest.ensures) at left) in
+    let ready = ready_first rows query place c.records.next c.records.invariant.searched.at row held (rw held at c.screen-screen.ensures) next all (rw (own, c.rest_in-rest.ensures) at left)
+    (c.in_ok-restart.ensures.know row.mol.now) in
     let t = rw (c.restart.ensures.belongs.query_is ∙ own, c.rest_in-rest.ensures, c.if-branch.true) at c.in_ok-next.ensures.next in
-    let found = finds_in rows query place row all c.next.new.self c.records.steps c.next.new.steps ready true t in
+    let found = finds_in rows query place row all c.next.new.self c.records.steps c.next.new.steps ready c.in_ok-next.ensures.know true t in
     searched_found rows query place (c.args.from ∷ []) c.args.steps.now c.records.next c.records.steps c.records.invariant.searched row.number all.codes.place c.next.new.steps c.next.new.self row
     next.not_below (rw c.in_ok-restart.ensures.shut at found)
 
@@ -48,9 +49,10 @@ returns-in_default-following-clause-found g c =
     let held : IsHeldIn rows row.number row.mol.now = c.in-Some-get.ensures.some in
     let all = c.restart.new.self in
     let left = c.in_ok-restart.ensures.left row.mol.now in
-    let ready = ready_first rows query place c.records.next c.records.invariant.searched.at row held (rw held at c.screen-screen.ensures) next all (rw (own, c.rest_in-rest.ensures) at left) in
+    let ready = ready_first rows query place c.records.next c.records.invariant.searched.at row held (rw held at c.screen-screen.ensures) next all (rw (own, c.rest_in-rest.ensures) at left)
+    (c.in_ok-restart.ensures.know row.mol.now) in
     let t = rw (c.restart.ensures.belongs.query_is ∙ own, c.rest_in-rest.ensures, c.if-branch.false) at c.in_ok-next.ensures.next in
-    let f = finds_in rows query place row all c.next.new.self c.records.steps c.next.new.steps ready false t in
+    let f = finds_in rows query place row all c.next.new.self c.records.steps c.next.new.steps ready c.in_ok-next.ensures.know false t in
     let more = searched_more rows query place (c.args.from ∷ []) c.args.steps.now c.records.next c.records.steps c.records.invariant.searched
     row.number all.codes.place c.next.new.steps next.not_below f in
     searched_all rows query place (c.args.from ∷ []) c.args.steps.now _ c.next.new.steps more (no_record_held rows query _ c.in_default-following.ensures.none)
@@ -66,9 +68,10 @@ records-preserved g c =
     let held : IsHeldIn rows row.number row.mol.now = c.in-Some-get.ensures.some in
     let all = c.restart.new.self in
     let left = c.in_ok-restart.ensures.left row.mol.now in
-    let ready = ready_first rows query place c.records.next c.records.invariant.searched.at row held (rw held at c.screen-screen.ensures) next all (rw (own, c.rest_in-rest.ensures) at left) in
+    let ready = ready_first rows query place c.records.next c.records.invariant.searched.at row held (rw held at c.screen-screen.ensures) next all (rw (own, c.rest_in-rest.ensures) at left)
+    (c.in_ok-restart.ensures.know row.mol.now) in
     let t = rw (c.restart.ensures.belongs.query_is ∙ own, c.rest_in-rest.ensures, c.if-branch.false) at c.in_ok-next.ensures.next in
-    let f = finds_in rows query place row all c.next.new.self c.records.steps c.next.new.steps ready false t in
+    let f = finds_in rows query place row all c.next.new.self c.records.steps c.next.new.steps ready c.in_ok-next.ensures.know false t in
     let more = searched_more rows query place (c.args.from ∷ []) c.args.steps.now c.records.next c.records.steps c.records.invariant.searched
     row.number all.codes.place c.next.new.steps next.not_below f in
     record {

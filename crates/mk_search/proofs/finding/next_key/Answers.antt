@@ -15,7 +15,8 @@ pub returns-then-branch-clause-found : goal.returns-then-branch-clause-found
 returns-then-branch-clause-found g c =
     let ready = rw c.in-In.is at c.requires.ready in
     let t = rw (c.rest_in.ensures, c.if-branch.true) at c.in_ok-next-in-In.ensures.next in
-    rw c.in-In.is (finds_in c.args.shelf.now.rows c.args.all.now.query.now c.args.place.now c.in-In.row c.args.all.now c.next.new.self c.args.steps.now c.next.new.steps ready true t)
+    rw c.in-In.is (finds_in c.args.shelf.now.rows c.args.all.now.query.now c.args.place.now c.in-In.row c.args.all.now c.next.new.self c.args.steps.now c.next.new.steps ready
+    c.in_ok-next-in-In.ensures.know true t)
 
 pub returns-in_default-clause-found : goal.returns-in_default-clause-found
 returns-in_default-clause-found g c =
@@ -25,7 +26,7 @@ returns-in_default-clause-found g c =
     let row = c.in-In.row in
     let ready = rw c.in-In.is at c.requires.ready in
     let t = rw (c.rest_in.ensures, c.if-branch.false) at c.in_ok-next-in-In.ensures.next in
-    let f = finds_in rows query place row c.args.all.now c.next.new.self c.args.steps.now c.next.new.steps ready false t in
+    let f = finds_in rows query place row c.args.all.now c.next.new.self c.args.steps.now c.next.new.steps ready c.in_ok-next-in-In.ensures.know false t in
     rw c.in-In.is
     (none_last rows query place row.number (row.number ∷ c.args.all.now.codes.place) c.args.steps.now c.next.new.steps f c.in_default.ensures.none)
 
@@ -37,7 +38,7 @@ in_records-requires-in-In-clause-at g c =
     let row = c.in-In.row in
     let ready = rw c.in-In.is at c.requires.ready in
     let t = rw (c.rest_in.ensures, c.if-branch.false) at c.in_ok-next-in-In.ensures.next in
-    let f = finds_in rows query place row c.args.all.now c.next.new.self c.args.steps.now c.next.new.steps ready false t in
+    let f = finds_in rows query place row c.args.all.now c.next.new.self c.args.steps.now c.next.new.steps ready c.in_ok-next-in-In.ensures.know false t in
     rw (c.next.ensures.belongs.query_is, c.in-Some.ensures.some) (at_next rows query place row.number f.at)
 
 pub returns-in-Some-clause-found : goal.returns-in-Some-clause-found
@@ -50,7 +51,7 @@ returns-in-Some-clause-found g c =
     let from = n ∷ c.args.all.now.codes.place in
     let ready = rw c.in-In.is at c.requires.ready in
     let t = rw (c.rest_in.ensures, c.if-branch.false) at c.in_ok-next-in-In.ensures.next in
-    let f = finds_in rows query place row c.args.all.now c.next.new.self c.args.steps.now c.next.new.steps ready false t in
+    let f = finds_in rows query place row c.args.all.now c.next.new.self c.args.steps.now c.next.new.steps ready c.in_ok-next-in-In.ensures.know false t in
     let k = rw (c.next.ensures.belongs.query_is, c.in-Some.ensures.some) at c.in_records-in-In.ensures.found in
     rw c.in-In.is
     (ok_same c.in_records-in-In.result

@@ -16,5 +16,6 @@ returns-clause-belongs c =
     record {
       query_is = refl;
       codes_of = c.requires.belongs.codes_of;
+      fronts_of = c.requires.belongs.fronts_of;
       kept_are = c.keep.ensures self.query.now c.requires.belongs.kept_are kept;
     }

@@ -1,5 +1,5 @@
 use Rattle.std.proofs.Common.{◌∙◌, arith}
-use Rattle.mk_search.proofs.NextLemmas.{opened_fewer, opened_more, opened_none, taken_first, taken_later}
+use Rattle.mk_search.proofs.NextLemmas.{opened_fewer, opened_more, opened_none, taken_first, taken_later, taken_none}
 use Rattle.mk_search.proofs.occurrences.Occurrences.next.Goals as goal
 
 pub returns-then-branch-clause-next : goal.returns-then-branch-clause-next
@@ -17,6 +17,7 @@ loop-self-init g c =
     let t = rw c.if-branch.false at here in
     record {
       opened = rw c.in_ok-next_here.ensures.codes (opened_none old.query.now c.args.row.mol.now c.args.place.now old.codes c.next_here.new.self.open c.args.steps.now t.0 t.1);
+      know = rw c.in_ok-next_here.ensures.fronts c.requires.know;
       belongs = c.next_here.ensures.belongs;
       steps = omega arith;
     }
@@ -35,14 +36,22 @@ returns-then-branch-3-clause-next g c =
     c.next_here-in-loop-self.new.self.open
     c.args.steps.now c.loop-self.steps c.open_next.new.steps c.next_here-in-loop-self.new.self.numbers.items inv.opened o (here mol place o.left))
 
+pub returns-clause-next : goal.returns-clause-next
+returns-clause-next g c =
+    let old = c.args.self.now in
+    let inv = c.loop-self.invariant in
+    let o = rw (inv.belongs.query_is, c.if-branch-2.false) at c.in_ok-open_next.ensures.opened in
+    taken_none old.query.now c.args.row.mol.now c.args.place.now old.codes c.loop-self.self.codes c.open_next.new.self.codes old.open c.loop-self.self.open c.open_next.new.self.open
+    c.args.steps.now c.loop-self.steps c.open_next.new.steps inv.opened o
+
 pub loop-self-smaller : goal.loop-self-smaller
 loop-self-smaller g c =
     let old = c.args.self.now in
     let inv = c.loop-self.invariant in
     let o = rw (inv.belongs.query_is, c.if-branch-2.true) at c.in_ok-open_next.ensures.opened in
     rw c.in_ok-next_here-2.ensures.codes
-    (opened_fewer old.query.now c.args.row.mol.now c.args.place.now c.templates-fits.ensures.kept c.loop-self.self.codes c.open_next.new.self.codes c.loop-self.self.open
-    c.open_next.new.self.open c.loop-self.steps c.open_next.new.steps inv.opened.left o)
+    (opened_fewer old.query.now c.args.row.mol.now c.args.place.now c.templates-fits.ensures.kept c.loop-self.self.codes c.open_next.new.self.codes
+    c.open_next.new.self.open c.loop-self.steps c.open_next.new.steps o)
 
 pub loop-self-preserved : goal.loop-self-preserved
 loop-self-preserved g c =
@@ -59,6 +68,7 @@ loop-self-preserved g c =
           (opened_more old.query.now mol place old.codes.place c.loop-self.self.codes c.open_next.new.self.codes c.loop-self.self.open c.open_next.new.self.open
           c.next_here-in-loop-self.new.self.open
           c.args.steps.now c.loop-self.steps c.open_next.new.steps inv.opened o t.0 t.1);
+      know = rw c.in_ok-next_here-2.ensures.fronts c.in_ok-open_next.ensures.know;
       belongs = rw q at c.in_ok-next_here-2.ensures.belongs;
       steps = omega (arith, inv.steps, c.open_next.ensures.steps);
     }

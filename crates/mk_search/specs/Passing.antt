@@ -1,0 +1,23 @@
+-- For the code: fronts that a search asks, and the place behind one that is passed over.
+--     FrontsOf query fronts      the fronts, where some are asked, are the query's
+--     KnowOf mol fronts          what they know is so in the molecule
+--     IsRaised front raised      the front with its last number raised by one
+use Rattle.std.specs.Prelude.{◌≡◌, ◌+◌, ℕ, List, [], ◌∷◌, ◌++◌, Option, IfSome}
+use Rattle.mk_model.specs.Molecules.{Molecule}
+use Rattle.mk_model.specs.Queries.{QueryView}
+use Rattle.mk_fronts.specs.Fronts.{FrontsView, IsKnownOf}
+
+-- the fronts, where some are asked, are those of the query
+abbrev pub FrontsOf : QueryView → Option FrontsView → Type 0
+FrontsOf query fronts = IfSome fronts (λ its. its.query ≡ query)
+
+-- what they know is so in the molecule
+abbrev pub KnowOf : Molecule → Option FrontsView → Type 0
+KnowOf mol fronts = IfSome fronts (IsKnownOf mol)
+
+-- the same numbers, but the last, which is one greater
+pub record IsRaised (front raised : List ℕ) : Type 0 where
+  pub numbers : List ℕ
+  pub last : ℕ
+  pub front_is : front ≡ numbers ++ last ∷ []
+  pub raised_is : raised ≡ numbers ++ (last + 1) ∷ []

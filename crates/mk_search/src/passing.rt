@@ -1,0 +1,89 @@
+// Fronts that are passed over: numbers with which codes begin, and that a molecule can't hold.
+ghost use Rattle.std.specs.Prelude.{◌≡◌, ◌<◌, [], false, All, IfOk, IfSome, IsTrue};
+ghost use Rattle.mk_model.specs.Codes.{IsCode};
+ghost use Rattle.mk_model.specs.Molecules.{Molecule};
+ghost use Rattle.mk_model.specs.Queries.{QueryView};
+ghost use Rattle.mk_model.specs.Screens.{IsScreenOf};
+ghost use Rattle.mk_open.specs.Fronts.{IsNeedOfAll};
+ghost use Rattle.mk_fronts.specs.Fronts.{BeginsWithNone};
+ghost use Rattle.mk_search.specs.Passing.{FrontsOf, IsRaised, KnowOf};
+
+use crate::stages::Row;
+use mk_fronts::Fronts;
+use mk_model::{Memory, Query, Screen};
+use std::alloc::Global;
+
+/// The fronts of a query that has several codes. A single code has none to pass over.
+pub fn fronts_of(alloc: Global, query: &Query, several: bool) -> Result<Option<Fronts<'_>>, Memory>
+    ensures { IfOk result (FrontsOf query.now) }
+{
+    if !several {
+        return Ok(None);
+    }
+    Ok(Some(Fronts::new(alloc, query)?))
+}
+
+/// What all codes need: what their expansions have in common, where that was found, and else what
+/// the fronts need.
+pub fn need_by(query: &Query, common: Option<Screen>, fronts: &Option<Fronts<'_>>) -> Option<Screen>
+    requires common { IfSome common (IsNeedOfAll query.now) }
+    requires of { FrontsOf query.now fronts.now }
+    ensures { IfSome result (IsNeedOfAll query.now) }
+{
+    if let Some(need) = common {
+        return Some(need);
+    }
+    let Some(its) = fronts else {
+        return None;
+    };
+    Some(*its.need())
+}
+
+/// Goes to another molecule: what the fronts know of one is forgotten.
+pub fn forget(fronts: &mut Option<Fronts<'_>>)
+    ensures know { (mol : Molecule) → KnowOf mol fronts.new }
+    ensures of { (query : QueryView) → FrontsOf query fronts.old → FrontsOf query fronts.new }
+{
+    let Some(its) = fronts else {
+        return;
+    };
+    its.restart();
+}
+
+/// With how many numbers the code begins a front that the molecule can't hold, where one is found.
+pub fn passed<'a>(
+    alloc: Global,
+    query: &Query,
+    code: &[u32],
+    row: Row<'a>,
+    fronts: &mut Option<Fronts<'a>>,
+) -> Result<Option<usize>, Memory>
+    requires code { IsCode query.now 0 code.now }
+    requires screen { IsScreenOf row.mol.now row.screen.now }
+    requires of { FrontsOf query.now fronts.old }
+    requires know { KnowOf row.mol.now fronts.old }
+    ensures passed { IfOk result (λ found. IfSome found (BeginsWithNone query.now row.entry.mol.now code.now)) }
+    ensures know { KnowOf row.entry.mol.now fronts.new }
+    ensures of { FrontsOf query.now fronts.new }
+{
+    let Some(its) = fronts else {
+        return Ok(None);
+    };
+    its.passed(alloc, code, row.mol, row.screen)
+}
+
+/// Puts the place behind all that begins with a front: its last number is raised by one. False for
+/// the empty front, behind which there is no place.
+pub fn put_raised(numbers: &mut Vec<u32>, front: &[u32]) -> Result<bool, Memory>
+    requires fits { All (λ n. n < 4294967295) front.now }
+    ensures raised { IfOk result (λ put. IsTrue put → IsRaised front.now numbers.new.items) }
+    ensures none { IfOk result (λ put. put ≡ false → front.now ≡ []) }
+{
+    let Some((last, others)) = front.split_last() else {
+        return Ok(false);
+    };
+    numbers.clear();
+    numbers.extend_from_slice(others)?;
+    numbers.push(*last + 1)?;
+    Ok(true)
+}
