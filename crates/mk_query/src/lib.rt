@@ -29,17 +29,11 @@ mod blocks;
 mod bond_checks;
 mod checking;
 mod compile_fault;
-#[cfg(test)]
-mod compile_tests;
 mod compiling;
 mod drawn;
 mod drawn_bonds;
 mod element_kinds;
-#[cfg(test)]
-mod large_tests;
 mod laws;
-#[cfg(test)]
-mod link_tests;
 mod linked_atoms;
 mod links;
 mod list_places;
@@ -54,19 +48,11 @@ mod query_groups;
 mod recursion;
 mod root_sizes;
 mod site_orders;
-#[cfg(test)]
-mod site_tests;
 mod sites;
-#[cfg(test)]
-mod size_tests;
 mod table_walk;
 mod template_points;
 mod template_slots;
-#[cfg(test)]
-mod template_tests;
 mod templates;
-#[cfg(test)]
-mod tests;
 mod values;
 mod whole_checks;
 

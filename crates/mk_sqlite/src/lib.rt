@@ -11,16 +11,12 @@
 #![tactic(auto)]
 
 mod changes;
-#[cfg(test)]
-mod disk_tests;
 mod fails;
 mod keeper;
 mod places;
 mod restart;
 mod statements;
 mod stored;
-#[cfg(test)]
-mod tests;
 
 pub use keeper::SqlKeeper;
 pub use restart::again;

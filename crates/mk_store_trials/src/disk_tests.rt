@@ -1,6 +1,6 @@
 // A keeper over disks in memory, which are opened again, and stopped at each of their calls.
-use crate::tests::{loaded, put_first, put_second};
-use crate::{SqlKeeper, again};
+use crate::keeper_tests::{loaded, put_first, put_second};
+use mk_sqlite::{SqlKeeper, again};
 use sqlite::{Connection, FileStore, Files, Options};
 use sqlite_disk::{Crash, Fuse, Memory};
 use std::alloc::{AllocError, Global};

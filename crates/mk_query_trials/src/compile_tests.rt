@@ -1,15 +1,13 @@
 // Queries that fail a check, and queries that pass. The shorthand is that of docs/TESTING.md,
 // "Tables of tests".
-ghost use Rattle.std.specs.Prelude.{◌+◌, ◌<◌, ◌^◌, All, length};
+ghost use Rattle.std.specs.Prelude.{◌+◌, ◌<◌, ◌≤◌, ◌^◌, All, length};
 ghost use Rattle.mk_rgfile.specs.QueryFacts.{member_count};
 ghost use Rattle.mk_query.specs.InRange.{HasFewProperties, HaveFewProperties, IsGroupInRange, IsQueryInRange};
 
-use crate::checking::{Fault, fault_by};
-use crate::sites::served_numbers;
-use crate::{CompileFault, compile};
 use mk_fixtures::rgfile_of_sketches;
 use mk_model::Query;
-use mk_rgfile::{RawGroup, RawGroups, RawQuery, RawTables, read_rgfile};
+use mk_query::{CompileFault, compile};
+use mk_rgfile::{RawGroup, RawQuery, RawTables, read_rgfile};
 use std::alloc::Global;
 use std::test::Fail;
 
@@ -282,21 +280,6 @@ fn names_the_first_fault_of_a_query(rt: HostRuntime) -> Result<(), Fail> {
     Ok(())
 }
 
-// The first ten rows, of which each fails a check of the root alone.
-#[test]
-fn names_the_first_fault_of_a_root(rt: HostRuntime) -> Result<(), Fail> {
-    let alloc = rt.alloc();
-    for (name, root, groups, (check, _, item)) in ROWS.iter().take(10) {
-        let text = rgfile_of_sketches(alloc, root, groups)?;
-        let want = Some(Fault {
-            check: *check,
-            item: *item,
-        });
-        assert!(rt; fault_of_root(alloc, &text)? == want, "{name}");
-    }
-    Ok(())
-}
-
 // What fails where group 1 has no member, which no file can say. A name, a root, and the check, the
 // table and the item that are named; check 0 where none fails.
 static NO_MEMBER: [(&str, &str, (u8, u32, u32)); 2] = [
@@ -316,25 +299,30 @@ fn names_the_first_fault_without_a_member(rt: HostRuntime) -> Result<(), Fail> {
             number: 1,
             members: RawTables::new(alloc),
         };
-        assert!(rt; fault_with(alloc, root, group)? == *fault, "{name}");
+        let text = rgfile_of_sketches(alloc, root, &[])?;
+        assert!(rt; fault_with(alloc, &text, group)? == *fault, "{name}");
     }
     Ok(())
 }
 
-/// What fails where a root has this one group, which may have no member, or more than a file holds.
-pub fn fault_with(alloc: Global, root: &str, group: RawGroup) -> Result<(u8, u32, u32), Fail>
+/// What fails where a query file has this group, too, which may have no member, or more than a file
+/// holds.
+pub fn fault_with(alloc: Global, text: &[u8], group: RawGroup) -> Result<(u8, u32, u32), Fail>
     requires in_range { IsGroupInRange group }
-    requires few_members { length group.members + 1 < 2 ^ 32 }
+    requires few_members { length group.members ≤ 1000000 }
     requires few_properties { All HasFewProperties group.members }
 {
-    let text = rgfile_of_sketches(alloc, root, &[])?;
-    match read_rgfile(alloc, &text) {
-        Ok(raw) if raw.root.props.as_slice().len() < 100 => {
-            let groups = RawGroups::of(vec![in alloc; group]?);
+    if text.len() > 1_000_000 {
+        return Err(Fail::from("a long text"));
+    }
+    match read_rgfile(alloc, text) {
+        Ok(raw) => {
             let root = raw.root;
+            let mut groups = raw.groups;
+            groups.push(group)?;
             fault_of_raw(alloc, &RawQuery { root, groups })
         }
-        _ => Err(Fail::from("no query file")),
+        Err(_) => Err(Fail::from("no query file")),
     }
 }
 
@@ -357,16 +345,6 @@ fn fault_in(found: Result<Query, CompileFault>) -> Result<(u8, u32, u32), Fail> 
         Ok(_) => Ok((0, 0, 0)),
         Err(CompileFault::Check { check, table, item }) => Ok((check, table, item)),
         Err(CompileFault::Memory) => Err(Fail::from("no memory")),
-    }
-}
-
-fn fault_of_root(alloc: Global, text: &[u8]) -> Result<Option<Fault>, Fail> {
-    match read_rgfile(alloc, text) {
-        Ok(raw) if raw.root.props.as_slice().len() < 100 => {
-            let served = served_numbers(alloc, raw.groups.as_slice())?;
-            Ok(fault_by(alloc, &served, true, &raw.root)?)
-        }
-        _ => Err(Fail::from("no query file")),
     }
 }
 

@@ -1,6 +1,6 @@
 use Rattle.std.proofs.Common.{◌≡◌, All, length}
 use Rattle.mk_query.specs.InRange.{HasFewProperties, IsTableInRange}
-use Rattle.mk_query.proofs.large_tests.group_of_one.Given as goal
+use Rattle.mk_query_trials.proofs.large_tests.group_of_one.Given as goal
 
 abbrev pub invariant-loop : goal.invariant-loop
 invariant-loop l =

@@ -2,8 +2,8 @@ use Rattle.std.proofs.Common.{◌≤◌, length, arith}
 use Rattle.mk_text.specs.Lines.{lines_of}
 use Rattle.mk_text.proofs.ForCallers.{lines_few}
 use Rattle.mk_query.proofs.ForCallers.{few_by_lines, in_range}
-use Rattle.mk_query.proofs.compile_tests.query_of.Goals as goal
-use Rattle.mk_query.proofs.compile_tests.query_of.Goals.{In-Ok}
+use Rattle.mk_query_trials.proofs.compile_tests.query_of.Goals as goal
+use Rattle.mk_query_trials.proofs.compile_tests.query_of.Goals.{In-Ok}
 
 few : (c : In-Ok) → length (lines_of c.args.text.now) ≤ 4294967296
 few c = omega (arith, lines_few c.args.text.now, c.if-text-gt1000000.false)

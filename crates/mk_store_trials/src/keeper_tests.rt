@@ -3,8 +3,8 @@ ghost use Rattle.std.specs.Prelude.{IfOk};
 ghost use Rattle.std.specs.Str.{IsAscii};
 ghost use Rattle.mk_outside.specs.Tables.{CanKeep};
 
-use crate::SqlKeeper;
 use mk_outside::{Bytes, Change, KeepFail, Keeper, Place, SureKeeper, Tables};
+use mk_sqlite::SqlKeeper;
 use sqlite::{Connection, MemStore, Unknown};
 use std::alloc::{AllocError, Global};
 use std::fs;

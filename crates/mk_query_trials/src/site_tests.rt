@@ -1,9 +1,8 @@
-// Roots that fail a check of lists, labels, sites or orders, by the check and the item that are
-// named.
-use crate::tests::fault_of;
-use mk_ctab::read_table;
+// Roots that fail a check of lists, labels, sites or orders, by the check, the table and the item
+// that are named.
+use crate::compile_tests::fault_with;
+use crate::files::{BOTH_POINTS, ONE_POINT, rgfile_of_tables};
 use mk_rgfile::{RawGroup, RawTables};
-use mk_text::lines;
 use std::alloc::Global;
 use std::test::Fail;
 
@@ -18,21 +17,23 @@ macro_rules! drawn {
     };
 }
 
-// A name, the lines of a table, and the check and the item that are named; check 0 where it passes
-// all.
-static ROWS: [(&str, &str, u8, u32); 24] = [
+// A name, the lines of a root, and the check, the table and the item that are named; zeros where it
+// passes all.
+static ROWS: [(&str, &str, (u8, u32, u32)); 24] = [
     (
         "a list for an L",
         drawn!("  1  0  1", ["L"], "  1 F    2   7   8\n"),
-        0,
-        0,
+        (0, 0, 0),
     ),
-    ("an L without a list", drawn!("  1  0", ["L"], ""), 4, 1),
+    (
+        "an L without a list",
+        drawn!("  1  0", ["L"], ""),
+        (4, 0, 1),
+    ),
     (
         "a list without an L",
         drawn!("  2  0", ["C", "N"], "M  ALS   2  1 F C   \n"),
-        4,
-        2,
+        (4, 0, 2),
     ),
     (
         "a symbol unknown in a list that another replaces",
@@ -41,38 +42,32 @@ static ROWS: [(&str, &str, u8, u32); 24] = [
             ["L"],
             "M  ALS   1  1 F Xx  \nM  ALS   1  1 F C   \n"
         ),
-        4,
-        1,
+        (4, 0, 1),
     ),
     (
         "atomic number 119",
         drawn!("  1  0  1", ["L"], "  1 F    1 119\n"),
-        4,
-        1,
+        (4, 0, 1),
     ),
     (
         "an atom-list line of atom 0",
         drawn!("  1  0  1", ["L"], "  0 F    1   7\n"),
-        4,
-        0,
+        (4, 0, 0),
     ),
     (
         "two lists for an L",
         drawn!("  1  0  1", ["L"], "  1 F    1   7\nM  ALS   1  1 F C   \n"),
-        0,
-        0,
+        (0, 0, 0),
     ),
     (
         "a site without a label",
         drawn!("  2  1", ["R#", "C"], "  1  2  1\n"),
-        5,
-        1,
+        (5, 0, 1),
     ),
     (
         "a label without a site",
         drawn!("  2  1", ["C", "C"], "  1  2  1\nM  RGP  1   2   1\n"),
-        5,
-        2,
+        (5, 0, 2),
     ),
     (
         "a label twice",
@@ -81,32 +76,27 @@ static ROWS: [(&str, &str, u8, u32); 24] = [
             ["R#", "C"],
             "  1  2  1\nM  RGP  1   1   1\nM  RGP  1   1   1\n"
         ),
-        5,
-        1,
+        (5, 0, 1),
     ),
     (
         "a group without a member",
         drawn!("  2  1", ["R#", "C"], "  1  2  1\nM  RGP  1   1   2\n"),
-        5,
-        1,
+        (5, 0, 1),
     ),
     (
         "no such group",
         drawn!("  2  1", ["R#", "C"], "  1  2  1\nM  RGP  1   1   3\n"),
-        5,
-        1,
+        (5, 0, 1),
     ),
     (
         "a site",
         drawn!("  2  1", ["R#", "C"], "  1  2  1\nM  RGP  1   1   1\n"),
-        0,
-        0,
+        (0, 0, 0),
     ),
     (
         "a site by itself",
         drawn!("  1  0", ["R#"], "M  RGP  1   1   1\n"),
-        6,
-        1,
+        (6, 0, 1),
     ),
     (
         "three neighbours",
@@ -115,8 +105,7 @@ static ROWS: [(&str, &str, u8, u32); 24] = [
             ["C", "R#", "C", "C"],
             "  1  2  1\n  2  3  1\n  4  2  1\nM  RGP  1   2   1\n"
         ),
-        6,
-        2,
+        (6, 0, 2),
     ),
     (
         "a site beside a site",
@@ -125,18 +114,16 @@ static ROWS: [(&str, &str, u8, u32); 24] = [
             ["C", "R#", "R#"],
             "  1  2  1\n  2  3  1\nM  RGP  2   2   1   3   1\n"
         ),
-        6,
-        2,
+        (6, 0, 2),
     ),
     (
         "an order",
         drawn!(
             "  3  2",
             ["C", "R#", "N"],
-            "  1  2  1\n  2  3  1\nM  RGP  1   2   1\nM  AAL   2  2   3   1   1   2\n"
+            "  1  2  1\n  2  3  1\nM  RGP  1   2   4\nM  AAL   2  2   3   1   1   2\n"
         ),
-        0,
-        0,
+        (0, 0, 0),
     ),
     (
         "two orders of one site",
@@ -145,8 +132,7 @@ static ROWS: [(&str, &str, u8, u32); 24] = [
             ["R#", "C"],
             "  1  2  1\nM  RGP  1   1   1\nM  AAL   1  1   2   1\nM  AAL   1  1   2   1\n"
         ),
-        7,
-        2,
+        (7, 0, 2),
     ),
     (
         "order 2 alone",
@@ -155,8 +141,7 @@ static ROWS: [(&str, &str, u8, u32); 24] = [
             ["R#", "C"],
             "  1  2  1\nM  RGP  1   1   1\nM  AAL   1  1   2   2\n"
         ),
-        7,
-        2,
+        (7, 0, 2),
     ),
     (
         "an order of no site",
@@ -165,8 +150,7 @@ static ROWS: [(&str, &str, u8, u32); 24] = [
             ["R#", "C"],
             "  1  2  1\nM  RGP  1   1   1\nM  AAL   2  1   1   1\n"
         ),
-        7,
-        2,
+        (7, 0, 2),
     ),
     (
         "a place twice",
@@ -175,8 +159,7 @@ static ROWS: [(&str, &str, u8, u32); 24] = [
             ["C", "R#", "N"],
             "  1  2  1\n  2  3  1\nM  RGP  1   2   1\nM  AAL   2  2   3   1   1   1\n"
         ),
-        7,
-        2,
+        (7, 0, 2),
     ),
     (
         "an order of one neighbour of two",
@@ -185,8 +168,7 @@ static ROWS: [(&str, &str, u8, u32); 24] = [
             ["C", "R#", "N"],
             "  1  2  1\n  2  3  1\nM  RGP  1   2   1\nM  AAL   2  1   1   1\n"
         ),
-        7,
-        2,
+        (7, 0, 2),
     ),
     (
         "a neighbour twice",
@@ -195,8 +177,7 @@ static ROWS: [(&str, &str, u8, u32); 24] = [
             ["C", "R#", "N"],
             "  1  2  1\n  2  3  1\nM  RGP  1   2   1\nM  AAL   2  2   1   1   1   2\n"
         ),
-        7,
-        2,
+        (7, 0, 2),
     ),
     (
         "a site, a link and a list in a chain",
@@ -205,37 +186,25 @@ static ROWS: [(&str, &str, u8, u32); 24] = [
             ["R#", "C", "C", "C", "L"],
             "  1  2  1\n  2  3  1\n  3  4  1\n  4  5  1\nM  RGP  1   1   1\nM  AAL   1  1   2   1\nM  LIN  1   3   3   2   4\nM  ALS   5  2 F N   O   \nM  LOG  1   1   0   0   1,2\n"
         ),
-        0,
-        0,
+        (0, 0, 0),
     ),
 ];
 
 #[test]
 fn names_the_first_fault_of_sites(rt: HostRuntime) -> Result<(), Fail> {
-    let groups = groups_of_one_member(rt.alloc())?;
-    for (name, text, check, item) in ROWS {
-        let found = fault_of(rt.alloc(), &groups, text)?;
-        assert_eq!(rt; (found.check, found.item), (check, item), "{name}");
+    for (name, root, fault) in ROWS.iter() {
+        assert!(rt; fault_of_root(rt.alloc(), root)? == *fault, "{name}");
     }
     Ok(())
 }
 
-// Group 1 with a member, and group 2 with none.
-fn groups_of_one_member(alloc: Global) -> Result<Vec<RawGroup>, Fail> {
-    let text = drawn!("  1  0", ["C"], "M  APO  1   1   1\n");
-    let spans = lines(alloc, text.as_bytes())?;
-    let mut members = Vec::new(alloc);
-    if let Ok((table, _)) = read_table(alloc, text.as_bytes(), &spans, 0) {
-        members.push(table)?;
-    }
-    let mut groups = Vec::new(alloc);
-    groups.push(RawGroup {
-        number: 1,
-        members: RawTables::of(members),
-    })?;
-    groups.push(RawGroup {
+// The fault of a root over three groups: the member of group 1 bears point 1, that of group 4 both
+// points, and group 2 has none.
+fn fault_of_root(alloc: Global, root: &str) -> Result<(u8, u32, u32), Fail> {
+    let text = rgfile_of_tables(alloc, root, &[(1, ONE_POINT), (4, BOTH_POINTS)])?;
+    let group = RawGroup {
         number: 2,
-        members: RawTables::of(Vec::new(alloc)),
-    })?;
-    Ok(groups)
+        members: RawTables::new(alloc),
+    };
+    fault_with(alloc, &text, group)
 }

@@ -185,6 +185,32 @@ fn query_of_groups(alloc: Global, root: &str, numbers: &[u32]) -> Result<Query, 
     }
 }
 
+// The last entry that names an atom holds, and an atom that none names has 0.
+#[test]
+fn gives_the_last_values(rt: HostRuntime) -> Result<(), Fail> {
+    let root =
+        "C C C | 1-2 2-3 {M  SUB  2   1   3   3   2}{M  RBC  2   2   2   3   4}{M  SUB  1   1  -1}{M  RBC  1   3   3}";
+    let query = query_of_groups(rt.alloc(), root, &[])?;
+    assert!(rt; has_values(&query, &[(-1, 0), (0, 2), (2, 3)]));
+    Ok(())
+}
+
+// The atoms of the root ask for so many neighbours, and for so many ring bonds.
+fn has_values(query: &Query, values: &[(i8, i8)]) -> bool {
+    let Some(root) = query.templates().first() else {
+        return false;
+    };
+    if root.atoms().len() != values.len() {
+        return false;
+    }
+    for (atom, (substitution, ring_bonds)) in root.atoms().iter().zip(values) {
+        if atom.substitution != *substitution || atom.ring_bonds != *ring_bonds {
+            return false;
+        }
+    }
+    true
+}
+
 // Group 1 has a logic line, and group 2 has none.
 #[test]
 fn gives_the_groups(rt: HostRuntime) -> Result<(), Fail> {

@@ -4,6 +4,7 @@ ghost use Rattle.mk_query.specs.InRange.{HasFewProperties, IsTableInRange};
 
 use crate::compile_tests::{fault_of, fault_with};
 use mk_ctab::{Properties, RawAtoms, RawBonds, RawLists, RawTable};
+use mk_fixtures::rgfile_of_sketches;
 use mk_rgfile::{RawGroup, RawTables};
 use mk_text::put_number;
 use std::alloc::Global;
@@ -42,7 +43,8 @@ fn fault_of_many(alloc: Global, root: &str, count: u32) -> Result<(u8, u32, u32)
         return Err(Fail::from("no members"));
     }
     let group = group_of_one(alloc, count)?;
-    fault_with(alloc, root, group)
+    let text = rgfile_of_sketches(alloc, root, &[])?;
+    fault_with(alloc, &text, group)
 }
 
 // Group 1 of so many members without atoms.

@@ -1,9 +1,6 @@
-// Tables that fail a check, by the check and the item that are named.
-use crate::checking::{Fault, fault_by};
-use crate::sites::served_numbers;
-use mk_ctab::read_table;
-use mk_rgfile::RawGroup;
-use mk_text::lines;
+// Roots that fail a check of their lines, by the check, the table and the item that are named.
+use crate::compile_tests::fault_of;
+use crate::files::rgfile_of_tables;
 use std::alloc::Global;
 use std::test::Fail;
 
@@ -18,151 +15,133 @@ macro_rules! bonded {
     };
 }
 
-// A name, the lines of a table, and the check and the item that are named; check 0 where it passes
-// all.
-const ROWS: [(&str, &str, u8, u32); 28] = [
+// A name, the lines of a root, and the check, the table and the item that are named; zeros where
+// it passes all.
+static ROWS: [(&str, &str, (u8, u32, u32)); 28] = [
     (
         "an unknown symbol",
         "  2  0\n                               C\n                               Xx\nM  END\n",
-        1,
-        2,
+        (1, 0, 2),
     ),
     (
         "the lesser of two",
         "  2  0\n                               Xx\n                               Yy\nM  END\n",
-        1,
-        1,
+        (1, 0, 1),
     ),
     (
         "an empty symbol",
         "  1  0\n                               \nM  END\n",
-        1,
-        1,
+        (1, 0, 1),
     ),
     (
         "the words of queries",
         "  5  0\n                               A\n                               Q\n                               *\n                               D\n                               T\nM  END\n",
-        0,
-        0,
+        (0, 0, 0),
     ),
     (
         "a small letter",
         "  1  0\n                               a\nM  END\n",
-        1,
-        1,
+        (1, 0, 1),
     ),
     (
         "hydrogen column 5",
         "  1  0\n                               C   0  0  0  5\nM  END\n",
-        0,
-        0,
+        (0, 0, 0),
     ),
     (
         "hydrogen column 6",
         "  1  0\n                               C   0  0  0  6\nM  END\n",
-        1,
-        1,
+        (1, 0, 1),
     ),
     (
         "charge column 8",
         "  1  0\n                               C   0  8\nM  END\n",
-        1,
-        1,
+        (1, 0, 1),
     ),
     (
         "a symbol before a bond",
         "  1  1\n                               Xx\n  1  1  1\nM  END\n",
-        1,
-        1,
+        (1, 0, 1),
     ),
     (
         "an end that is no atom",
         "  2  1\n                               C\n                               C\n  1  3  1\nM  END\n",
-        2,
-        1,
+        (2, 0, 1),
     ),
     (
         "the pair the other way round",
         "  2  2\n                               C\n                               C\n  1  2  1\n  2  1  2\nM  END\n",
-        2,
-        2,
+        (2, 0, 2),
     ),
     (
         "type 8",
         "  2  1\n                               C\n                               C\n  1  2  8\nM  END\n",
-        0,
-        0,
+        (0, 0, 0),
     ),
     (
         "type 9",
         "  2  1\n                               C\n                               C\n  1  2  9\nM  END\n",
-        2,
-        1,
+        (2, 0, 1),
     ),
     (
         "topology 3",
         "  2  1\n                               C\n                               C\n  1  2  1  0     3\nM  END\n",
-        2,
-        1,
+        (2, 0, 1),
     ),
     (
         "a type before an end",
         "  2  2\n                               C\n                               C\n  1  2  9\n  1  1  1\nM  END\n",
-        2,
-        1,
+        (2, 0, 1),
     ),
     (
         "the least and the greatest values",
         bonded!(
             "M  CHG  2   1 -15   2  15\nM  RAD  2   1   0   2   3\nM  RBC  2   1  -2   2   4\nM  SUB  2   1  -2   2   6\nM  UNS  2   1   0   2   1\n"
         ),
-        0,
-        0,
+        (0, 0, 0),
     ),
-    ("a charge of -16", bonded!("M  CHG  1   1 -16\n"), 3, 1),
+    ("a charge of -16", bonded!("M  CHG  1   1 -16\n"), (3, 0, 1)),
     (
         "the second property",
         bonded!("M  CHG  1   1   1\nM  RAD  1   2   4\n"),
-        3,
-        2,
+        (3, 0, 2),
     ),
-    ("ring bonds 1", bonded!("M  RBC  1   1   1\n"), 3, 1),
-    ("substitution 7", bonded!("M  SUB  1   1   7\n"), 3, 1),
-    ("unsaturation 2", bonded!("M  UNS  1   1   2\n"), 3, 1),
-    ("label 33", bonded!("M  RGP  1   1  33\n"), 3, 1),
-    ("point 0", bonded!("M  APO  1   1   0\n"), 3, 1),
+    ("ring bonds 1", bonded!("M  RBC  1   1   1\n"), (3, 0, 1)),
+    ("substitution 7", bonded!("M  SUB  1   1   7\n"), (3, 0, 1)),
+    ("unsaturation 2", bonded!("M  UNS  1   1   2\n"), (3, 0, 1)),
+    ("label 33", bonded!("M  RGP  1   1  33\n"), (3, 0, 1)),
+    ("point 0", bonded!("M  APO  1   1   0\n"), (3, 0, 1)),
     (
         "an isotope of no atom",
         bonded!("M  ISO  1   3  13\n"),
-        3,
-        1,
+        (3, 0, 1),
     ),
-    ("a list of no atom", bonded!("M  ALS   3  1 F C   \n"), 3, 1),
+    (
+        "a list of no atom",
+        bonded!("M  ALS   3  1 F C   \n"),
+        (3, 0, 1),
+    ),
     (
         "an order of no atom",
         bonded!("M  AAL   3  1   1   1\n"),
-        3,
-        1,
+        (3, 0, 1),
     ),
     (
         "a link of no atom, though its neighbours are",
         bonded!("M  LIN  1   0   2   1   2\n"),
-        3,
-        1,
+        (3, 0, 1),
     ),
     (
         "a link between no atoms, which is asked later",
         bonded!("M  LIN  1   1   2   8   9\n"),
-        9,
-        1,
+        (9, 0, 1),
     ),
 ];
 
 #[test]
 fn names_the_first_fault(rt: HostRuntime) -> Result<(), Fail> {
-    for (name, text, check, item) in ROWS {
-        let found = fault_of(rt.alloc(), &[], text)?;
-        assert_eq!(rt; (found.check, found.item), (check, item), "{name}");
+    for (name, root, fault) in ROWS.iter() {
+        assert!(rt; fault_of_root(rt.alloc(), root)? == *fault, "{name}");
     }
     Ok(())
 }
@@ -182,25 +161,12 @@ fn names_the_21st_bond(rt: HostRuntime) -> Result<(), Fail> {
         text.push_str(&format!(in alloc; " {n}  1  1\n")?)?;
     }
     text.push_str("M  END\n")?;
-    let found = fault_of(alloc, &[], &text)?;
-    assert_eq!(rt; (found.check, found.item), (2, 21));
+    assert!(rt; fault_of_root(alloc, &text)? == (2, 0, 21));
     Ok(())
 }
 
-/// The fault of a root that is written so, over these groups; check 0 where there is none.
-pub fn fault_of(alloc: Global, groups: &[RawGroup], text: &str) -> Result<Fault, Fail> {
-    let spans = lines(alloc, text.as_bytes())?;
-    match read_table(alloc, text.as_bytes(), &spans, 0) {
-        Ok((table, _)) if table.props.as_slice().len() < 100 => {
-            let served = served_numbers(alloc, groups)?;
-            match fault_by(alloc, &served, true, &table)? {
-                Some(fault) => Ok(fault),
-                None => Ok(Fault { check: 0, item: 0 }),
-            }
-        }
-        _ => Ok(Fault {
-            check: 99,
-            item: 99,
-        }),
-    }
+// The fault of a root without groups; zeros where there is none.
+fn fault_of_root(alloc: Global, root: &str) -> Result<(u8, u32, u32), Fail> {
+    let text = rgfile_of_tables(alloc, root, &[])?;
+    fault_of(alloc, &text)
 }
