@@ -11,14 +11,21 @@ use mk_model::{Graph, Memory, Mol};
 use mk_tests::bond_fits;
 use std::alloc::Global;
 
-/// What a look ahead needs: the order in which it looks for atoms, what it chose for them, and the
-/// hit that it found last.
+// How many steps a look ahead takes at most, and how many it takes even where it gave up before.
+const MOST_STEPS: u32 = 65_536;
+
+const LEAST_STEPS: u32 = 256;
+
+/// What a look ahead needs: the order in which it looks for atoms, what it chose for them, the hit
+/// that it found last, and how many steps it takes before it gives up. These are halved where it
+/// gives up, and doubled where it doesn't: so where looking ahead is of no use, it costs little.
 #[derive(Debug, Drop)]
 pub struct Outlook {
     order: Order,
     chosen: Vec<u32>,
     levels: Vec<u32>,
     witness: Vec<u32>,
+    steps: u32,
 }
 
 impl Outlook {
@@ -31,6 +38,7 @@ impl Outlook {
             chosen: vec![in alloc; 0u32; atoms]?,
             levels: vec![in alloc; 0u32; mol.atom_count() as usize]?,
             witness: vec![in alloc; 0u32; atoms]?,
+            steps: MOST_STEPS,
         })
     }
 
@@ -41,6 +49,7 @@ impl Outlook {
             chosen: Vec::new(alloc),
             levels: Vec::new(alloc),
             witness: Vec::new(alloc),
+            steps: 0,
         }
     }
 
@@ -60,7 +69,7 @@ impl Outlook {
             return false;
         }
         self.order.arrange(graph, first.len() as u32);
-        if has_none(
+        let Some(none) = has_none(
             graph,
             mol,
             fits,
@@ -70,11 +79,16 @@ impl Outlook {
             &self.order.ranks,
             &mut self.chosen,
             &mut self.levels,
-        ) {
-            return true;
+            self.steps,
+        ) else {
+            self.steps = (self.steps / 2).max(LEAST_STEPS);
+            return false;
+        };
+        self.steps = self.steps.saturating_mul(2).min(MOST_STEPS);
+        if !none {
+            self.keep(first);
         }
-        self.keep(first);
-        false
+        none
     }
 
     // Tells whether the witness has the last of the first atoms. It has the others, as long as it
@@ -99,8 +113,9 @@ impl Outlook {
     }
 }
 
-// Tells that no hit begins with the first atoms. It puts one atom of the order after another, and
-// takes the last one back where the next can't be put.
+// Tells whether no hit begins with the first atoms, or nothing where it takes more than so many steps.
+// It puts one atom of the order after another, and takes the last one back where the next can't be
+// put.
 fn has_none(
     graph: &Graph,
     mol: &Mol,
@@ -111,23 +126,29 @@ fn has_none(
     ranks: &[u32],
     chosen: &mut Vec<u32>,
     levels: &mut Vec<u32>,
-) -> bool
+    steps: u32,
+) -> Option<bool>
     requires { IsTable graph.now mol.now fits.now }
-    ensures { IsTrue result → IsNoHitBehind graph.now mol.now first.now }
+    ensures { IfSome result (λ none. IsTrue none → IsNoHitBehind graph.now mol.now first.now) }
 {
     if order.is_empty() || order.len() > chosen.len() || order.len() > graph.atom_count() as usize {
-        return false;
+        return None;
     }
     if !are_later(graph, first.len(), order) {
-        return false;
+        return None;
     }
     let mut d = 0;
     let mut above = 0u32;
+    let mut left = steps;
     'look: loop {
+        if left == 0 {
+            return None;
+        }
+        left -= 1;
         let anchor = anchor_of(graph, mol, first, order, ranks, &chosen[..d], order[d]);
         let Some(a) = next_atom(mol, anchor, above) else {
             if d == 0 {
-                return true;
+                return Some(true);
             }
             d -= 1;
             above = chosen[d];
@@ -150,7 +171,7 @@ fn has_none(
         }
         chosen[d] = a;
         if d + 1 == order.len() {
-            return false;
+            return Some(false);
         }
         put_at(levels, a, d as u32);
         d += 1;

@@ -1,3 +1,4 @@
+use Rattle.std.proofs.Common.{inl}
 use Rattle.mk_match.proofs.HeldLemmas.{came_further, came_nowhere}
 use Rattle.mk_match.proofs.held.may_hold.Goals as goal
 
@@ -10,3 +11,9 @@ pub loop-preserved : goal.loop-preserved
 loop-preserved c =
     let turned = c.in-Moved.ensures in
     came_further c.args.graph.now c.args.mol.now c.loop.counter c.loop.search c.turn.new.self c.loop.invariant turned.kept turned.turns
+
+pub returns-in-Item-clause-some : goal.returns-in-Item-clause-some
+returns-in-Item-clause-some c = λ _.
+    let at = c.loop.invariant in
+    let out = c.in-Item.ensures.turns at.place at.debt at.left at.owed in
+    inl (c.turn.new.self.walk.images.items, out.least.has)

@@ -1,6 +1,5 @@
 use Rattle.std.proofs.Common.{◌<◌, ◌+◌, length, refl, arith}
 use Rattle.std.proofs.lemmas.Bool.Decides.{nat_tests}
-use Rattle.mk_match.proofs.ListsFromLemmas.{left_back, left_in, left_next}
 use Rattle.mk_match.proofs.OutlookLemmas.{looking_ends, looking_goes_back, looking_puts, looking_skips, looking_starts}
 use Rattle.mk_match.proofs.outlook.has_none.Goals as goal
 
@@ -23,31 +22,12 @@ look-preserved-in_default c =
     c.anchor_of-anchor.result (rw c.deref.ensures.value at c.anchor_of-anchor.ensures.beside)
     c.in_default.ensures.none c.index-above.result.now c.if-d-eq0.false c.index-above.ensures
 
-pub look-smaller-in_default : goal.look-smaller-in_default
-look-smaller-in_default c =
-    left_back (length c.args.mol.now.atoms + 1) (length c.args.order.now) c.look.chosen.items c.look.d
-    c.look.invariant.short c.look.invariant.room c.index-above.result.now c.look.above c.if-d-eq0.false
-    c.index-above.ensures
-    (omega (arith, (look-preserved-in_default c).high))
-
-pub look-smaller-then-is_barred : goal.look-smaller-then-is_barred
-look-smaller-then-is_barred c =
-    left_next (length c.args.mol.now.atoms + 1) (length c.args.order.now) c.look.chosen.items c.look.d
-    c.look.invariant.short c.look.invariant.room c.look.above c.in-Some.a c.in-Some.ensures.found.0
-    (omega (arith, c.in-Some.ensures.found.1))
-
 pub look-preserved-then-is_barred : goal.look-preserved-then-is_barred
 look-preserved-then-is_barred c =
     looking_skips c.args.graph.now c.args.mol.now c.args.first.now c.args.order.now (c.if-not-are_later.ensures refl)
     c.look.chosen.items c.look.d c.look.above c.look.invariant c.anchor_of-anchor.result
     (rw c.deref.ensures.value at c.anchor_of-anchor.ensures.beside)
     c.in-Some.a c.in-Some.ensures.found.0 c.in-Some.ensures.found.1 c.in-Some.ensures.between (rw c.deref-in-look.ensures.value at (c.if-is_barred.ensures refl))
-
-pub look-smaller : goal.look-smaller
-look-smaller c =
-    left_in (length c.args.mol.now.atoms + 1) (length c.args.order.now) c.look.chosen.items c.look.d
-    c.look.invariant.short c.look.invariant.room c.look.above c.in-Some.a
-    (omega (arith, c.look.invariant.short, c.if-d-order.false)) c.in-Some.ensures.found.0 (omega arith)
 
 pub look-preserved : goal.look-preserved
 look-preserved c =
