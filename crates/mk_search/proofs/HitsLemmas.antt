@@ -22,18 +22,17 @@ use Rattle.mk_search.specs.Pages.{IsHeldIn, IsPage}
 use Rattle.mk_search.specs.Starts.{first_number}
 use Rattle.mk_search.proofs.BegunLemmas.{begun_append, begun_none, begun_same}
 use Rattle.mk_search.proofs.LevelLemmas.{longer, nested, shorter}
-use Rattle.mk_search.proofs.NextLemmas.{before_zero}
-use Rattle.mk_search.proofs.StartsLemmas.{shorter_below}
+use Rattle.mk_search.proofs.StartsLemmas.{before_zero, shorter_below}
 
 -- ---- lists
 
 -- the place behind lists is that behind the last of them
-place_behind_last : (place : List ℕ) (lists : List (List ℕ)) (last : List ℕ) → place_behind place (lists ++ last ∷ []) ≡ last ++ 0 ∷ []
+pub place_behind_last : (place : List ℕ) (lists : List (List ℕ)) (last : List ℕ) → place_behind place (lists ++ last ∷ []) ≡ last ++ 0 ∷ []
 place_behind_last place [] last = refl
 place_behind_last place (xs ∷ lists) last = place_behind_last (xs ++ 0 ∷ []) lists last
 
 -- a code that goes on with 0 is one
-one_code_before : (n m : ℕ) (code other : List ℕ) → n ∷ (code ++ 0 ∷ []) ≡ m ∷ (other ++ 0 ∷ []) → n ∷ code ≡ m ∷ other
+pub one_code_before : (n m : ℕ) (code other : List ℕ) → n ∷ (code ++ 0 ∷ []) ≡ m ∷ (other ++ 0 ∷ []) → n ∷ code ≡ m ∷ other
 one_code_before n m code other e = before_zero (n ∷ code) (m ∷ other) e
 
 -- ---- pages

@@ -2,18 +2,47 @@
 --     opens, takes, closes, ends     the next front, what stands next behind it, nothing more behind it, no front left
 --     at_back                    where a front is open, at a list behind it
 --     goes_up                    fronts behind which nothing stands are passed over
+--     fronts_from, same_fronts   the place goes up to the list from which on fronts are to come
+--     backs_same                 where a front is open, from another list on
+--     same_backs                 and up to the list behind the front that is open
+--     between_begins             what stands between a list and others behind it
 use Rattle.std.proofs.Common.{◌≡◌, ℕ, ◌⊎◌, inl, inr, List, [], ◌∷◌, ◌++◌, None, refl, sym, ap, subst, ◌∙◌, append_assoc, append-nil}
 use Rattle.mk_text.specs.Rising.{IsBelow, IsLeast, IsLeastFrom}
 use Rattle.mk_text.proofs.ForCallers.{below_after, below_behind, below_joined, below_or_not, below_through, below_what_isnt, between_none, not_below_after, not_below_itself}
+use Rattle.mk_model.specs.Nodes.{SameFrom}
+use Rattle.mk_model.proofs.ForCallers.{not_below_front}
 use Rattle.mk_search.specs.Starts.{IsBehind}
 use Rattle.mk_search.specs.Levels.{AtBacks, AtFronts, IsPair}
-use Rattle.mk_search.proofs.StartsLemmas.{behind_same}
+use Rattle.mk_search.proofs.StartsLemmas.{behind_same, shorter_below}
 
 -- ---- the order
 
 -- nothing below a list is below what it isn't below either
 pub over_not : (xs ys : List ℕ) → IsBelow xs ys → IsBelow ys xs → ⊥
 over_not xs ys over under = not_below_itself xs (below_through xs ys xs over under)
+
+-- of two lists neither of which is below the other
+pub same_if_neither : (xs ys : List ℕ) → (IsBelow xs ys → ⊥) → (IsBelow ys xs → ⊥) → xs ≡ ys
+same_if_neither xs ys not back =
+    elim (below_or_not ys (xs ++ 0 ∷ [])) [
+      | inl near ↦ between_none xs ys back near
+      | inr far ↦ absurd (not (not_below_after xs ys far))
+    ]
+
+-- a list that isn't below another, and is below it with others behind it, begins with it
+pub record BeginsBehind (xs front : List ℕ) : Type 0 where
+  pub more : List ℕ
+  pub whole : xs ≡ front ++ more
+
+pub between_begins : (xs front tail : List ℕ) → (IsBelow xs front → ⊥) → IsBelow xs (front ++ tail) → BeginsBehind xs front
+between_begins xs [] tail not below = record { more = xs; whole = refl }
+between_begins [] (y ∷ front) tail not below = absurd (not tt)
+between_begins (x ∷ xs) (y ∷ front) tail not (inl less) = absurd (not (inl less))
+between_begins (x ∷ xs) (y ∷ front) tail not (inr h) =
+    let rest = between_begins xs front tail (λ below. not (inr (h.0, below))) h.1 in
+    let whole = rest.whole in
+    let first = h.0 in
+    record { more = rest.more; whole = cc }
 
 -- of two lists with which one list begins, one begins the other
 pub data Nested (a c : List ℕ) : Type 0 where
@@ -113,6 +142,36 @@ module _ (Front : List ℕ → Type 0) (Behind : List ℕ → List ℕ → Type 
         | inr not ↦ absurd (up (below_what_isnt to from front over not))
       ]
 
+  -- the place goes up to the list from which on fronts are to come
+  pub fronts_from : (place from : List ℕ) → AtFronts Front Behind place from → (IsBelow from place → ⊥) → AtFronts Front Behind from from
+  fronts_from place from at up = record {
+    below = λ front back is its not. at.below front back is its (λ under. not (below_what_isnt (front ++ back) from place under up));
+    above = λ front back is its not apart below. not (shorter_below front back from below);
+    first = λ front behind is e over. not_below_front front behind (subst (λ (zs : List ℕ). IsBelow zs front) e over);
+    fronts = λ front is not. inl not;
+  }
+
+  -- and the same is left from there on
+  pub same_fronts : (place from : List ℕ) → AtFronts Front Behind place from → (IsBelow from place → ⊥) → SameFrom (IsPair Front Behind) place from
+  same_fronts place from at up = record {
+    on = λ xs pair not below.
+        at.below pair.front pair.back pair.is_front pair.is_back (subst (λ (zs : List ℕ). IsBelow zs place → ⊥) pair.whole not)
+        (shorter_below pair.front pair.back from (subst (λ (zs : List ℕ). IsBelow zs from) pair.whole below));
+    back = λ xs pair not below. not (below_what_isnt xs from place below up);
+  }
+
+  -- where a front is open, from a list on behind which the same stands
+  pub backs_same : (place front from to : List ℕ) → AtBacks Front Behind place front from → SameFrom (Behind front) from to → AtBacks Front Behind place front to
+  backs_same place front from to at same = record {
+    is = at.is;
+    here = λ back its not. same.on back its (at.here back its not);
+    back = λ back its not. at.back back its (same.back back its not);
+    below = at.below;
+    above = at.above;
+    first = at.first;
+    fronts = at.fronts;
+  }
+
   -- nothing is left behind any front
   pub none_behind : (place from : List ℕ) → AtFronts Front Behind place from → ((front back : List ℕ) → Front front → Behind front back → (IsBelow front from → ⊥) → ⊥)
       → IsLeastFrom place (IsPair Front Behind) None
@@ -133,7 +192,7 @@ module _ (Front : List ℕ → Type 0) (Behind : List ℕ → List ℕ → Type 
         not_below_itself a (subst (λ (zs : List ℕ). IsBelow a zs) same below))
 
     -- a place that begins with a front begins with no other
-    one_front : (front behind other behind' : List ℕ) → Front front → Front other → front ++ behind ≡ other ++ behind' → front ≡ other
+    pub one_front : (front behind other behind' : List ℕ) → Front front → Front other → front ++ behind ≡ other ++ behind' → front ≡ other
     one_front front behind other behind' is its e =
         elim (nested front behind other behind' e) [
           | longer more whole ↦
@@ -188,6 +247,24 @@ module _ (Front : List ℕ → Type 0) (Behind : List ℕ → List ℕ → Type 
                     let below' : IsBelow (front ++ made.back) (front ++ back) = subst (λ (f : List ℕ). IsBelow (f ++ made.back) (front ++ back)) (sym same) below in
                     least.least made.back is (at.here made.back is not'') (behind_same front made.back back below')
                 | inr over ↦ over_not (front ++ back) (made.front ++ made.back) (made_below front back made.front made.back at.is made.is_front over) below
+              ]
+
+      -- from the list behind the front on the same is left
+      pub same_backs : (IsBelow (front ++ from) place → ⊥) → SameFrom (IsPair Front Behind) place (front ++ from)
+      same_backs up = record {
+        on = λ xs pair not below. here pair (subst (λ (zs : List ℕ). IsBelow zs place → ⊥) pair.whole not) (subst (λ (zs : List ℕ). IsBelow zs (front ++ from)) pair.whole below);
+        back = λ xs pair not below. not (below_what_isnt xs (front ++ from) place below up);
+      }
+        where
+          here : {xs : List ℕ} → (pair : IsPair Front Behind xs) → (IsBelow (pair.front ++ pair.back) place → ⊥) → IsBelow (pair.front ++ pair.back) (front ++ from) → ⊥
+          here pair not below =
+              elim (left_here pair.front pair.back pair.is_front pair.is_back not) [
+                | inl same ↦
+                    let is : Behind front pair.back = subst (λ (f : List ℕ). Behind f pair.back) (sym same) pair.is_back in
+                    let not' : IsBelow (front ++ pair.back) place → ⊥ = subst (λ (f : List ℕ). IsBelow (f ++ pair.back) place → ⊥) (sym same) not in
+                    let below' : IsBelow (front ++ pair.back) (front ++ from) = subst (λ (f : List ℕ). IsBelow (f ++ pair.back) (front ++ from)) (sym same) below in
+                    at.here pair.back is not' (behind_same front pair.back from below')
+                | inr over ↦ over_not (front ++ from) (pair.front ++ pair.back) (made_below front from pair.front pair.back at.is pair.is_front over) below
               ]
 
       pub takes : (back : List ℕ) → AtBacks Front Behind ((front ++ back) ++ (0 ∷ [])) front (back ++ (0 ∷ []))

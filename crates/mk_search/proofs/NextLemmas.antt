@@ -15,20 +15,9 @@ use Rattle.mk_choice.specs.Codes.{CodesLeft}
 use Rattle.mk_choice.proofs.CodesLeftLemmas.{fewer_nodes, nodes_left}
 use Rattle.mk_search.specs.declared.occurrences.Open.{Open}
 use Rattle.mk_search.specs.Begun.{Begun}
-use Rattle.mk_search.specs.Occurrences.{IsBegunFor, IsCodeFrom, IsNoneOpened, IsOpenedAt, Leaves, TakesHere, TakesNext}
+use Rattle.mk_search.specs.Occurrences.{IsBegunFor, IsCodeFrom, IsNoneOpened, IsOpenedAt, Leaves, TakesHere, TakesNext, reached}
 use Rattle.mk_search.proofs.BegunLemmas.{begun_append, begun_none}
-
--- ---- places
-
--- what stands before the 0 of a place
-pub before_zero : (xs ys : List ℕ) → xs ++ 0 ∷ [] ≡ ys ++ 0 ∷ [] → xs ≡ ys
-before_zero [] [] e = refl
-before_zero [] (y ∷ ys) e = absurd (omega (arith, ap length e, length-append ys (0 ∷ [])))
-before_zero (x ∷ xs) [] e = absurd (omega (arith, ap length e, length-append xs (0 ∷ [])))
-before_zero (x ∷ xs) (y ∷ ys) e =
-    let rest = before_zero xs ys cc in
-    let first : x ≡ y = cc in
-    cc
+use Rattle.mk_search.proofs.StartsLemmas.{before_zero}
 
 -- ---- the next occurrence
 
@@ -72,6 +61,7 @@ module _ (query : QueryView) (mol : Molecule) (place : List ℕ) where
     taken = λ xs e. subst (IsBegunFor codes open' codes []) (one_of numbers xs e)
         (record { code = t.code; hit = t.hit; whole = t.whole; placed = t.placed; begun_for = inr (t.was_open, t.placed) });
     now_open = λ xs e. t.now_open;
+    at = λ xs e. subst (λ (zs : List ℕ). reached codes new ≡ zs ++ 0 ∷ []) (one_of numbers xs e) t.at;
   }
 
   -- it is one of a code that was opened now
@@ -97,6 +87,7 @@ module _ (query : QueryView) (mol : Molecule) (place : List ℕ) where
                   (holds_append h.begun.begun o.begun.begun t.code (inr (subst (Holds o.begun.begun) same opened'.held)));
             });
         now_open = λ xs e. t.now_open;
+        at = λ xs e. subst (λ (zs : List ℕ). reached new last ≡ zs ++ 0 ∷ []) (one_of numbers xs e) t.at;
       }
 
   -- there is none
@@ -108,6 +99,7 @@ module _ (query : QueryView) (mol : Molecule) (place : List ℕ) where
     left = λ xs e. absurd cc;
     taken = λ xs e. absurd cc;
     now_open = λ xs e. absurd cc;
+    at = λ xs e. absurd cc;
   }
 
   -- fewer codes are left behind each that is passed, and behind more of them too

@@ -1,9 +1,9 @@
 -- The occurrences of a query in one molecule, code by code.
 --     from_start                  no code is open at the start
 --     none_here, taken_here       nothing more, or the next hit, of the code that is open
---     none_left, opened_at, passed_at     no code left, or the next one, which is opened or passed
+--     none_left, begun_opened, hitless_passed     no code left, or the next one, which is opened or passed
 --     kept_more                   an expansion is kept behind others
-use Rattle.std.proofs.Common.{◌≡◌, ℕ, ◌+◌, inl, inr, Bool, true, false, if◌then◌else◌, List, [], ◌∷◌, ◌++◌, All, drop, Option, Some, None, refl, sym, ap, subst, ◌∙◌, append-nil}
+use Rattle.std.proofs.Common.{◌≡◌, ℕ, ◌+◌, inl, inr, Bool, true, false, if◌then◌else◌, List, [], ◌∷◌, ◌++◌, All, drop, Option, Some, None, refl, sym, ap, subst, ◌∙◌, append-nil, append_assoc}
 use Rattle.std.proofs.lemmas.List.Elements.{All-drop, All-push}
 use Rattle.mk_text.specs.Rising.{IsBelow, IsLeast, IsLeastFrom}
 use Rattle.mk_text.proofs.ForCallers.{below_after, below_joined, below_or_not, below_through, between_none, not_below_after, not_below_itself}
@@ -14,15 +14,12 @@ use Rattle.mk_model.specs.Keys.{IsOccurrence}
 use Rattle.mk_model.specs.Logic.{IsValid}
 use Rattle.mk_model.specs.Molecules.{Molecule}
 use Rattle.mk_model.specs.Queries.{QueryView}
-use Rattle.mk_model.specs.Screens.{Covers, IsNeedOf, IsScreenOf}
-use Rattle.mk_model.specs.declared.screen.Screen.{Screen}
+use Rattle.mk_model.specs.Screens.{IsNeedOf}
 use Rattle.mk_model.proofs.ForCallers.{code_of_valid}
 use Rattle.mk_choice.specs.Codes.{CodesLeft, IsNext}
 use Rattle.mk_choice.proofs.ForCallers.{no_valid_begins_another}
 use Rattle.mk_expand.proofs.ForCallers.{one_graph}
 use Rattle.mk_match.specs.Asked.{AreAsked}
-use Rattle.mk_match.specs.Counts.{HasNoHit}
-use Rattle.mk_match.specs.Maps.{IsMadeFrom, MapsLeft}
 use Rattle.mk_search.specs.declared.expansions.Expansion.{Expansion}
 use Rattle.mk_search.specs.declared.occurrences.Open.{Open}
 use Rattle.mk_search.specs.Begins.{IsLeftBy}
@@ -31,9 +28,10 @@ use Rattle.mk_search.specs.Kept.{IsKept}
 use Rattle.mk_search.specs.Levels.{AtBacks, AtFronts, IsPair}
 use Rattle.mk_search.specs.Occurrences.{HitsBehind, IsCodeFrom, IsNoneOpened, IsOpenOf, IsOpenedAt, Leaves, LeavesBy, LeavesOpen, TakesHere, is_open}
 use Rattle.mk_search.specs.Starts.{IsBehind, IsStart}
+use Rattle.mk_search.specs.Turns.{IsBegunAt, IsHitless}
 use Rattle.mk_search.proofs.BegunLemmas.{begun_none, begun_one, begun_over, not_after}
 use Rattle.mk_search.proofs.LevelLemmas.{closes, ends, goes_up, longer, nested, opens, shorter, takes, takes_least}
-use Rattle.mk_search.proofs.StartsLemmas.{back_is_above, no_longer_code, none_below_start}
+use Rattle.mk_search.proofs.StartsLemmas.{back_is_above, before_zero, no_longer_code, none_below_start}
 
 module _ (query : QueryView) (mol : Molecule) where
   -- ---- pairs
@@ -50,7 +48,7 @@ module _ (query : QueryView) (mol : Molecule) where
     whole = pair.whole;
   }
 
-  is_pair : (xs : List ℕ) → IsOccurrence query mol xs → IsPair (IsValid query) (HitsBehind query mol) xs
+  pub is_pair : (xs : List ℕ) → IsOccurrence query mol xs → IsPair (IsValid query) (HitsBehind query mol) xs
   is_pair xs occurs = record {
     front = occurs.code;
     back = occurs.hit;
@@ -113,7 +111,7 @@ module _ (query : QueryView) (mol : Molecule) where
   hits_behind : (code : List ℕ) (graph : GraphView) → IsExpansion query code graph → (hit : List ℕ) → IsHit graph mol hit → HitsBehind query mol code hit
   hits_behind code graph expanded hit is = record { graph = graph; expanded = expanded; hits = is }
 
-  behind_hits : (code : List ℕ) (graph : GraphView) → IsExpansion query code graph → (hit : List ℕ) → HitsBehind query mol code hit → IsHit graph mol hit
+  pub behind_hits : (code : List ℕ) (graph : GraphView) → IsExpansion query code graph → (hit : List ℕ) → HitsBehind query mol code hit → IsHit graph mol hit
   behind_hits code graph expanded hit is = subst (λ (g : GraphView). IsHit g mol hit) (one_graph query code is.graph graph is.expanded expanded) is.hits
 
   module _ (place : List ℕ) (codes : CodesLeft) (of : codes.query ≡ query) (open' : Open) (o : LeavesOpen query mol place codes open') where
@@ -170,6 +168,8 @@ module _ (query : QueryView) (mol : Molecule) where
       whole = whole;
       was_open = refl;
       now_open = refl;
+      at = ap (λ (zs : List ℕ). zs ++ new.maps.place) code ∙ ap (λ (zs : List ℕ). open'.code.items ++ zs) at ∙ sym (append_assoc open'.code.items hit (0 ∷ []))
+          ∙ ap (λ (zs : List ℕ). zs ++ 0 ∷ []) (sym whole);
     }
 
   -- ---- the next code
@@ -215,65 +215,63 @@ module _ (query : QueryView) (mol : Molecule) where
 
 -- ---- what is passed
 
-module _ (query : QueryView) (mol : Molecule) (place : List ℕ) (old new : CodesLeft) (open' : Option Open) (left : Leaves query mol place old open') (shut : open' ≡ None)
-    (code : List ℕ) (next : IsNext old new code)
-    (expansion : Expansion) (code_is : expansion.code.items ≡ code) (kept : IsKept query expansion) where
+module _ (query : QueryView) (mol : Molecule) (place : List ℕ) (old next new : CodesLeft) (open' : Option Open) (before after : ℕ) (left : Leaves query mol place old None)
+    (code : List ℕ) (taken : IsNext old next code) where
   -- the code is the least of the query's
   least_code : IsLeast old.place (IsValid query) code
-  least_code = subst (λ (q : QueryView). IsLeast old.place (IsValid q) code) left.query_is next.least
+  least_code = subst (λ (q : QueryView). IsLeast old.place (IsValid q) code) left.query_is taken.least
 
-  no_code_open : AtFronts (IsValid query) (HitsBehind query mol) place old.place
-  no_code_open = subst (λ (m : Option Open). LeavesBy query mol place old m) shut left.by
+  pub hitless_passed : IsHitless query mol next new open' before after → IsOpenedAt query mol place old new open' before after
+  hitless_passed h =
+      let code_is : h.expansion.code.items ≡ code = before_zero h.expansion.code.items code (sym h.placed ∙ taken.place) in
+      let placed : new.place ≡ code ++ 0 ∷ [] = ap (λ (c : CodesLeft). c.place) h.same ∙ taken.place in
+      let expanded = subst (λ (zs : List ℕ). IsExpansion query zs h.expansion.graph) code_is h.kept.is in
+      record {
+        code = code;
+        least = least_code;
+        passed = subst (λ (zs : List ℕ). IsBelow code zs) (sym placed) (below_after code);
+        left = subst (λ (m : Option Open). Leaves query mol place new m) (sym h.shut)
+            (passed_next query mol place old.place code h.expansion.graph new left.by least_code
+            (ap (λ (c : CodesLeft). c.query) h.same ∙ taken.query ∙ left.query_is) placed expanded h.none);
+        begun = begun_over (IsCodeFrom query mol place) old.place new.place before after (not_after old.place code new.place least_code.from placed) h.same_count;
+        for_it = λ is. absurd (let no : is_open None ≡ true = subst (λ (m : Option Open). is_open m ≡ true) h.shut is in cc);
+      }
 
-  expanded : IsExpansion query code expansion.graph
-  expanded = subst (λ (zs : List ℕ). IsExpansion query zs expansion.graph) code_is kept.is
-
-  -- the place behind it is above it
-  behind_it : IsBelow code new.place
-  behind_it = subst (λ (zs : List ℕ). IsBelow code zs) (sym next.place) (below_after code)
-
-  pub passed_at : (n : ℕ) → HasNoHit expansion.graph mol → IsOpenedAt query mol place old new open' n n
-  passed_at n none = record {
-    code = code;
-    least = least_code;
-    passed = behind_it;
-    left = subst (λ (m : Option Open). Leaves query mol place new m) (sym shut)
-        (passed_next query mol place old.place code expansion.graph new no_code_open least_code (next.query ∙ left.query_is) next.place expanded none);
-    begun = begun_over (IsCodeFrom query mol place) old.place new.place n n (not_after old.place code new.place least_code.from next.place) refl;
-    for_it = λ is. absurd (let no : is_open None ≡ true = subst (λ (m : Option Open). is_open m ≡ true) shut is in cc);
-  }
-
-  pub opened_at : (n m : ℕ) (maps : MapsLeft) (back : List ℕ) (screen : Screen) → IsMadeFrom expansion.graph mol back maps → IsBehind code place back → IsScreenOf mol screen
-      → Covers screen expansion.need → m ≡ n + 1
-      → IsOpenedAt query mol place old new (Some (record { maps = maps; code = expansion.code; asked = expansion.asked; need = expansion.need })) n m
+  pub begun_opened : IsBegunAt query mol place next new open' before after → IsOpenedAt query mol place old new open' before after
   unfolding begun_one
-  opened_at n m maps back screen made behind shows covers more = record {
-    code = code;
-    least = least_code;
-    passed = behind_it;
-    left = opened_next query mol place old.place back new (record { maps = maps; code = expansion.code; asked = expansion.asked; need = expansion.need }) no_code_open
-        (subst (IsLeast old.place (IsValid query)) (sym code_is) least_code)
-        (subst (λ (zs : List ℕ). IsBehind zs place back) (sym code_is) behind)
-        (next.query ∙ left.query_is) (next.place ∙ ap (λ (zs : List ℕ). zs ++ 0 ∷ []) (sym code_is))
-        (record {
-          is = subst (λ (g : GraphView). IsExpansion query expansion.code.items g) (sym made.graph_is) kept.is;
-          asked = subst (λ (g : GraphView). AreAsked g expansion.asked) (sym made.graph_is) kept.asked;
-          need = subst (λ (g : GraphView). IsNeedOf g expansion.need) (sym made.graph_is) kept.need;
-        })
-        made.mol_is made.place_is;
-    begun = begun_one (IsCodeFrom query mol place) old.place code new.place n m
-        (record {
-          covered = record {
-            screen = screen;
-            shows = shows;
-            covered =
-                record { graph = expansion.graph; need = expansion.need; valid = least_code.has; expanded = expanded; needs = kept.need; covers = covers };
-          };
-          from = no_code_open.fronts code least_code.has least_code.from;
-        })
-        least_code.from next.place more;
-    for_it = λ is. record { placed = next.place; held = inl refl };
-  }
+  begun_opened b =
+      let code_is : b.expansion.code.items ≡ code = before_zero b.expansion.code.items code (sym b.placed ∙ taken.place) in
+      let placed : new.place ≡ code ++ 0 ∷ [] = ap (λ (c : CodesLeft). c.place) b.same ∙ taken.place in
+      let expanded = subst (λ (zs : List ℕ). IsExpansion query zs b.expansion.graph) code_is b.kept.is in
+      record {
+        code = code;
+        least = least_code;
+        passed = subst (λ (zs : List ℕ). IsBelow code zs) (sym placed) (below_after code);
+        left = subst (λ (m : Option Open). Leaves query mol place new m) (sym b.opened)
+            (opened_next query mol place old.place b.back new
+            (record { maps = b.maps; code = b.expansion.code; asked = b.expansion.asked; need = b.expansion.need }) left.by
+            (subst (IsLeast old.place (IsValid query)) (sym code_is) least_code)
+            b.behind
+            (ap (λ (c : CodesLeft). c.query) b.same ∙ taken.query ∙ left.query_is) (placed ∙ ap (λ (zs : List ℕ). zs ++ 0 ∷ []) (sym code_is))
+            (record {
+              is = subst (λ (g : GraphView). IsExpansion query b.expansion.code.items g) (sym b.made.graph_is) b.kept.is;
+              asked = subst (λ (g : GraphView). AreAsked g b.expansion.asked) (sym b.made.graph_is) b.kept.asked;
+              need = subst (λ (g : GraphView). IsNeedOf g b.expansion.need) (sym b.made.graph_is) b.kept.need;
+            })
+            b.made.mol_is b.made.place_is);
+        begun = begun_one (IsCodeFrom query mol place) old.place code new.place before after
+            (record {
+              covered = record {
+                screen = b.screen;
+                shows = b.shows;
+                covered =
+                    record { graph = b.expansion.graph; need = b.expansion.need; valid = least_code.has; expanded = expanded; needs = b.kept.need; covers = b.covers };
+              };
+              from = left.by.fronts code least_code.has least_code.from;
+            })
+            least_code.from placed b.one_more;
+        for_it = λ is. record { placed = placed; held = inl refl };
+      }
 
 -- what is kept when an expansion was put behind the others, or couldn't be
 pub kept_more : (query : QueryView) (expansion : Expansion) (n : ℕ) (old room new : List Expansion) (ok : Bool) → room ≡ drop n old → new ≡ (if ok then room ++ expansion ∷ [] else room)

@@ -27,12 +27,13 @@ use Rattle.mk_search.specs.Begins.{IsLeftBy}
 use Rattle.mk_search.specs.Begun.{Begun, IsPairLeft}
 use Rattle.mk_search.specs.Levels.{AtFronts}
 use Rattle.mk_search.specs.Starts.{first_number, rest_in}
-use Rattle.mk_search.specs.Occurrences.{BelongsTo, IsBegunFor, IsCodeFrom, Leaves, TakesNext, given, is_open}
+use Rattle.mk_search.specs.Occurrences.{BelongsTo, IsBegunFor, IsCodeFrom, Leaves, TakesNext, given, is_open, reached}
 use Rattle.mk_search.specs.Pages.{IsHeldIn}
 use Rattle.mk_search.specs.Passing.{KnowOf}
 use Rattle.mk_open.specs.Fronts.{IsNeedOfAll}
 use Rattle.mk_search.specs.Records.{IsNextRecord, NoRecord}
-use Rattle.mk_search.specs.Stages.{Finds, FindsIn, FindsKey, FindsNoKey, FindsNone, IsBegunKey, IsReadyIn, IsRecord, IsStanding, OccursIn}
+use Rattle.mk_search.specs.Stages.{Finds, FindsIn, FindsKey, FindsNoKey, FindsNone, IsBegunKey, IsReadyHere, IsReadyIn, IsRecord, IsStanding, OccursIn}
+use Rattle.mk_search.specs.Turns.{StandsBy}
 use Rattle.mk_search.proofs.BegunLemmas.{begun_append, begun_none}
 use Rattle.mk_search.proofs.StartsLemmas.{behind_same}
 use Rattle.mk_search.proofs.StagesLemmas.{at_first, at_next, behind_number, found_at, found_key, found_none, no_key, no_record_held, number_from, ready_in, rest_same}
@@ -93,7 +94,7 @@ begun_key n old opened new begun numbers for_it = record {
 }
 
 -- a key's pair that is begun among others is begun with those before them
-begun_later : (from start to : List ℕ) (others begun : List (List ℕ)) (key : List ℕ) → IsBegunKey from false to begun key → (opened : Bool) → IsBegunKey start opened to (others ++ begun) key
+pub begun_later : (from start to : List ℕ) (others begun : List (List ℕ)) (key : List ℕ) → IsBegunKey from false to begun key → (opened : Bool) → IsBegunKey start opened to (others ++ begun) key
 begun_later from start to others begun key is opened = record {
   number = is.number;
   code = is.code;
@@ -184,6 +185,11 @@ ready_first rows query place next at row held shows is all left know = record {
   from = at.fronts (row.number ∷ []) (record { number = row.number; mol = row.mol.now; held = held; is = refl }) (number_from next row.number is.not_below);
 }
 
+-- where a code is open, the place is that of its hits, behind it
+pub stands_open : (query : QueryView) (place : List ℕ) (codes : CodesLeft) (owed : ℕ) (open' : Option Open) → is_open open' ≡ true → reached codes open' ≡ place → StandsBy query place codes owed open'
+stands_open query place codes owed None is at = absurd (let no : is_open None ≡ true = is in cc)
+stands_open query place codes owed (Some open') is at = sym at
+
 module _ (rows : List (Numbered Molecule)) (query : QueryView) (place : List ℕ) (row : Row) (old new : Occurrences) (before after : ℕ) (ready : IsReadyIn rows query place row old)
     (know : KnowOf row.mol.now new.fronts) where
   finds_none : TakesNext query row.mol.now (rest_in place row.number) old.codes old.open new.codes new.open before after None
@@ -202,12 +208,17 @@ module _ (rows : List (Numbered Molecule)) (query : QueryView) (place : List ℕ
       record {
         least = found_key rows query row.number row.mol.now ready.held place ready.at numbers t.least;
         ready = record {
-          held = ready.held;
-          shows = ready.shows;
-          left = subst (λ (zs : List ℕ). Leaves query row.mol.now zs new.codes new.open) (sym (rest_same row.number (numbers ++ 0 ∷ []))) (t.left numbers refl);
-          know = know;
-          at = found_at rows query row.number row.mol.now ready.held numbers;
-          from = inr (numbers ++ 0 ∷ [], refl);
+          ready = record {
+            held = ready.held;
+            shows = ready.shows;
+            left = subst (λ (zs : List ℕ). Leaves query row.mol.now zs new.codes new.open) (sym (rest_same row.number (numbers ++ 0 ∷ []))) (t.left numbers refl);
+            know = know;
+            at = found_at rows query row.number row.mol.now ready.held (numbers ++ 0 ∷ []);
+            from = inr (numbers ++ 0 ∷ [], refl);
+          };
+          begins = ap (λ (zs : List ℕ). row.number ∷ zs) (sym (rest_same row.number (numbers ++ 0 ∷ [])));
+          by = subst (λ (zs : List ℕ). StandsBy query zs new.codes new.owed new.open) (sym (rest_same row.number (numbers ++ 0 ∷ [])))
+              (stands_open query (numbers ++ 0 ∷ []) new.codes new.owed new.open (t.now_open numbers refl) (t.at numbers refl));
         };
         begun = begun_in rows query row.number row.mol.now ready.held place ready.from old.codes.place new.codes.place before after t.begun;
         taken = begun_key row.number old.codes old.open new.codes t.begun.begun numbers (t.taken numbers refl);
@@ -259,11 +270,11 @@ module _ (rows : List (Numbered Molecule)) (place : List ℕ) (need : Option Scr
   pub standing_from : (first : ℕ) → first ≡ first_number place → IsStanding rows place need (From first) all
   standing_from first is = record { belongs = belongs_itself query all belongs; need_is = own_need; ready = rw is (at_first rows all.query.now place) }
 
-  pub standing_in : (row : Row) → IsReadyIn rows query place row all → IsStanding rows place need (In row) all
+  pub standing_in : (row : Row) → IsReadyHere rows query place row all → IsStanding rows place need (In row) all
   standing_in row ready = record {
     belongs = belongs_itself query all belongs;
     need_is = own_need;
-    ready = subst (λ (q : QueryView). IsReadyIn rows q place row all) (sym belongs.query_is) ready;
+    ready = subst (λ (q : QueryView). IsReadyHere rows q place row all) (sym belongs.query_is) ready;
   }
 
   pub standing_ended : IsLeastFrom place (IsKey (IsHeldIn rows) query) None → IsStanding rows place need Ended all

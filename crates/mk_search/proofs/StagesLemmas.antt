@@ -87,7 +87,7 @@ module _ (rows : List (Numbered Molecule)) (query : QueryView) where
 
   -- ---- keys as pairs
 
-  key_pair : (xs : List ℕ) → IsKey (IsHeldIn rows) query xs → IsPair (IsRecord rows) (OccursIn rows query) xs
+  pub key_pair : (xs : List ℕ) → IsKey (IsHeldIn rows) query xs → IsPair (IsRecord rows) (OccursIn rows query) xs
   key_pair xs key = record {
     front = key.number ∷ [];
     back = key.numbers;
@@ -162,9 +162,9 @@ module _ (rows : List (Numbered Molecule)) (query : QueryView) where
       pub found_none : IsLeastFrom (rest_in place n) (IsOccurrence query mol) None → AtFronts (IsRecord rows) (OccursIn rows query) place (n ∷ 0 ∷ [])
       found_none none = closes (IsRecord rows) (OccursIn rows query) (records_apart rows) place (n ∷ []) (rest_in place n) at (λ back is not. none back (in_occurs back is) not)
 
-    -- behind a key the record is open
-    pub found_at : (numbers : List ℕ) → AtBacks (IsRecord rows) (OccursIn rows query) (n ∷ (numbers ++ 0 ∷ [])) (n ∷ []) (rest_in (n ∷ (numbers ++ 0 ∷ [])) n)
-    found_at numbers = rw (rest_same n (numbers ++ 0 ∷ [])) (at_back (IsRecord rows) (OccursIn rows query) (records_apart rows) (n ∷ []) (numbers ++ 0 ∷ []) is_record)
+    -- at a place that begins with the number the record is open
+    pub found_at : (rest : List ℕ) → AtBacks (IsRecord rows) (OccursIn rows query) (n ∷ rest) (n ∷ []) (rest_in (n ∷ rest) n)
+    found_at rest = rw (rest_same n rest) (at_back (IsRecord rows) (OccursIn rows query) (records_apart rows) (n ∷ []) rest is_record)
 
   -- ---- the next record
 

@@ -10,6 +10,8 @@
 --     BeginsOfPage Held query place page old new     the count goes up by one for each of such
 --                                  pairs, none above the last key of a page that hasn't ended, and
 --                                  each key of the page begins with one
+--     BeginsOfPaced Held query place paced old new   the same of a page within a budget: none above
+--                                  the next place, where it paused
 use Rattle.std.specs.Prelude.{◌≡◌, ◌+◌, ◌⊎◌, ℕ, false, List, ◌∷◌, ◌++◌, length}
 use Rattle.mk_text.specs.Rising.{Each, Holds, IsBelow, Rises}
 use Rattle.mk_model.specs.Expansions.{IsExpansion}
@@ -19,6 +21,9 @@ use Rattle.mk_model.specs.Molecules.{Molecule}
 use Rattle.mk_model.specs.Queries.{QueryView}
 use Rattle.mk_model.specs.declared.screen.Screen.{Screen}
 use Rattle.mk_model.specs.Screens.{Covers, IsNeedOf, IsScreenOf}
+use Rattle.mk_search.specs.declared.paced.Paced.{Paced}
+use Rattle.mk_search.specs.declared.paced.Stop.{Stop}
+use Rattle.mk_search.specs.declared.paced.Stop.TheVariants.{Full, Ended, Paused}
 use Rattle.mk_search.specs.declared.pages.Page.{Page}
 
 -- ---- pairs
@@ -71,3 +76,22 @@ pub record BeginsOfPage (Held : ℕ → Molecule → Type 0) (query : QueryView)
   pub ticks : new ≡ old + length pairs
   pub up_to : page.ended ≡ false → Each (IsUpToLast page.hits) pairs
   pub fronts : Each (BeginsWithOneOf pairs) page.hits
+
+-- ---- a page within a budget
+
+-- up to where matchers are begun: not above the last key, where as many were given as asked for; and
+-- not above the next place, where the budget was spent
+abbrev pub IsBegunUpTo : Stop → List (List ℕ) → List ℕ → List ℕ → Type 0
+IsBegunUpTo Full hits next pair = IsUpToLast hits pair
+IsBegunUpTo Ended hits next pair = Unit {0}
+IsBegunUpTo Paused hits next pair = IsBelow next pair → ⊥
+
+-- The count goes up by one for each of a rising list of pairs, which are begun up to where the page
+-- stopped; and each key begins with one of them.
+pub record BeginsOfPaced (Held : ℕ → Molecule → Type 0) (query : QueryView) (place : List ℕ) (paced : Paced) (old new : ℕ) : Type 0 where
+  pub pairs : List (List ℕ)
+  pub rises : Rises pairs
+  pub each : Each (IsPairFrom Held query place) pairs
+  pub ticks : new ≡ old + length pairs
+  pub up_to : Each (IsBegunUpTo paced.stop paced.hits paced.place) pairs
+  pub fronts : Each (BeginsWithOneOf pairs) paced.hits

@@ -5,11 +5,15 @@
 --     IsSameSearch old new            the rows and the query stay
 --     IsNextKey old new .. key        the least key that is left is taken, and the place is behind
 --                                     it; or there is none
+--     IsTurnOfHits old new .. turn    a key is taken out, or the place moves, or there is none
 --     IsPassed old new above          what is left of a record is passed over
-use Rattle.std.specs.Prelude.{◌≡◌, ◌⊎◌, ◌+◌, ℕ, Bool, true, false, List, [], ◌∷◌, ◌++◌, Option, Some, None}
-use Rattle.mk_text.specs.Rising.{Holds, IsLeast, IsLeastFrom}
+use Rattle.std.specs.Prelude.{◌≡◌, ◌≤◌, ◌⊎◌, ◌+◌, ℕ, Bool, true, false, List, [], ◌∷◌, ◌++◌, Option, Some, None, length}
+use Rattle.mk_text.specs.Rising.{Holds, IsBelow, IsLeast, IsLeastFrom}
+use Rattle.mk_model.specs.declared.turn.Turn.{Turn}
+use Rattle.mk_model.specs.declared.turn.Turn.TheVariants.{Item, Moved, End}
 use Rattle.mk_model.specs.Keys.{IsKey}
 use Rattle.mk_model.specs.Molecules.{Molecule}
+use Rattle.mk_model.specs.Nodes.{IsNode, Pays, SameFrom}
 use Rattle.mk_model.specs.Queries.{QueryView}
 use Rattle.mk_rows.specs.declared.by_number.Numbered.{Numbered}
 use Rattle.mk_rows.specs.Rows.{NoneFrom}
@@ -17,21 +21,26 @@ use Rattle.mk_search.specs.Begun.{Begun, IsPairLeft}
 use Rattle.mk_search.specs.Starts.{first_number}
 use Rattle.mk_search.specs.Pages.{IsHeldIn}
 
--- what is seen of a `Hits`: the rows, the query and the place from which keys are left; and the list
--- from which on pairs of a record's number and a code are still to be begun
+-- what is seen of a `Hits`: the rows, the query and the place from which keys are left; the list
+-- from which on pairs of a record's number and a code are still to be begun; what is owed at the
+-- place; and whether a matcher is open
 pub record HitsLeft : Type 0 where
   pub rows : List (Numbered Molecule)
   pub query : QueryView
   pub place : List ℕ
   pub from : List ℕ
+  pub debt : ℕ
+  pub opened : Bool
 
--- the keys are those from the place on, and no matcher is begun
+-- the keys are those from the place on, no matcher is begun, and no more is owed than the place has
+-- numbers
 pub record IsMadeFrom (rows : List (Numbered Molecule)) (query : QueryView) (place : List ℕ)
     (left : HitsLeft) : Type 0 where
   pub rows_is : left.rows ≡ rows
   pub query_is : left.query ≡ query
   pub place_is : left.place ≡ place
   pub from_is : left.from ≡ first_number place ∷ []
+  pub few : left.debt ≤ length place
 
 -- the rows and the query stay
 pub record IsSameSearch (old new : HitsLeft) : Type 0 where
@@ -68,6 +77,42 @@ pub record TakesNone (old new : HitsLeft) (before after : ℕ) : Type 0 where
 abbrev pub IsNextKey : HitsLeft → HitsLeft → ℕ → ℕ → Option (List ℕ) → Type 0
 IsNextKey old new before after None = TakesNone old new before after
 IsNextKey old new before after (Some key) = TakesKey old new before after key
+
+-- ---- turns
+
+-- what a turn passes, and owes before and behind it
+abbrev pub IsPaid : HitsLeft → HitsLeft → Type 0
+IsPaid old new = Pays (IsNode (IsHeldIn old.rows) old.query) old.place old.debt new.place new.debt
+
+-- the least key that is left is taken out; the matcher of its pair was begun now, or was open
+pub record TakesOutKey (old new : HitsLeft) (before after : ℕ) (key : List ℕ) : Type 0 where
+  pub takes : TakesKey old new before after key
+  pub since : Holds takes.begun.begun (takes.taken.number ∷ takes.taken.code)
+      ⊎ ((old.opened ≡ true) × (old.from ≡ takes.taken.number ∷ (takes.taken.code ++ 0 ∷ [])))
+  pub pays : IsPaid old new
+
+-- the matcher that is open was begun now, or was open before
+abbrev pub IsOpenStill : HitsLeft → HitsLeft → List (List ℕ) → Type 0
+IsOpenStill old new begun =
+    new.opened ≡ true → (number : ℕ) (code : List ℕ) → new.from ≡ number ∷ (code ++ 0 ∷ [])
+    → Holds begun (number ∷ code) ⊎ ((old.opened ≡ true) × (old.from ≡ number ∷ (code ++ 0 ∷ [])))
+
+-- none is taken out: the same keys are left from the new place, which has no more than 514 numbers
+-- where the old one has; and no pair for which a matcher is begun is above it
+pub record MovesOn (old new : HitsLeft) (before after : ℕ) : Type 0 where
+  pub search : IsSameSearch old new
+  pub same : SameFrom (IsKey (IsHeldIn old.rows) old.query) old.place new.place
+  pub short : length old.place ≤ 514 → length new.place ≤ 514
+  pub begun : Begun (IsPairLeft old.rows old.query old.place) old.from new.from before after
+  pub up_to : (pair : List ℕ) → Holds begun.begun pair → IsBelow new.place pair → ⊥
+  pub since : IsOpenStill old new begun.begun
+  pub pays : IsPaid old new
+
+-- the least key that is left is taken out; or none, and the place is further on; or none is left
+abbrev pub IsTurnOfHits : HitsLeft → HitsLeft → ℕ → ℕ → Turn → Type 0
+IsTurnOfHits old new before after Item = (key : List ℕ) × TakesOutKey old new before after key
+IsTurnOfHits old new before after Moved = MovesOn old new before after
+IsTurnOfHits old new before after End = TakesNone old new before after
 
 -- ---- the rest of a record
 

@@ -7,6 +7,8 @@ pub mod Begun
 pub mod Levels
 pub mod Passing
 pub mod Occurrences
+pub mod Turns
 pub mod Stages
 pub mod Hits
+pub mod Paced
 pub mod Laws

@@ -4,6 +4,7 @@
 --     IsOpenOf query open             what is kept of the code that is open
 --     Leaves query mol place codes open    what isn't below the place is to come
 --     BelongsTo query all             all that is kept is of the query
+--     reached codes open              the list that the search came to
 --     given more numbers              the numbers that were found, where some were
 --     IsTakenHere .. found            the next one of the code that is open, or there is none
 --     IsOpened .. more                the next code, or all codes behind a front that holds none,
@@ -75,6 +76,11 @@ abbrev pub is_open : Option Open → Bool
 is_open None = false
 is_open (Some open') = true
 
+-- the list that the search came to: the place of the hits, behind their code, or that of the codes
+abbrev pub reached : CodesLeft → Option Open → List ℕ
+reached codes None = codes.place
+reached codes (Some open') = open'.code.items ++ open'.maps.place
+
 -- ---- the next one
 
 -- the numbers that were found, where some were
@@ -93,6 +99,7 @@ pub record TakesHere (query : QueryView) (mol : Molecule) (place : List ℕ) (co
   pub whole : numbers ≡ code ++ hit
   pub was_open : is_open old ≡ true
   pub now_open : is_open new ≡ true
+  pub at : reached codes new ≡ numbers ++ 0 ∷ []
 
 -- the next occurrence of the open code is taken; or there is none, and none is open
 abbrev pub IsTakenHere : QueryView → Molecule → List ℕ → CodesLeft → Option Open → Option Open
@@ -145,3 +152,4 @@ pub record TakesNext (query : QueryView) (mol : Molecule) (place : List ℕ) (ol
   pub left : (numbers : List ℕ) → found ≡ Some numbers → Leaves query mol (numbers ++ 0 ∷ []) new open'
   pub taken : (numbers : List ℕ) → found ≡ Some numbers → IsBegunFor old opened new begun.begun numbers
   pub now_open : (numbers : List ℕ) → found ≡ Some numbers → is_open open' ≡ true
+  pub at : (numbers : List ℕ) → found ≡ Some numbers → reached new open' ≡ numbers ++ 0 ∷ []

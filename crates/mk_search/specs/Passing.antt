@@ -1,8 +1,8 @@
 -- For the code: fronts that a search asks, and the place behind one that is passed over.
 --     FrontsOf query fronts      the fronts, where some are asked, are the query's
 --     KnowOf mol fronts          what they know is so in the molecule
---     IsRaised front raised      the front with its last number raised by one
-use Rattle.std.specs.Prelude.{◌≡◌, ◌+◌, ℕ, List, [], ◌∷◌, ◌++◌, Option, IfSome}
+--     IsBehindFront front place  the place is behind all codes that begin with the front
+use Rattle.std.specs.Prelude.{◌≡◌, ℕ, List, [], ◌∷◌, ◌++◌, Option, IfSome}
 use Rattle.mk_model.specs.Molecules.{Molecule}
 use Rattle.mk_model.specs.Queries.{QueryView}
 use Rattle.mk_fronts.specs.Fronts.{FrontsView, IsKnownOf}
@@ -15,9 +15,6 @@ FrontsOf query fronts = IfSome fronts (λ its. its.query ≡ query)
 abbrev pub KnowOf : Molecule → Option FrontsView → Type 0
 KnowOf mol fronts = IfSome fronts (IsKnownOf mol)
 
--- the same numbers, but the last, which is one greater
-pub record IsRaised (front raised : List ℕ) : Type 0 where
-  pub numbers : List ℕ
-  pub last : ℕ
-  pub front_is : front ≡ numbers ++ last ∷ []
-  pub raised_is : raised ≡ numbers ++ (last + 1) ∷ []
+-- the front, with the greatest number of all behind it
+abbrev pub IsBehindFront : List ℕ → List ℕ → Type 0
+IsBehindFront front place = place ≡ front ++ 4294967295 ∷ []

@@ -21,6 +21,8 @@ mod hits;
 mod laws;
 mod needs;
 mod occurrences;
+mod paced;
+mod pacing;
 mod pages;
 mod paging;
 mod passing;
@@ -28,13 +30,17 @@ mod plain;
 mod records;
 mod stages;
 mod starts;
+mod turns;
 
 pub use hits::Hits;
 pub use laws::{
     keys_are_listed, keys_are_short, no_held_key_begins_another, nothing_is_behind_a_key,
-    one_page_from_a_place, page_and_others_are_all, page_and_others_are_listed, places_are_short,
+    one_page_from_a_place, paced_and_others_are_all, paced_pages_are_there,
+    page_and_others_are_all, page_and_others_are_listed, places_are_short,
 };
 pub use mk_model::{Key, Keys, Memory, Place};
+pub use paced::{Paced, Stop};
+pub use pacing::page_within;
 pub use pages::Page;
 pub use paging::{least_hit, page};
 pub use plain::least_key_of;

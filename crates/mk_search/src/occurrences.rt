@@ -5,9 +5,10 @@ ghost use Rattle.mk_model.specs.Molecules.{Molecule};
 ghost use Rattle.mk_model.specs.Screens.{IsScreenOf};
 ghost use Rattle.mk_search.specs.Occurrences.{BelongsTo, IsOpened, IsOpenOf, IsTakenHere, Leaves, TakesNext, given};
 ghost use Rattle.mk_search.specs.Passing.{KnowOf};
+ghost use Rattle.mk_search.specs.Turns.{IsAtCode, IsCodeShown, IsHigher, OwesFew, StandsBy};
 
 use crate::expansions::{Expansion, expansion_by, keep, may_hold};
-use crate::passing::{forget, passed, put_raised};
+use crate::passing::{forget, passed, put_behind_front};
 use crate::stages::Row;
 use crate::starts::{behind, start};
 use mk_choice::Codes;
@@ -31,6 +32,9 @@ pub struct Open<'a> {
 /// The occurrences of a query in the molecule of a record: the codes that are left, the code that is
 /// open, where one is, and the fronts that are asked before a code is opened, where some are. What
 /// serves the next record too is kept: expansions, and the room for the numbers that were found last.
+///
+/// `owed` is there for the proof of what turns pay alone. It is how many numbers of the place stand
+/// behind those from which codes are left, until a code is taken out.
 #[derive(Debug, Drop)]
 pub struct Occurrences<'a> {
     pub codes: Codes<'a>,
@@ -39,6 +43,7 @@ pub struct Occurrences<'a> {
     pub kept: VecDeque<Expansion>,
     pub numbers: Vec<u32>,
     pub query: &'a Query,
+    pub owed: usize,
 }
 
 impl<'a> Occurrences<'a> {
@@ -47,12 +52,18 @@ impl<'a> Occurrences<'a> {
         requires { BelongsTo self.old.query.now self.old }
         ensures left { IfOk result (λ _. (mol : Molecule) → Leaves self.old.query.now mol place.now self.new.codes self.new.open) }
         ensures shut { IfOk result (λ _. self.new.open ≡ None) }
+        ensures stands { IfOk result (λ _. StandsBy self.old.query.now place.now self.new.codes self.new.owed self.new.open) }
+        ensures within { IfOk result (λ _. IsHigher place.now self.new.codes.place place.now) }
+        ensures few { IfOk result (λ _. OwesFew self.old.query.now place.now self.new.codes self.new.owed) }
         ensures know { IfOk result (λ _. (mol : Molecule) → KnowOf mol self.new.fronts) }
         ensures belongs { BelongsTo self.old.query.now self.new }
     {
         self.open = None;
         forget(&mut self.fronts);
-        self.codes.rewind(start(self.query, place))
+        let start = start(self.query, place);
+        self.codes.rewind(start)?;
+        self.owed = place.len() - start.len();
+        Ok(())
     }
 
     /// Finds the next one from the place on, where there is one. It begins a matcher for each code
@@ -107,12 +118,13 @@ impl<'a> Occurrences<'a> {
         Ok(true)
     }
 
-    // Keeps the expansion of the code that was open. None is open any more.
-    fn close(&mut self) -> Result<(), Memory>
+    /// Keeps the expansion of the code that was open. None is open any more.
+    pub fn close(&mut self) -> Result<(), Memory>
         requires belongs { BelongsTo self.old.query.now self.old }
         requires of { IfSome self.old.open (IsOpenOf self.old.query.now) }
         ensures shut { self.new.open ≡ None }
         ensures codes { self.new.codes ≡ self.old.codes }
+        ensures owed { self.new.owed ≡ self.old.owed }
         ensures fronts { self.new.fronts ≡ self.old.fronts }
         ensures belongs { BelongsTo self.old.query.now self.new }
     {
@@ -155,21 +167,45 @@ impl<'a> Occurrences<'a> {
     {
         // The reader's clause says what every query keeps.
         let _fits = self.query.templates();
-        let Some(code) = self.codes.next() else {
+        let Some(_code) = self.codes.next() else {
             return Ok(false);
         };
+        let _bare = self.open_code(alloc, row, place, steps)?;
+        Ok(true)
+    }
+
+    /// Opens the code that was taken out last, where the molecule may hold it, and says whether its
+    /// graph has no atoms. Where the code begins with a front that the molecule can't hold, all codes
+    /// behind that front are passed.
+    pub fn open_code<L: Ledger>(
+        &mut self,
+        alloc: Global,
+        row: Row<'a>,
+        place: &[u32],
+        steps: &mut Steps<L>,
+    ) -> Result<bool, Memory>
+        requires belongs { BelongsTo self.old.query.now self.old }
+        requires code { IsAtCode self.old.query.now self.old.codes.place }
+        requires shut { self.old.open ≡ None }
+        requires know { KnowOf row.mol.now self.old.fronts }
+        requires screen { IsScreenOf row.mol.now row.screen.now }
+        ensures shown { IfOk result (λ bare. IsCodeShown self.old.query.now row.entry.mol.now place.now self.old.codes self.new.codes self.new.open steps.old steps.new bare) }
+        ensures know { IfOk result (λ _. KnowOf row.entry.mol.now self.new.fronts) }
+        ensures owed { self.new.owed ≡ self.old.owed }
+        ensures belongs { BelongsTo self.old.query.now self.new }
+        ensures steps { steps.old ≤ steps.new }
+    {
+        let code = self.codes.item();
         if let Some(n) = passed(alloc, self.query, code, row, &mut self.fronts)? {
-            if !put_raised(&mut self.numbers, &code[..n])? {
-                return Ok(false);
-            }
+            put_behind_front(&mut self.numbers, &code[..n])?;
             self.codes.rewind(&self.numbers)?;
-            return Ok(true);
+            return Ok(false);
         }
         let back = behind(code, place);
         let expansion = expansion_by(alloc, self.query, code, &mut self.kept)?;
         if !may_hold(&expansion, row.mol, row.screen) {
             keep(expansion, &mut self.kept)?;
-            return Ok(true);
+            return Ok(false);
         }
         let Expansion {
             code,
@@ -177,6 +213,7 @@ impl<'a> Occurrences<'a> {
             asked,
             need,
         } = expansion;
+        let bare = graph.atom_count() == 0;
         let maps = Maps::from_place(alloc, graph, row.mol, back, steps)?;
         self.open = Some(Open {
             maps,
@@ -184,7 +221,7 @@ impl<'a> Occurrences<'a> {
             asked,
             need,
         });
-        Ok(true)
+        Ok(bare)
     }
 }
 

@@ -6,7 +6,7 @@ ghost use Rattle.mk_model.specs.Queries.{QueryView};
 ghost use Rattle.mk_model.specs.Screens.{IsScreenOf};
 ghost use Rattle.mk_open.specs.Fronts.{IsNeedOfAll};
 ghost use Rattle.mk_fronts.specs.Fronts.{BeginsWithNone};
-ghost use Rattle.mk_search.specs.Passing.{FrontsOf, IsRaised, KnowOf};
+ghost use Rattle.mk_search.specs.Passing.{FrontsOf, IsBehindFront, KnowOf};
 
 use crate::stages::Row;
 use mk_fronts::Fronts;
@@ -72,18 +72,13 @@ pub fn passed<'a>(
     its.passed(alloc, code, row.mol, row.screen)
 }
 
-/// Puts the place behind all that begins with a front: its last number is raised by one. False for
-/// the empty front, behind which there is no place.
-pub fn put_raised(numbers: &mut Vec<u32>, front: &[u32]) -> Result<bool, Memory>
-    requires fits { All (λ n. n < 4294967295) front.now }
-    ensures raised { IfOk result (λ put. IsTrue put → IsRaised front.now numbers.new.items) }
-    ensures none { IfOk result (λ put. put ≡ false → front.now ≡ []) }
+/// Puts the place behind all codes that begin with a front: no number of a code is as great as the
+/// one that stands behind the front there.
+pub fn put_behind_front(numbers: &mut Vec<u32>, front: &[u32]) -> Result<(), Memory>
+    ensures { IfOk result (λ _. IsBehindFront front.now numbers.new.items) }
 {
-    let Some((last, others)) = front.split_last() else {
-        return Ok(false);
-    };
     numbers.clear();
-    numbers.extend_from_slice(others)?;
-    numbers.push(*last + 1)?;
-    Ok(true)
+    numbers.extend_from_slice(front)?;
+    numbers.push(u32::MAX)?;
+    Ok(())
 }

@@ -17,3 +17,12 @@ pub enum Stage<'a> {
     In(Row<'a>),
     Ended,
 }
+
+/// What a turn comes to: a key is taken out in a record; or none is, and the search is further on in
+/// one; or nothing is to come.
+#[derive(Clone, Copy, Debug)]
+pub enum Came<'a> {
+    Out(Row<'a>),
+    On(Row<'a>),
+    Nowhere,
+}

@@ -8,12 +8,14 @@ use Rattle.mk_search.proofs.finding.next_key.Goals as goal
 
 pub next-requires-clause-left : goal.next-requires-clause-left
 next-requires-clause-left g c =
-    let ready = rw c.in-In.is at c.requires.ready in
+    let here = rw c.in-In.is at c.requires.ready in
+    let ready = here.ready in
     rw c.rest_in.ensures ready.left
 
 pub returns-then-branch-clause-found : goal.returns-then-branch-clause-found
 returns-then-branch-clause-found g c =
-    let ready = rw c.in-In.is at c.requires.ready in
+    let here = rw c.in-In.is at c.requires.ready in
+    let ready = here.ready in
     let t = rw (c.rest_in.ensures, c.if-branch.true) at c.in_ok-next-in-In.ensures.next in
     rw c.in-In.is (finds_in c.args.shelf.now.rows c.args.all.now.query.now c.args.place.now c.in-In.row c.args.all.now c.next.new.self c.args.steps.now c.next.new.steps ready
     c.in_ok-next-in-In.ensures.know true t)
@@ -24,7 +26,8 @@ returns-in_default-clause-found g c =
     let query = c.args.all.now.query.now in
     let place = c.args.place.now in
     let row = c.in-In.row in
-    let ready = rw c.in-In.is at c.requires.ready in
+    let here = rw c.in-In.is at c.requires.ready in
+    let ready = here.ready in
     let t = rw (c.rest_in.ensures, c.if-branch.false) at c.in_ok-next-in-In.ensures.next in
     let f = finds_in rows query place row c.args.all.now c.next.new.self c.args.steps.now c.next.new.steps ready c.in_ok-next-in-In.ensures.know false t in
     rw c.in-In.is
@@ -36,7 +39,8 @@ in_records-requires-in-In-clause-at g c =
     let query = c.args.all.now.query.now in
     let place = c.args.place.now in
     let row = c.in-In.row in
-    let ready = rw c.in-In.is at c.requires.ready in
+    let here = rw c.in-In.is at c.requires.ready in
+    let ready = here.ready in
     let t = rw (c.rest_in.ensures, c.if-branch.false) at c.in_ok-next-in-In.ensures.next in
     let f = finds_in rows query place row c.args.all.now c.next.new.self c.args.steps.now c.next.new.steps ready c.in_ok-next-in-In.ensures.know false t in
     rw (c.next.ensures.belongs.query_is, c.in-Some.ensures.some) (at_next rows query place row.number f.at)
@@ -49,7 +53,8 @@ returns-in-Some-clause-found g c =
     let row = c.in-In.row in
     let n = row.number in
     let from = n ∷ c.args.all.now.codes.place in
-    let ready = rw c.in-In.is at c.requires.ready in
+    let here = rw c.in-In.is at c.requires.ready in
+    let ready = here.ready in
     let t = rw (c.rest_in.ensures, c.if-branch.false) at c.in_ok-next-in-In.ensures.next in
     let f = finds_in rows query place row c.args.all.now c.next.new.self c.args.steps.now c.next.new.steps ready c.in_ok-next-in-In.ensures.know false t in
     let k = rw (c.next.ensures.belongs.query_is, c.in-Some.ensures.some) at c.in_records-in-In.ensures.found in

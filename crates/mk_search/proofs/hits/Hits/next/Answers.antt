@@ -1,6 +1,6 @@
 use Rattle.std.proofs.Common.{◌≡◌, ◌∙◌, ◌∷◌, ◌++◌, [], ℕ, List, inl, inr, ap, refl, subst, sym}
 use Rattle.mk_search.specs.Starts.{first_number}
-use Rattle.mk_search.specs.Stages.{IsReadyIn}
+use Rattle.mk_search.specs.Stages.{IsReadyHere}
 use Rattle.mk_search.proofs.SearchedLemmas.{standing_from, standing_in}
 use Rattle.mk_search.proofs.hits.Hits.next.Goals as goal
 
@@ -41,7 +41,7 @@ invariant_of-self-2 g c =
     let place : c.put_behind.new.place.items ≡ row.number ∷ (all.numbers.items ++ 0 ∷ []) = c.in_ok-put_behind.ensures ∙ ap (λ (zs : List ℕ). zs ++ 0 ∷ []) (c.deref-4.ensures.value ∙ key) in
     rw c.swap.ensures.x_after
     (standing_in rows c.put_behind.new.place.items self.need query all c.next_key.ensures.belongs c.self.invariant.need_is row
-    (subst (λ (zs : List ℕ). IsReadyIn rows query zs row all) (sym place) f.ready))
+    (subst (λ (zs : List ℕ). IsReadyHere rows query zs row all) (sym place) f.ready))
 
 pub returns-clause-next : goal.returns-clause-next
 returns-clause-next g c =
