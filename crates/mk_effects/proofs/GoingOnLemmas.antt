@@ -1,7 +1,7 @@
 -- Tables that a command leaves read, where those before it did. A further command is a further lemma.
 --     edit_goes_on            an edit of records
 --     match_goes_on .. table_goes_on      each command
-use Rattle.std.proofs.Common.{◌≡◌, ℕ, ◌+◌, ◌≤◌, true, List, [], ◌∷◌, ◌++◌, length, map, filter, bytes_eq, Option, refl, sym, subst, arith}
+use Rattle.std.proofs.Common.{◌≡◌, ℕ, ◌+◌, ◌≤◌, true, List, [], ◌∷◌, ◌++◌, length, map, filter, bytes_eq, Option, Some, None, refl, sym, subst, arith}
 use Rattle.mk_text.specs.Lines.{lines_of}
 use Rattle.mk_outside.specs.declared.tables.Change.{Change}
 use Rattle.mk_outside.specs.declared.tables.Change.TheVariants.{PutQuery, DropQuery, PutCursor, DropCursor, DropRecord}
@@ -13,7 +13,6 @@ use Rattle.mk_rgfile.specs.KeptQueries.{KeptLinesAreKept}
 use Rattle.mk_rgfile.proofs.ForCallers.{query_keeps}
 use Rattle.mk_query.specs.Laws.{KeptTextIsTheQuery, PassedQueriesFit}
 use Rattle.mk_query.proofs.ForCallers.{in_range}
-use Rattle.mk_text.specs.Rising.{place_behind}
 use Rattle.mk_model.specs.Queries.{QueryView}
 use Rattle.mk_model.specs.QueryFits.{QueryFits}
 use Rattle.mk_search.proofs.ForCallers.{place_has_few}
@@ -26,6 +25,7 @@ use Rattle.mk_library.specs.Pending.{InTurn, RecordsChangeAlone}
 use Rattle.mk_library.specs.Records.{is_held}
 use Rattle.mk_library.proofs.ForCallers.{kept_lines_are_short}
 use Rattle.mk_kept.specs.Names.{IsName}
+use Rattle.mk_effects.specs.declared.effect.Stop.{Stop}
 use Rattle.mk_effects.specs.Effects.{Answers, Effect, Refuses, after_effect}
 use Rattle.mk_effects.specs.Files.{Look}
 use Rattle.mk_kept.specs.StoredRows.{CanGoOn, EachReads, ReadsCursor, ReadsQuery}
@@ -161,28 +161,32 @@ meant_fits : KeepingLaws → (text : List ℕ) (query : QueryView) → IsMeant t
 meant_fits laws text query meant = laws.fit meant.is.raw query (in_range meant.is.raw (query_keeps (lines_of text) meant.is.raw meant.is.file)) meant.is.means meant.is.passes
 
 -- the place behind what is listed is short, where the one before it is
-listed_is_short : KeepingLaws → (t : Tables) (name : List ℕ) (query : QueryView) (place : List ℕ) (limit c : ℕ) (keys : List (List ℕ)) (text : List ℕ) → IsQueryNamed t.queries name query
-    → IsListing t.records query place limit c keys text → length place ≤ longest_place → length (place_behind place keys) ≤ longest_place
-listed_is_short laws t name query place limit c keys text named listing few =
-    place_has_few (IsMoleculeAt t.records) query place limit keys (meant_fits laws named.text query named.means) listing.first few
+listed_is_short : KeepingLaws → (t : Tables) (name : List ℕ) (query : QueryView) (place : List ℕ) (limit : ℕ) (budget : Option ℕ) (c : ℕ) (keys : List (List ℕ)) (stops : Stop)
+    (next text : List ℕ) → IsQueryNamed t.queries name query → IsListing t.records query place limit budget c keys stops next text → length place ≤ longest_place
+    → length next ≤ longest_place
+listed_is_short laws t name query place limit None c keys stops next text named listing few =
+    subst (λ (xs : List ℕ). length xs ≤ longest_place) (sym listing.listed.behind)
+    (place_has_few (IsMoleculeAt t.records) query place limit keys (meant_fits laws named.text query named.means) listing.listed.first few)
+listed_is_short laws t name query place limit (Some b) c keys stops next text named listing few = listing.listed.short
 
-pub search_goes_on : KeepingLaws → (t : Tables) (name : List ℕ) (limit : ℕ) (effect : Effect) → IsSearch t name limit effect → CanGoOn t → CanGoOn (after_effect effect t)
-search_goes_on laws t name limit effect (NoQuerySearched none is) go = refused_goes_on t effect _ is go
-search_goes_on laws t name limit effect (SearchesAreFull query named full is) go = refused_goes_on t effect _ is go
-search_goes_on laws t name limit effect (ListsAll query named room keys text listing fewer is) go = answered_goes_on t effect text is go
-search_goes_on laws t name limit effect (SavesPlace query named room keys text listing many is) go =
-    changed_goes_on t effect (PutCursor t.next_cursor name (place_behind [] keys) ∷ []) text is
-    (new_cursor_goes_on t name (place_behind [] keys) go room.number (named_of name t.queries query named) room.few
-    (listed_is_short laws t name query [] limit t.next_cursor keys text named listing (omega arith)))
+pub search_goes_on : KeepingLaws → (t : Tables) (name : List ℕ) (limit : ℕ) (budget : Option ℕ) (effect : Effect) → IsSearch t name limit budget effect → CanGoOn t
+    → CanGoOn (after_effect effect t)
+search_goes_on laws t name limit budget effect (NoQuerySearched none is) go = refused_goes_on t effect _ is go
+search_goes_on laws t name limit budget effect (SearchesAreFull query named full is) go = refused_goes_on t effect _ is go
+search_goes_on laws t name limit budget effect (ListsAll query named room keys next text listing is) go = answered_goes_on t effect text is go
+search_goes_on laws t name limit budget effect (SavesPlace query named room keys stops next text listing on is) go =
+    changed_goes_on t effect (PutCursor t.next_cursor name next ∷ []) text is
+    (new_cursor_goes_on t name next go room.number (named_of name t.queries query named) room.few
+    (listed_is_short laws t name query [] limit budget t.next_cursor keys stops next text named listing (omega arith)))
 
-pub resume_goes_on : KeepingLaws → (t : Tables) (c limit : ℕ) (effect : Effect) → IsResume t c limit effect → CanGoOn t → CanGoOn (after_effect effect t)
-resume_goes_on laws t c limit effect (NoSearchResumed none is) go = refused_goes_on t effect _ is go
-resume_goes_on laws t c limit effect (ListsRest row held query named keys text listing fewer is) go = changed_goes_on t effect (DropCursor c ∷ []) text is (drop_cursor_goes_on t c go)
-resume_goes_on laws t c limit effect (MovesPlace row held query named keys text listing many is) go =
+pub resume_goes_on : KeepingLaws → (t : Tables) (c limit : ℕ) (budget : Option ℕ) (effect : Effect) → IsResume t c limit budget effect → CanGoOn t → CanGoOn (after_effect effect t)
+resume_goes_on laws t c limit budget effect (NoSearchResumed none is) go = refused_goes_on t effect _ is go
+resume_goes_on laws t c limit budget effect (ListsRest row held query named keys next text listing is) go = changed_goes_on t effect (DropCursor c ∷ []) text is (drop_cursor_goes_on t c go)
+resume_goes_on laws t c limit budget effect (MovesPlace row held query named keys stops next text listing on is) go =
     let all = all_of_each (ReadsCursor t.queries t.next_cursor) (λ (x : CursorRow). length x.place ≤ longest_place) (λ front before reads. reads.short) t.cursors go.reads.cursors in
-    changed_goes_on t effect (PutCursor c row.name (place_behind row.place keys) ∷ []) text is
-    (later_cursor_goes_on t c row.name (place_behind row.place keys) go (search_is_held c row t.cursors held) (named_of row.name t.queries query named)
-    (listed_is_short laws t row.name query row.place limit c keys text named listing (place_is_kept c row t.cursors all held)))
+    changed_goes_on t effect (PutCursor c row.name next ∷ []) text is
+    (later_cursor_goes_on t c row.name next go (search_is_held c row t.cursors held) (named_of row.name t.queries query named)
+    (listed_is_short laws t row.name query row.place limit budget c keys stops next text named listing (place_is_kept c row t.cursors all held)))
 
 pub table_goes_on : (t : Tables) (name : List ℕ) (effect : Effect) → IsTableAnswer t name effect → CanGoOn t → CanGoOn (after_effect effect t)
 table_goes_on t name effect (NoQueryTabled none is) go = refused_goes_on t effect _ is go

@@ -3,8 +3,8 @@
 --     lines_none, lines_more the lines of the first keys
 --     have_parts             the keys that are listed have parts
 --     one_hits_text          keys have one text
---     ended_is, more_is      by the stop of a list it is whole or not
-use Rattle.std.proofs.Common.{◌≡◌, ℕ, ◌+◌, ◌<◌, Bool, true, false, inl, inr, List, [], ◌∷◌, ◌++◌, Some, None, length, get_or, take, drop, All, refl, sym, ap, subst, ◌∙◌, append_assoc, append-nil, add-one}
+--     goes_on                a list that goes on doesn't end
+use Rattle.std.proofs.Common.{◌≡◌, ◌≢◌, ◌⊎◌, ℕ, ◌+◌, ◌<◌, inl, inr, List, [], ◌∷◌, ◌++◌, Some, None, length, get_or, take, drop, All, refl, sym, ap, subst, ◌∙◌, append_assoc, append-nil, add-one}
 use Rattle.std.specs.Prelude.{Result, Ok, Err, OnOk}
 use Rattle.std.proofs.lemmas.List.{append_cancel_left, take-append-drop}
 use Rattle.std.proofs.lemmas.List.Elements.{All-cons, All-nil}
@@ -17,7 +17,7 @@ use Rattle.mk_model.specs.Queries.{QueryView}
 use Rattle.mk_model.proofs.ForCallers.{code_of_valid, one_code}
 use Rattle.mk_effects.specs.declared.effect.Stop.{Stop}
 use Rattle.mk_effects.specs.declared.effect.Stop.TheVariants as stop
-use Rattle.mk_effects.specs.Hits.{AreHitLines, HasParts, HaveParts, IsHitLine, IsHitsText, PutsLine, hit_line, stop_line, stop_of}
+use Rattle.mk_effects.specs.Hits.{AreHitLines, HasParts, HaveParts, IsHitLine, IsHitsText, PutsLine, hit_line, stop_line}
 
 -- ---- one key
 
@@ -114,12 +114,7 @@ one_hits_text query keys listed a b p q =
 
 -- ---- where they stop
 
--- what ends is whole
-pub ended_is : (ended : Bool) (c : ℕ) → stop.Ended ≡ stop_of ended c → ended ≡ true
-ended_is true c same = refl
-ended_is false c same = absurd cc
-
--- and what may go on isn't
-pub more_is : (ended : Bool) (c d : ℕ) → stop.More d ≡ stop_of ended c → ended ≡ false
-more_is true c d same = absurd cc
-more_is false c d same = refl
+-- what goes on doesn't end
+pub goes_on : (stops : Stop) → ((c : ℕ) × (stops ≡ stop.More c)) ⊎ ((c : ℕ) × (stops ≡ stop.Paused c)) → stops ≢ stop.Ended
+goes_on stops (inl more) ends = let h = sym more.1 ∙ ends in cc
+goes_on stops (inr paused) ends = let h = sym paused.1 ∙ ends in cc

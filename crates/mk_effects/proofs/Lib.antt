@@ -5,6 +5,7 @@ pub mod MatchLemmas
 pub mod FindingsLemmas
 pub mod QueriesLemmas
 pub mod SearchingLemmas
+pub mod PacedLemmas
 pub mod LoadingLemmas
 pub mod OneEditLemmas
 pub mod OneQueryFileLemmas

@@ -1,6 +1,6 @@
 -- The one molecule that `match` searches, which is record 1.
 --     first_of_record1    the first keys on its shelf are the first in the molecule
---     begins_over         how often is begun over what is held, over what else is held so as well
+--     pair_of, begins_over    pairs, and how often is begun over what is held, over what else is held so as well
 use Rattle.std.proofs.Common.{◌≡◌, ℕ, Bool, true, false, nat_eq, if◌then◌else◌, List, [], ◌∷◌, None, Some, refl, sym, ap, subst}
 use Rattle.std.proofs.lemmas.Bool.{eqb-true}
 use Rattle.mk_text.specs.Rising.{AreFirst, IsBelow}
@@ -42,29 +42,31 @@ key_of Held Other query key same is = record {
 }
 
 -- pairs of what is held are pairs of what is held so as well
+pub pair_of : (Held Other : ℕ → Molecule → Type 0) (query : QueryView) (place : List ℕ) → ((n : ℕ) (mol : Molecule) → Held n mol → Other n mol) → (xs : List ℕ)
+    → IsPairFrom Held query place xs → IsPairFrom Other query place xs
+pair_of Held Other query place same xs is = record {
+  number = is.number;
+  mol = is.mol;
+  screen = is.screen;
+  code = is.code;
+  held = same is.number is.mol is.held;
+  shows = is.shows;
+  covered = is.covered;
+  left = is.left;
+  whole = is.whole;
+}
+
+-- so as often is begun
 pub begins_over : (Held Other : ℕ → Molecule → Type 0) (query : QueryView) (place : List ℕ) (page : Page) (old new : ℕ) → ((n : ℕ) (mol : Molecule) → Held n mol → Other n mol)
     → BeginsOfPage Held query place page old new → BeginsOfPage Other query place page old new
 begins_over Held Other query place page old new same begins = record {
   pairs = begins.pairs;
   rises = begins.rises;
-  each = each_from (IsPairFrom Held query place) (IsPairFrom Other query place) begins.pairs pair begins.each;
+  each = each_from (IsPairFrom Held query place) (IsPairFrom Other query place) begins.pairs (pair_of Held Other query place same) begins.each;
   ticks = begins.ticks;
   up_to = begins.up_to;
   fronts = begins.fronts;
 }
-  where
-    pair : (xs : List ℕ) → IsPairFrom Held query place xs → IsPairFrom Other query place xs
-    pair xs is = record {
-      number = is.number;
-      mol = is.mol;
-      screen = is.screen;
-      code = is.code;
-      held = same is.number is.mol is.held;
-      shows = is.shows;
-      covered = is.covered;
-      left = is.left;
-      whole = is.whole;
-    }
 
 -- nothing is below the empty place
 none_below : (xs : List ℕ) → IsBelow xs [] → ⊥

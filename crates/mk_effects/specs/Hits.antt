@@ -4,11 +4,14 @@
 --     AreHitLines query keys lines     the lines of keys, in order
 --     stop_line stop                   the last line, by where the list stops
 --     stop_of ended c                  where a list stops that is whole or not
+--     stop_of_paced paced c            where a list stops that may pause
 --     IsHitsText query keys stop text      a line for each key, and the last line
 use Rattle.std.specs.Prelude.{◌≡◌, ℕ, Bool, List, [], ◌∷◌, ◌++◌, All, codes, decimal, if◌then◌else◌}
 use Rattle.std.specs.List.{flat_map}
 use Rattle.mk_model.specs.Codes.{IsCode}
 use Rattle.mk_model.specs.Queries.{QueryView}
+use Rattle.mk_search.specs.declared.paced.Stop.{Stop as PacedStop}
+use Rattle.mk_search.specs.declared.paced.Stop.TheVariants as paced
 use Rattle.mk_effects.specs.declared.effect.Stop.{Stop}
 use Rattle.mk_effects.specs.declared.effect.Stop.TheVariants as stop
 
@@ -49,14 +52,22 @@ AreHitLines query (key ∷ keys) lines = (line : List ℕ) × (others : List ℕ
 
 -- ---- where they stop
 
--- the last line of an answer: `end`, or `more` and the number under which the list goes on
+-- the last line of an answer: `end`, or `more` or `paused` and the number under which the list goes
+-- on
 abbrev pub stop_line : Stop → List ℕ
 stop_line stop.Ended = codes "end\n"
 stop_line (stop.More c) = codes "more " ++ (decimal c ++ codes "\n")
+stop_line (stop.Paused c) = codes "paused " ++ (decimal c ++ codes "\n")
 
 -- a whole list ends, and behind any other there may be more, under the number c
 abbrev pub stop_of : Bool → ℕ → Stop
 stop_of ended c = if ended then stop.Ended else stop.More c
+
+-- of a list that may pause: it is whole, or as long as asked for, or the budget is spent
+abbrev pub stop_of_paced : PacedStop → ℕ → Stop
+stop_of_paced paced.Full c = stop.More c
+stop_of_paced paced.Ended c = stop.Ended
+stop_of_paced paced.Paused c = stop.Paused c
 
 -- the lines of the listed keys, and the line that says where they stop
 pub record IsHitsText (query : QueryView) (keys : List (List ℕ)) (listed : Stop) (text : List ℕ) : Type 0 where

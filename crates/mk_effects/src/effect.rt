@@ -34,6 +34,8 @@ pub enum Stop {
     Ended,
     /// There may be more, which are listed under this number.
     More(u32),
+    /// The budget is spent, and the search goes on under this number.
+    Paused(u32),
 }
 
 /// Why a command came to no end.

@@ -1,12 +1,12 @@
 // The lines of hits.
 ghost use Rattle.std.specs.Prelude.{◌≡◌, ◌∷◌, ◌++◌, IfOk, OnOk};
-ghost use Rattle.mk_effects.specs.Hits.{AreHitLines, HasParts, HaveParts, IsHitsText, PutsLine, hit_line, numbers_text, stop_line, stop_of};
+ghost use Rattle.mk_effects.specs.Hits.{AreHitLines, HasParts, HaveParts, IsHitsText, PutsLine, hit_line, numbers_text, stop_line, stop_of, stop_of_paced};
 
 use crate::Stop;
 use crate::records::put_numbered;
 use mk_choice::code_within;
 use mk_model::{Key, Query};
-use mk_search::Page;
+use mk_search::{Page, Stop as PacedStop};
 use mk_text::{Memory, put_number};
 use std::alloc::Global;
 
@@ -18,6 +18,17 @@ pub fn stop_of(listed: &Page, cursor: u32) -> Stop
         Stop::Ended
     } else {
         Stop::More(cursor)
+    }
+}
+
+/// Where a list stops that may pause; the number is that under which it goes on.
+pub fn stop_of_paced(stop: PacedStop, cursor: u32) -> Stop
+    ensures { result ≡ stop_of_paced stop cursor }
+{
+    match stop {
+        PacedStop::Full => Stop::More(cursor),
+        PacedStop::Ended => Stop::Ended,
+        PacedStop::Paused => Stop::Paused(cursor),
     }
 }
 
@@ -43,6 +54,7 @@ fn put_stop(alloc: Global, answer: &mut Vec<u8>, stop: Stop) -> Result<(), Memor
     match stop {
         Stop::Ended => answer.extend_from_slice(b"end\n"),
         Stop::More(cursor) => put_numbered(alloc, answer, b"more ", u64::from(cursor)),
+        Stop::Paused(cursor) => put_numbered(alloc, answer, b"paused ", u64::from(cursor)),
     }
 }
 

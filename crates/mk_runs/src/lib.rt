@@ -10,6 +10,8 @@
 #[cfg(test)]
 mod benzene_tests;
 #[cfg(test)]
+mod budget_tests;
+#[cfg(test)]
 mod failure_tests;
 #[cfg(test)]
 mod fault_tests;

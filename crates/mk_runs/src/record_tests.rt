@@ -1,7 +1,7 @@
 // Records that are loaded and replaced: blank lines, bad lines, the order of refusals, and the
 // limits.
 use crate::test_files::{
-    C, Content, Drawn, Written, bytes_of, file, files, is_run, is_run_over, named,
+    C, Content, Drawn, Written, bytes_of, file, files, is_run, is_run_over, named, repeated,
 };
 use mk_outside::{Bytes, FileRows, Memory, QueryRow, RecordRow, SureFiles, SureKeeper, Tables};
 use mk_session::Status;
@@ -163,15 +163,6 @@ fn numbers_end(rt: HostRuntime) -> Result<(), Fail> {
 }
 
 const NOTHING_ELSE: Content = Written("");
-
-// The piece so many times.
-fn repeated(alloc: Global, piece: &[u8], times: u32) -> Result<Bytes, Memory> {
-    let mut all = Vec::new(alloc);
-    for i in 0..times {
-        all.extend_from_slice(piece)?;
-    }
-    Ok(Bytes::of(all))
-}
 
 // A library is full with 100,000 records.
 #[test]

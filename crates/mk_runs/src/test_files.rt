@@ -84,6 +84,15 @@ pub fn bytes_of(alloc: Global, held: Content) -> Result<Bytes, Fail> {
     }))
 }
 
+// The piece so many times.
+pub fn repeated(alloc: Global, piece: &[u8], times: u32) -> Result<Bytes, Memory> {
+    let mut all = Vec::new(alloc);
+    for i in 0..times {
+        all.extend_from_slice(piece)?;
+    }
+    Ok(Bytes::of(all))
+}
+
 // A file of these bytes.
 pub fn named(alloc: Global, name: &str, bytes: Bytes) -> Result<FileRow, Memory> {
     Ok(FileRow {

@@ -16,7 +16,7 @@ use Rattle.mk_session.specs.declared.command.LineKind.{LineKind}
 use Rattle.mk_session.specs.declared.command.LineKind.TheVariants as line_kind
 use Rattle.mk_session.specs.declared.command.WordsKind.{WordsKind}
 use Rattle.mk_session.specs.declared.command.WordsKind.TheVariants as words_kind
-use Rattle.mk_session.specs.Commands.{CanAsk, CanAskLine, CanAskWords, CommandsAreRead, IsCommandOf, OneReading, behind_store, command_in, file_in, held_number, kind_behind_store, kind_of_line, kind_of_order, kind_of_words, kind_of_words_order, limit_in, name_in, number_in, row_of_one, row_of_three, row_of_two, with_one, with_two, within, MatchRow, LoadRow, ReplaceRow, RemoveRow, QueryRow, ForgetRow, SearchRow, ResumeRow, ShowRow, TableRow, ListRow, DrillRow}
+use Rattle.mk_session.specs.Commands.{CanAsk, CanAskLine, CanAskWords, CommandsAreRead, IsCommandOf, OneReading, behind_store, command_in, file_in, held_number, kind_behind_store, kind_of_line, kind_of_order, kind_of_words, kind_of_words_order, limit_in, name_in, number_in, row_of_one, row_of_three, row_of_two, with_one, with_two, within, row_of_four, search_all, search_within, resume_all, resume_within, with_three, budget_in, MatchRow, LoadRow, ReplaceRow, RemoveRow, QueryRow, ForgetRow, SearchRow, SearchWithinRow, ResumeRow, ResumeWithinRow, ShowRow, TableRow, ListRow, DrillRow}
 use Rattle.mk_kept.specs.Names.{IsName, is_name}
 
 -- ---- from a row to what computes it
@@ -30,6 +30,11 @@ one_is make o a command is same = ap (with_one make) is ∙ ap Some (sym same)
 two_is : {A B : Type 0} (make : A → B → Command) (o : Option A) (p : Option B) (a : A) (b : B) (command : Command) → o ≡ Some a → p ≡ Some b → command ≡ make a b → with_two make o p ≡ Some command
 two_is make o p a b command is is' same = ap (λ x. with_two make x p) is ∙ ap (λ y. with_two make (Some a) y) is' ∙ ap Some (sym same)
 
+three_is : {A B C : Type 0} (make : A → B → C → Command) (o : Option A) (p : Option B) (q : Option C) (a : A) (b : B) (c : C) (command : Command) → o ≡ Some a → p ≡ Some b → q ≡ Some c
+    → command ≡ make a b c → with_three make o p q ≡ Some command
+three_is make o p q a b c command is is' is'' same =
+    ap (λ x. with_three make x p q) is ∙ ap (λ y. with_three make (Some a) y q) is' ∙ ap (λ z. with_three make (Some a) (Some b) z) is'' ∙ ap Some (sym same)
+
 row_is : (words : List (List ℕ)) (command : Command) → IsCommandOf words command → command_in words ≡ Some command
 row_is words command (MatchRow a b query molecules same is is' made) = of_words words _ command same (two_is variant.Match (file_in a) (file_in b) query molecules command is is' made)
 row_is words command (LoadRow a file same is made) = of_words words _ command same (one_is variant.Load (file_in a) file command is made)
@@ -37,8 +42,12 @@ row_is words command (ReplaceRow a b number file same is is' made) = of_words wo
 row_is words command (RemoveRow a number same is made) = of_words words _ command same (one_is variant.Remove (held_number a) number command is made)
 row_is words command (QueryRow a b name file same is is' made) = of_words words _ command same (two_is variant.Query (name_in a) (file_in b) name file command is is' made)
 row_is words command (ForgetRow a name same is made) = of_words words _ command same (one_is variant.Forget (name_in a) name command is made)
-row_is words command (SearchRow a b name limit same is is' made) = of_words words _ command same (two_is variant.Search (name_in a) (limit_in b) name limit command is is' made)
-row_is words command (ResumeRow a b cursor limit same is is' made) = of_words words _ command same (two_is variant.Resume (held_number a) (limit_in b) cursor limit command is is' made)
+row_is words command (SearchRow a b name limit same is is' made) = of_words words _ command same (two_is search_all (name_in a) (limit_in b) name limit command is is' made)
+row_is words command (SearchWithinRow a b d name limit budget same is is' is'' made) =
+    of_words words _ command same (three_is search_within (name_in a) (limit_in b) (budget_in d) name limit budget command is is' is'' made)
+row_is words command (ResumeRow a b cursor limit same is is' made) = of_words words _ command same (two_is resume_all (held_number a) (limit_in b) cursor limit command is is' made)
+row_is words command (ResumeWithinRow a b d cursor limit budget same is is' is'' made) =
+    of_words words _ command same (three_is resume_within (held_number a) (limit_in b) (budget_in d) cursor limit budget command is is' is'' made)
 row_is words command (ShowRow a number same is made) = of_words words _ command same (one_is variant.Show (held_number a) number command is made)
 row_is words command (TableRow a name same is made) = of_words words _ command same (one_is variant.Table (name_in a) name command is made)
 row_is words command (ListRow same made) = of_words words _ command same (ap Some (sym made))
@@ -66,6 +75,21 @@ has_two : {A B : Type 0} (make : A → B → Command) (o : Option A) (p : Option
 has_two make None p command is = absurd cc
 has_two make (Some a) None command is = absurd cc
 has_two make (Some a) (Some b) command is = record { a = a; b = b; is = refl; is' = refl; made = cc }
+
+record HasThree {A B C : Type 0} (make : A → B → C → Command) (o : Option A) (p : Option B) (q : Option C) (command : Command) : Type 0 where
+  a : A
+  b : B
+  c : C
+  is : o ≡ Some a
+  is' : p ≡ Some b
+  is'' : q ≡ Some c
+  made : command ≡ make a b c
+
+has_three : {A B C : Type 0} (make : A → B → C → Command) (o : Option A) (p : Option B) (q : Option C) (command : Command) → with_three make o p q ≡ Some command → HasThree make o p q command
+has_three make None p q command is = absurd cc
+has_three make (Some a) None q command is = absurd cc
+has_three make (Some a) (Some b) None command is = absurd cc
+has_three make (Some a) (Some b) (Some c) command is = record { a = a; b = b; c = c; is = refl; is' = refl; is'' = refl; made = cc }
 
 -- a test of the command word
 by_word : {G : Type 0} (word keyword : List ℕ) (x y : Option Command) (command : Command) → (if bytes_eq word keyword then x else y) ≡ Some command
@@ -110,19 +134,32 @@ row_three word a b command is =
     (λ is. by_word word (codes "query") _ _ command is
     (λ same is. let h = has_two variant.Query (name_in a) (file_in b) command is in QueryRow a b h.a h.b (as_word word _ _ same) h.is h.is' h.made)
     (λ is. by_word word (codes "search") _ _ command is
-    (λ same is. let h = has_two variant.Search (name_in a) (limit_in b) command is in SearchRow a b h.a h.b (as_word word _ _ same) h.is h.is' h.made)
+    (λ same is. let h = has_two search_all (name_in a) (limit_in b) command is in SearchRow a b h.a h.b (as_word word _ _ same) h.is h.is' h.made)
     (λ is. by_word word (codes "resume") _ _ command is
-    (λ same is. let h = has_two variant.Resume (held_number a) (limit_in b) command is in ResumeRow a b h.a h.b (as_word word _ _ same) h.is h.is' h.made)
+    (λ same is. let h = has_two resume_all (held_number a) (limit_in b) command is in ResumeRow a b h.a h.b (as_word word _ _ same) h.is h.is' h.made)
     (λ is. by_word word (codes "drill") _ _ command is
     (λ same is. let h = has_two variant.Drill (number_in 0 999999999 a) (limit_in b) command is in DrillRow a b h.a h.b (as_word word _ _ same) h.is h.is' h.made)
     (λ is. absurd cc))))))
+
+row_four : (word a b d : List ℕ) (command : Command) → row_of_four word a b d ≡ Some command → IsCommandOf (word ∷ a ∷ b ∷ d ∷ []) command
+row_four word a b d command is =
+    by_word word (codes "search") _ _ command is
+    (λ same is.
+    let h = has_three search_within (name_in a) (limit_in b) (budget_in d) command is in
+    SearchWithinRow a b d h.a h.b h.c (as_word word _ _ same) h.is h.is' h.is'' h.made)
+    (λ is. by_word word (codes "resume") _ _ command is
+    (λ same is.
+    let h = has_three resume_within (held_number a) (limit_in b) (budget_in d) command is in
+    ResumeWithinRow a b d h.a h.b h.c (as_word word _ _ same) h.is h.is' h.is'' h.made)
+    (λ is. absurd cc))
 
 is_row : (words : List (List ℕ)) (command : Command) → command_in words ≡ Some command → IsCommandOf words command
 is_row [] command is = absurd cc
 is_row (a ∷ []) command is = row_one a command is
 is_row (a ∷ b ∷ []) command is = row_two a b command is
 is_row (a ∷ b ∷ c ∷ []) command is = row_three a b c command is
-is_row (a ∷ b ∷ c ∷ d ∷ words) command is = absurd cc
+is_row (a ∷ b ∷ c ∷ d ∷ []) command is = row_four a b c d command is
+is_row (a ∷ b ∷ c ∷ d ∷ e ∷ words) command is = absurd cc
 
 pub commands_are_read : CommandsAreRead
 commands_are_read words command = (is_row words command, row_is words command)
@@ -132,12 +169,13 @@ one_reading words a b p q = let x = (commands_are_read words a).1 p in let y = (
 
 -- ---- words that are too many
 
-pub many_words : (words : List (List ℕ)) → 3 < length words → command_in words ≡ None
+pub many_words : (words : List (List ℕ)) → 4 < length words → command_in words ≡ None
 many_words [] many = absurd (omega arith)
 many_words (a ∷ []) many = absurd (omega arith)
 many_words (a ∷ b ∷ []) many = absurd (omega arith)
 many_words (a ∷ b ∷ c ∷ []) many = absurd (omega arith)
-many_words (a ∷ b ∷ c ∷ d ∷ words) many = refl
+many_words (a ∷ b ∷ c ∷ d ∷ []) many = absurd (omega arith)
+many_words (a ∷ b ∷ c ∷ d ∷ e ∷ words) many = refl
 
 -- ---- ranges
 
@@ -167,9 +205,14 @@ ranges words command (ReplaceRow a b number file same is is' made) = subst CanAs
 ranges words command (RemoveRow a number same is made) = subst CanAsk (sym made) (within_range 1 999999999 (digits_number a) number is)
 ranges words command (QueryRow a b name file same is is' made) = subst CanAsk (sym made) (name_is a name is)
 ranges words command (ForgetRow a name same is made) = subst CanAsk (sym made) (name_is a name is)
-ranges words command (SearchRow a b name limit same is is' made) = subst CanAsk (sym made) (name_is a name is, within_range 1 10000 (digits_number b) limit is')
+ranges words command (SearchRow a b name limit same is is' made) = subst CanAsk (sym made) (name_is a name is, within_range 1 10000 (digits_number b) limit is', tt)
+ranges words command (SearchWithinRow a b d name limit budget same is is' is'' made) =
+    subst CanAsk (sym made) (name_is a name is, within_range 1 10000 (digits_number b) limit is', within_range 2048 999999999 (digits_number d) budget is'')
 ranges words command (ResumeRow a b cursor limit same is is' made) =
-    subst CanAsk (sym made) (within_range 1 999999999 (digits_number a) cursor is, within_range 1 10000 (digits_number b) limit is')
+    subst CanAsk (sym made) (within_range 1 999999999 (digits_number a) cursor is, within_range 1 10000 (digits_number b) limit is', tt)
+ranges words command (ResumeWithinRow a b d cursor limit budget same is is' is'' made) =
+    subst CanAsk (sym made)
+    (within_range 1 999999999 (digits_number a) cursor is, within_range 1 10000 (digits_number b) limit is', within_range 2048 999999999 (digits_number d) budget is'')
 ranges words command (ShowRow a number same is made) = subst CanAsk (sym made) (within_range 1 999999999 (digits_number a) number is)
 ranges words command (TableRow a name same is made) = subst CanAsk (sym made) (name_is a name is)
 ranges words command (ListRow same made) = subst CanAsk (sym made) tt
@@ -203,9 +246,9 @@ can_ask_words words kind is = subst CanAskWords (sym is) (behind_order (behind_s
 
 -- ---- lines and words of many words
 
-pub line_of_many : (line : List ℕ) → are_blank line ≡ false → 3 < length (words_of line) → line_kind.NoCommand ≡ kind_of_line line
+pub line_of_many : (line : List ℕ) → are_blank line ≡ false → 4 < length (words_of line) → line_kind.NoCommand ≡ kind_of_line line
 line_of_many line blank many = rw (blank, many_words (words_of line) many) refl
 
-pub words_of_many : (words : List (List ℕ)) → 3 < length words → words_kind.NotUnderstood ≡ kind_behind_store words
+pub words_of_many : (words : List (List ℕ)) → 4 < length words → words_kind.NotUnderstood ≡ kind_behind_store words
 words_of_many [] many = absurd (omega arith)
 words_of_many (word ∷ words) many = rw (many_words (word ∷ words) many) refl

@@ -1,9 +1,9 @@
 -- Each order comes to an effect, where its files are there and the queries of the tables mean something.
 --     some_text            keys have lines
---     some_listing         the first keys that remain are listed
+--     some_listing         keys are listed, with a budget or without
 --     some_rows            the rows of a query over the records
 --     some_effect          EachOrderHasEffect
-use Rattle.std.proofs.Common.{◌≡◌, ◌<◌, ◌≤◌, ◌+◌, ℕ, Bool, true, false, cond, eqb, List, [], ◌∷◌, ◌++◌, Option, Some, None, refl, sym, ap, subst, arith, inl, inr, length, take}
+use Rattle.std.proofs.Common.{◌≡◌, ◌≢◌, ◌<◌, ◌≤◌, ◌+◌, ℕ, Bool, true, false, cond, eqb, List, [], ◌∷◌, ◌++◌, Option, Some, None, refl, sym, ap, subst, arith, inl, inr, length, take}
 use Rattle.std.specs.Prelude.{◌⊎◌, ◌↔◌, IsSome, bytes_eq, codes, nat_eq, nat_lt}
 use Rattle.std.specs.List.{AllByRecursion}
 use Rattle.std.proofs.lemmas.Bool.{cases_Bool, cases_lt, cond_both, eqb-true, eq-eqb, true≢false}
@@ -34,7 +34,7 @@ use Rattle.mk_query.proofs.QueryLemmas.{fits_query}
 use Rattle.mk_query.proofs.TableWalkLemmas.{pass_nested}
 use Rattle.mk_rgfile.proofs.ForCallers.{query_keeps}
 use Rattle.mk_search.specs.Pages.{IsHeldIn}
-use Rattle.mk_search.proofs.AllKeysLemmas.{keys_listed}
+use Rattle.mk_search.proofs.ForCallers.{keys_listed, paced_pages_there}
 use Rattle.mk_search.proofs.ListingLemmas.{list_same}
 use Rattle.mk_rtable.specs.declared.rows.TableRow.{TableRow}
 use Rattle.mk_rtable.specs.Table.{IsRGroupTable}
@@ -49,7 +49,8 @@ use Rattle.mk_effects.specs.Effects.{Answers, Refuses}
 use Rattle.mk_effects.specs.Effects.{Effect}
 use Rattle.mk_effects.specs.Files.{IsLong, IsShort, Look}
 use Rattle.mk_effects.specs.declared.effect.Stop.{Stop}
-use Rattle.mk_effects.specs.Hits.{AreHitLines, HasParts, HaveParts, IsHitsText, hit_line, stop_line, stop_of}
+use Rattle.mk_effects.specs.declared.effect.Stop.TheVariants as stop
+use Rattle.mk_effects.specs.Hits.{AreHitLines, HasParts, HaveParts, IsHitsText, hit_line, stop_line, stop_of, stop_of_paced}
 use Rattle.mk_effects.specs.Loading.{NoRecordReplaced, ReplacesHeld}
 use Rattle.mk_effects.specs.Loading.{IsEditMade, IsEdited, IsReplace, loaded_text, replaced_text}
 use Rattle.mk_effects.specs.Match.{IsMatch, IsRecord1, IsSearchOfFile, ListsKeys, QueryRefused, Searches, TurnOfMolecules, TurnOfQuery}
@@ -60,7 +61,7 @@ use Rattle.mk_effects.specs.QueryFiles.{IsQueryHeldBy}
 use Rattle.mk_kept.specs.QueryText.{IsQueryOfText}
 use Rattle.mk_effects.specs.Records.{IsRemove, IsShow, list_text, no_record_text, numbered_line, record_text}
 use Rattle.mk_effects.specs.Records.{NoRecordRemoved, NoRecordShown, Removes, Shows}
-use Rattle.mk_kept.specs.Saved.{HasMeaning, HasRoomFor, greatest_number, is_named, most_queries, most_query_number, most_search_number, most_searches, most_text_bytes, bytes_of_texts}
+use Rattle.mk_kept.specs.Saved.{HasMeaning, HasRoomFor, greatest_number, is_named, longest_place, most_queries, most_query_number, most_search_number, most_searches, most_text_bytes, bytes_of_texts}
 use Rattle.mk_kept.specs.Saved.{HasSearchRoom}
 use Rattle.mk_effects.specs.Searching.{IsListing, IsMoleculeAt, IsResume, IsSearch, full_searches_text, no_search_text}
 use Rattle.mk_effects.specs.Table.{IsTableAnswer, NoQueryTabled, WritesRows}
@@ -69,6 +70,7 @@ use Rattle.mk_effects.specs.Searching.{ListsAll, ListsRest, MovesPlace, NoQueryS
 use Rattle.mk_session.specs.Step.{Comes, no_command_text}
 use Rattle.mk_session.specs.Values.{CanBeAsked, EachOrderHasEffect, HasItsFile}
 use Rattle.mk_effects.proofs.HitLinesLemmas.{have_parts}
+use Rattle.mk_effects.proofs.PacedLemmas.{paced_keys}
 use Rattle.mk_session.proofs.TextValueLemmas.{cases_file, some_query_held}
 
 -- ---- lines of hits
@@ -89,7 +91,7 @@ some_text query keys listed have =
 -- ---- queries
 
 -- the query of a text fits
-text_fits : (text : List ℕ) (query : QueryView) → IsQueryOfText text query → QueryFits query
+pub text_fits : (text : List ℕ) (query : QueryView) → IsQueryOfText text query → QueryFits query
 text_fits text query is =
     let range = in_range is.raw (query_keeps (lines_of text) is.raw is.file) in
     fits_query is.raw range (pass_nested is.raw is.passes.in_tables) query.templates is.means.templates query.groups is.means.groups is.passes.across
@@ -105,21 +107,53 @@ some_named name (row ∷ rows) all named = by_test (bytes_eq row.name name) refl
 
 -- ---- searches
 
--- the first keys that remain over the records, with their lines
-some_listing : (records : List RecordRow) (query : QueryView) (place : List ℕ) (limit c : ℕ) → QueryFits query
-    → (keys : List (List ℕ)) × ((text : List ℕ) × IsListing records query place limit c keys text)
-some_listing records query place limit c fits =
+-- what the rows of the records hold is what the records hold, both ways
+row_is_at : (records : List RecordRow) (n : ℕ) (mol : Molecule) → IsHeldIn (rows_of records) n mol → IsMoleculeAt records n mol
+row_is_at records n mol held = let at = (rows_hold records n mol).0 held in record { text = at.text; held = at.held; is = at.is }
+
+at_is_row : (records : List RecordRow) (n : ℕ) (mol : Molecule) → IsMoleculeAt records n mol → IsHeldIn (rows_of records) n mol
+at_is_row records n mol at = (rows_hold records n mol).1 (record { text = at.text; held = at.held; is = at.is })
+
+-- keys that are listed, with their lines
+record SomeListing (records : List RecordRow) (query : QueryView) (place : List ℕ) (limit : ℕ) (budget : Option ℕ) (c : ℕ) : Type 0 where
+  keys : List (List ℕ)
+  stops : Stop
+  next : List ℕ
+  text : List ℕ
+  listing : IsListing records query place limit budget c keys stops next text
+
+-- over the records
+some_listing : (records : List RecordRow) (query : QueryView) (place : List ℕ) (limit : ℕ) (budget : Option ℕ) (c : ℕ) → QueryFits query → length place ≤ longest_place
+    → SomeListing records query place limit budget c
+some_listing records query place limit None c fits few =
     let all = keys_listed (rows_of records) query place fits in
     let listed : IsRisingListOfAll (Remains (IsMoleculeAt records) query place) all.0 =
-    list_by (IsHeldIn (rows_of records)) (IsMoleculeAt records) query place all.0
-    (λ n mol. (
-      λ held. (let at = (rows_hold records n mol).0 held in record { text = at.text; held = at.held; is = at.is }),
-      λ at. (rows_hold records n mol).1 (record { text = at.text; held = at.held; is = at.is }),
-    )) all.1 in
+    list_by (IsHeldIn (rows_of records)) (IsMoleculeAt records) query place all.0 (λ n mol. (row_is_at records n mol, at_is_row records n mol)) all.1 in
     let keys = take limit all.0 in
+    let stops = stop_of (nat_lt (length keys) limit) c in
     let first = taken_first limit (Remains (IsMoleculeAt records) query place) all.0 listed in
-    let text = some_text query keys (stop_of (nat_lt (length keys) limit) c) (have_parts (Remains (IsMoleculeAt records) query place) (IsMoleculeAt records) query limit keys (λ key is. is.0) first) in
-    (keys, (text.0, record { first = first; lines = text.1 }))
+    let text = some_text query keys stops (have_parts (Remains (IsMoleculeAt records) query place) (IsMoleculeAt records) query limit keys (λ key is. is.0) first) in
+    record {
+      keys = keys;
+      stops = stops;
+      next = place_behind place keys;
+      text = text.0;
+      listing = record { listed = record { first = first; stop = refl; behind = refl }; lines = text.1 };
+    }
+some_listing records query place limit (Some b) c fits few =
+    let some = paced_pages_there (rows_of records) query place limit b 0 fits few in
+    let page = some.0 in
+    let keys = paced_keys (IsHeldIn (rows_of records)) records query (row_is_at records) (at_is_row records) place limit b c 0 some.1.0 page some.1.1 in
+    let stops = stop_of_paced page.stop c in
+    let text = some_text query page.hits stops
+    (have_parts (Remains (IsMoleculeAt records) query place) (IsMoleculeAt records) query (length page.hits) page.hits (λ key is. is.0) keys.up_to.first) in
+    record { keys = page.hits; stops = stops; next = page.place; text = text.0; listing = record { listed = keys; lines = text.1 } }
+
+-- a list ends, or it goes on
+ends_or_on : (stops : Stop) → (stops ≡ stop.Ended) ⊎ (stops ≢ stop.Ended)
+ends_or_on stop.Ended = inl refl
+ends_or_on (stop.More c) = inr (λ e. cc)
+ends_or_on (stop.Paused c) = inr (λ e. cc)
 
 known_room : (cursors : List CursorRow) (next : ℕ) → Known (HasSearchRoom cursors next)
 known_room cursors next =
@@ -127,28 +161,30 @@ known_room cursors next =
     (λ both. record { few = omega (arith, both.0); number = both.1 })
     (λ room. (omega (arith, room.few), room.number))
 
-some_search : (t : Tables) (name : List ℕ) (limit : ℕ) → CanBeAsked t → (effect : Effect) × IsSearch t name limit effect
-some_search t name limit can = by_name (cases_Bool (is_named name t.queries))
+some_search : (t : Tables) (name : List ℕ) (limit : ℕ) (budget : Option ℕ) → CanBeAsked t → (effect : Effect) × IsSearch t name limit budget effect
+some_search t name limit budget can = by_name (cases_Bool (is_named name t.queries))
   where
-    by_count : (query : QueryView) → IsQueryNamed t.queries name query → HasSearchRoom t.cursors t.next_cursor
-        → (keys : List (List ℕ)) (text : List ℕ) → IsListing t.records query [] limit t.next_cursor keys text
-        → (length keys < limit) ⊎ (limit ≤ length keys) → (effect : Effect) × IsSearch t name limit effect
-    by_count query named room keys text listing (inl few) = (Answers [] text, ListsAll query named room keys text listing few refl)
-    by_count query named room keys text listing (inr full) =
-        (Answers (PutCursor t.next_cursor name (place_behind [] keys) ∷ []) text, SavesPlace query named room keys text listing (omega (arith, full, listing.first.few)) refl)
+    by_stop : (query : QueryView) → IsQueryNamed t.queries name query → HasSearchRoom t.cursors t.next_cursor
+        → (l : SomeListing t.records query [] limit budget t.next_cursor) → (l.stops ≡ stop.Ended) ⊎ (l.stops ≢ stop.Ended) → (effect : Effect) × IsSearch t name limit budget effect
+    by_stop query named room l (inl ends) = (
+      Answers [] l.text,
+      ListsAll query named room l.keys l.next l.text (subst (λ (s : Stop). IsListing t.records query [] limit budget t.next_cursor l.keys s l.next l.text) ends l.listing) refl,
+    )
+    by_stop query named room l (inr on) =
+        (Answers (PutCursor t.next_cursor name l.next ∷ []) l.text, SavesPlace query named room l.keys l.stops l.next l.text l.listing on refl)
 
-    by_room : (query : QueryView) → IsQueryNamed t.queries name query → Known (HasSearchRoom t.cursors t.next_cursor) → (effect : Effect) × IsSearch t name limit effect
+    by_room : (query : QueryView) → IsQueryNamed t.queries name query → Known (HasSearchRoom t.cursors t.next_cursor) → (effect : Effect) × IsSearch t name limit budget effect
     by_room query named (inr full) = (Refuses full_searches_text, SearchesAreFull query named full refl)
     by_room query named (inl room) =
-        (let listing = some_listing t.records query [] limit t.next_cursor (text_fits named.text query named.means.is) in
-        by_count query named room listing.0 listing.1.0 listing.1.1 (cases_lt (length listing.0) limit))
+        (let l = some_listing t.records query [] limit budget t.next_cursor (text_fits named.text query named.means.is) (omega arith) in
+        by_stop query named room l (ends_or_on l.stops))
 
-    by_name : (is_named name t.queries ≡ true) ⊎ (is_named name t.queries ≡ false) → (effect : Effect) × IsSearch t name limit effect
+    by_name : (is_named name t.queries ≡ true) ⊎ (is_named name t.queries ≡ false) → (effect : Effect) × IsSearch t name limit budget effect
     by_name (inl held) = (let named = some_named name t.queries can.queries held in by_room named.0 named.1 (known_room t.cursors t.next_cursor))
     by_name (inr none) = (Refuses (no_query_text name), NoQuerySearched none refl)
 
--- a saved search that is found has its query
-its_query : (c : ℕ) (P : CursorRow → Type 0) (row : CursorRow) (rows : List CursorRow) → AllByRecursion P rows → search_of c rows ≡ Some row → P row
+-- what holds of each saved search holds of one that is found
+pub its_query : (c : ℕ) (P : CursorRow → Type 0) (row : CursorRow) (rows : List CursorRow) → AllByRecursion P rows → search_of c rows ≡ Some row → P row
 its_query c P row [] all found = absurd cc
 its_query c P row (x ∷ rows) all found =
     cond_both (nat_eq x.number c) (Some x) (search_of c rows) (λ (o : Option CursorRow). o ≡ Some row → P row)
@@ -156,23 +192,25 @@ its_query c P row (x ∷ rows) all found =
     (λ other. λ later. its_query c P row rows all.1 later)
     found
 
-some_resume : (t : Tables) (c limit : ℕ) → CanBeAsked t → (effect : Effect) × IsResume t c limit effect
-some_resume t c limit can = by_search (search_of c t.cursors) refl
+some_resume : (t : Tables) (c limit : ℕ) (budget : Option ℕ) → CanBeAsked t → (effect : Effect) × IsResume t c limit budget effect
+some_resume t c limit budget can = by_search (search_of c t.cursors) refl
   where
-    by_count : (row : CursorRow) → search_of c t.cursors ≡ Some row → (query : QueryView)
-        → IsQueryNamed t.queries row.name query → (keys : List (List ℕ)) (text : List ℕ)
-        → IsListing t.records query row.place limit c keys text
-        → (length keys < limit) ⊎ (limit ≤ length keys) → (effect : Effect) × IsResume t c limit effect
-    by_count row held query named keys text listing (inl few) = (Answers (DropCursor c ∷ []) text, ListsRest row held query named keys text listing few refl)
-    by_count row held query named keys text listing (inr full) =
-        (Answers (PutCursor c row.name (place_behind row.place keys) ∷ []) text, MovesPlace row held query named keys text listing (omega (arith, full, listing.first.few)) refl)
+    by_stop : (row : CursorRow) → search_of c t.cursors ≡ Some row → (query : QueryView) → IsQueryNamed t.queries row.name query
+        → (l : SomeListing t.records query row.place limit budget c) → (l.stops ≡ stop.Ended) ⊎ (l.stops ≢ stop.Ended) → (effect : Effect) × IsResume t c limit budget effect
+    by_stop row held query named l (inl ends) = (
+      Answers (DropCursor c ∷ []) l.text,
+      ListsRest row held query named l.keys l.next l.text (subst (λ (s : Stop). IsListing t.records query row.place limit budget c l.keys s l.next l.text) ends l.listing) refl,
+    )
+    by_stop row held query named l (inr on) =
+        (Answers (PutCursor c row.name l.next ∷ []) l.text, MovesPlace row held query named l.keys l.stops l.next l.text l.listing on refl)
 
-    by_search : (found : Option CursorRow) → search_of c t.cursors ≡ found → (effect : Effect) × IsResume t c limit effect
+    by_search : (found : Option CursorRow) → search_of c t.cursors ≡ found → (effect : Effect) × IsResume t c limit budget effect
     by_search None is = (Refuses (no_search_text c), NoSearchResumed is refl)
     by_search (Some row) is =
         (let named = some_named row.name t.queries can.queries (its_query c (λ (r : CursorRow). is_named r.name t.queries ≡ true) row t.cursors can.cursors is) in
-        let listing = some_listing t.records named.0 row.place limit c (text_fits named.1.text named.0 named.1.means.is) in
-        by_count row is named.0 named.1 listing.0 listing.1.0 listing.1.1 (cases_lt (length listing.0) limit))
+        let few = its_query c (λ (r : CursorRow). length r.place ≤ longest_place) row t.cursors can.short is in
+        let l = some_listing t.records named.0 row.place limit budget c (text_fits named.1.text named.0 named.1.means.is) few in
+        by_stop row is named.0 named.1 l (ends_or_on l.stops))
 
 -- ---- tables
 
@@ -382,8 +420,8 @@ some_effect look t (Some (variant.Replace number file)) can there = some_replace
 some_effect look t (Some (variant.Remove number)) can there = some_remove t number
 some_effect look t (Some (variant.Query name file)) can there = some_keep look t name file there
 some_effect look t (Some (variant.Forget name)) can there = some_forget t name
-some_effect look t (Some (variant.Search name limit)) can there = some_search t name limit can
-some_effect look t (Some (variant.Resume cursor limit)) can there = some_resume t cursor limit can
+some_effect look t (Some (variant.Search name limit budget)) can there = some_search t name limit budget can
+some_effect look t (Some (variant.Resume cursor limit budget)) can there = some_resume t cursor limit budget can
 some_effect look t (Some (variant.Show number)) can there = some_show t number
 some_effect look t (Some (variant.Table name)) can there = some_table_answer t name can
 some_effect look t (Some variant.List) can there = (Answers [] (list_text t), refl)

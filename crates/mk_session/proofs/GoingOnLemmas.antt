@@ -35,8 +35,8 @@ command_goes_on laws files t (variant.Replace number file) effect asks comes go 
 command_goes_on laws files t (variant.Remove number) effect asks comes go = remove_goes_on laws t number effect comes go
 command_goes_on laws files t (variant.Query name file) effect asks comes go = keep_goes_on laws files t name file effect asks comes go
 command_goes_on laws files t (variant.Forget name) effect asks comes go = forget_goes_on t name effect comes go
-command_goes_on laws files t (variant.Search name limit) effect asks comes go = search_goes_on laws t name limit effect comes go
-command_goes_on laws files t (variant.Resume cursor limit) effect asks comes go = resume_goes_on laws t cursor limit effect comes go
+command_goes_on laws files t (variant.Search name limit budget) effect asks comes go = search_goes_on laws t name limit budget effect comes go
+command_goes_on laws files t (variant.Resume cursor limit budget) effect asks comes go = resume_goes_on laws t cursor limit budget effect comes go
 command_goes_on laws files t (variant.Show number) effect asks comes go = show_goes_on t number effect comes go
 command_goes_on laws files t (variant.Table name) effect asks comes go = table_goes_on t name effect comes go
 command_goes_on laws files t variant.List effect asks comes go = answered_goes_on t effect _ comes go

@@ -2,7 +2,7 @@
 --     all_put, all_filtered      what holds of all rows, once one was put or some were dropped
 --     named_put, named_left      a name that is held still is
 --     effect_keeps               EffectsKeepQueries
-use Rattle.std.proofs.Common.{◌≡◌, ◌<◌, ◌+◌, ℕ, Bool, true, false, cond, not, List, [], ◌∷◌, ◌++◌, Option, Some, None, refl, sym, subst, ◌∙◌, arith, map, filter}
+use Rattle.std.proofs.Common.{◌≡◌, ◌<◌, ◌≤◌, ◌+◌, ℕ, length, Bool, true, false, cond, not, List, [], ◌∷◌, ◌++◌, Option, Some, None, refl, sym, subst, ◌∙◌, arith, map, filter}
 use Rattle.std.specs.Prelude.{◌||◌, bytes_eq, nat_eq, nat_lt}
 use Rattle.std.specs.List.{AllByRecursion, list_any}
 use Rattle.std.proofs.lemmas.Bool.{cond_both, eqb-true, true≢false}
@@ -21,6 +21,8 @@ use Rattle.mk_library.specs.FirstRefusal.{IsAllowedEdit, IsFirstFileRefusal, IsF
 use Rattle.mk_library.specs.Pending.{InTurn}
 use Rattle.mk_library.proofs.EditedRowsLemmas.{edits_of_records}
 use Rattle.mk_library.proofs.PendingLemmas.{records_alone}
+use Rattle.mk_model.specs.Queries.{QueryView}
+use Rattle.mk_search.proofs.ForCallers.{place_has_few}
 use Rattle.mk_query.proofs.KeptTextLemmas.{kept_text as kept_text_is}
 use Rattle.mk_rgfile.proofs.KeptQueryLemmas.{kept_is_kept, query_left}
 use Rattle.mk_session.specs.declared.command.Command.TheVariants as variant
@@ -35,12 +37,15 @@ use Rattle.mk_effects.specs.Queries.{FileIsRefused, Forgets, Keeps, NameIsHeld, 
 use Rattle.mk_effects.specs.Queries.{IsForget, IsKeep, drop_of, forget_changes, kept_text}
 use Rattle.mk_effects.specs.Records.{IsRemove, IsShow}
 use Rattle.mk_effects.specs.Records.{NoRecordRemoved, NoRecordShown, Removes, Shows}
-use Rattle.mk_kept.specs.Saved.{HasMeaning, greatest_number, is_named, is_waiting, kept_tables}
+use Rattle.mk_kept.specs.Named.{IsQueryNamed}
+use Rattle.mk_kept.specs.Saved.{HasMeaning, greatest_number, is_named, is_waiting, kept_tables, longest_place}
 use Rattle.mk_kept.specs.SavedPending.{IsInPlace}
-use Rattle.mk_effects.specs.Searching.{IsResume, IsSearch}
+use Rattle.mk_effects.specs.declared.effect.Stop.{Stop}
+use Rattle.mk_effects.specs.Searching.{IsListing, IsMoleculeAt, IsResume, IsSearch}
 use Rattle.mk_effects.specs.Table.{IsTableAnswer, NoQueryTabled, WritesRows}
 use Rattle.mk_effects.specs.Searching.{ListsAll, ListsRest, MovesPlace, NoQuerySearched, NoSearchResumed, SavesPlace, SearchesAreFull}
 use Rattle.mk_session.specs.Values.{CanBeAsked, EffectsKeepQueries}
+use Rattle.mk_session.proofs.EffectValueLemmas.{its_query, text_fits}
 use Rattle.mk_effects.proofs.QueriesLemmas.{among_all, forget_places, kept_is_meant}
 use Rattle.mk_kept.proofs.SavedLemmas.{below_all, none_above_greatest}
 use Rattle.mk_kept.proofs.NamedLemmas.{named_of}
@@ -147,12 +152,14 @@ changed_keeps t effect batch text is can = subst (λ (e : Effect). CanBeAsked (a
 edit_keeps : (t : Tables) (edit : Edit) (changes : List Change) → IsAllowedEdit t.records t.next_record edit changes → CanBeAsked t → CanBeAsked (after_batch changes t)
 edit_keeps t edit changes allowed can =
     let whole = records_alone changes t (edits_of_records t.records t.next_record edit changes allowed) in
-    subst CanBeAsked (sym whole) (record { queries = can.queries; cursors = can.cursors })
+    subst CanBeAsked (sym whole) (record { queries = can.queries; cursors = can.cursors; short = can.short })
 
-cursor_keeps : (t : Tables) (number : ℕ) (name place : List ℕ) → is_named name t.queries ≡ true → CanBeAsked t → CanBeAsked (after_change (PutCursor number name place) t)
-cursor_keeps t number name place named can = record {
+cursor_keeps : (t : Tables) (number : ℕ) (name place : List ℕ) → is_named name t.queries ≡ true → length place ≤ longest_place → CanBeAsked t
+    → CanBeAsked (after_change (PutCursor number name place) t)
+cursor_keeps t number name place named few can = record {
   queries = can.queries;
   cursors = all_put (λ (row : CursorRow). is_named row.name t.queries ≡ true) cursor_number (record { number = number; name = name; place = place }) t.cursors named can.cursors;
+  short = all_put (λ (row : CursorRow). length row.place ≤ longest_place) cursor_number (record { number = number; name = name; place = place }) t.cursors few can.short;
 }
 
 drop_keeps : (t : Tables) (number : ℕ) → CanBeAsked t → CanBeAsked (after_change (DropCursor number) t)
@@ -160,6 +167,7 @@ unfolding outside.without
 drop_keeps t number can = record {
   queries = can.queries;
   cursors = all_filtered (λ (row : CursorRow). is_named row.name t.queries ≡ true) cursor_number (λ (x : CursorRow). not (nat_eq x.number number)) t.cursors can.cursors;
+  short = all_filtered (λ (row : CursorRow). length row.place ≤ longest_place) cursor_number (λ (x : CursorRow). not (nat_eq x.number number)) t.cursors can.short;
 }
 
 query_keeps : (t : Tables) (row : QueryRow) → AllByRecursion (λ (x : QueryRow). x.number < row.number) t.queries
@@ -169,6 +177,7 @@ query_keeps t row below means can = record {
   cursors = all_by (λ (x : CursorRow). is_named x.name t.queries ≡ true)
       (λ (x : CursorRow). is_named x.name (outside.put query_number row t.queries) ≡ true)
       (λ x named. named_put x.name row t.queries below named) t.cursors can.cursors;
+  short = can.short;
 }
 
 -- none has the name of a query that is dropped
@@ -192,8 +201,20 @@ unfolding without_name
 drops_keep name [] t places can = record {
   queries = all_filtered (λ (x : QueryRow). HasMeaning x.text) query_number (λ (x : QueryRow). not (bytes_eq x.name name)) t.queries can.queries;
   cursors = others_named name t.queries t.cursors places.0 can.cursors;
+  short = can.short;
 }
 drops_keep name (drop ∷ drops) t places can = drops_keep name drops (after_change (DropCursor drop.number) t) places.1 (drop_keeps t drop.number can)
+
+-- ---- places
+
+-- the next place is short, where the one before it is
+next_is_short : (t : Tables) (name : List ℕ) (query : QueryView) (place : List ℕ) (limit : ℕ) (budget : Option ℕ) (c : ℕ) (keys : List (List ℕ)) (stops : Stop)
+    (next text : List ℕ) → IsQueryNamed t.queries name query → IsListing t.records query place limit budget c keys stops next text → length place ≤ longest_place
+    → length next ≤ longest_place
+next_is_short t name query place limit None c keys stops next text named listing few =
+    subst (λ (xs : List ℕ). length xs ≤ longest_place) (sym listing.listed.behind)
+    (place_has_few (IsMoleculeAt t.records) query place limit keys (text_fits named.text query named.means.is) listing.listed.first few)
+next_is_short t name query place limit (Some b) c keys stops next text named listing few = listing.listed.short
 
 -- ---- commands
 
@@ -222,7 +243,7 @@ module _ (files : Option Look) (t : Tables) (can : CanBeAsked t) where
 
   remove_keeps : (n : ℕ) (effect : Effect) → IsRemove t.records n effect → CanBeAsked (after_effect effect t)
   remove_keeps n effect (NoRecordRemoved none is) = refused_keeps t effect _ is can
-  remove_keeps n effect (Removes held is) = changed_keeps t effect (DropRecord n ∷ []) _ is (record { queries = can.queries; cursors = can.cursors })
+  remove_keeps n effect (Removes held is) = changed_keeps t effect (DropRecord n ∷ []) _ is (record { queries = can.queries; cursors = can.cursors; short = can.short })
 
   show_keeps : (n : ℕ) (effect : Effect) → IsShow t.records n effect → CanBeAsked (after_effect effect t)
   show_keeps n effect (NoRecordShown none is) = refused_keeps t effect _ is can
@@ -245,17 +266,21 @@ module _ (files : Option Look) (t : Tables) (can : CanBeAsked t) where
       let drops = filter (λ (row : CursorRow). bytes_eq row.name name) t.cursors in
       changed_keeps t effect (forget_changes name t.cursors) _ is (drops_keep name drops t (forget_places name drops t.cursors t.queries t.next_cursor (among_all name t.cursors)) can)
 
-  search_keeps : (name : List ℕ) (limit : ℕ) (effect : Effect) → IsSearch t name limit effect → CanBeAsked (after_effect effect t)
-  search_keeps name limit effect (NoQuerySearched none is) = refused_keeps t effect _ is can
-  search_keeps name limit effect (SearchesAreFull query named full is) = refused_keeps t effect _ is can
-  search_keeps name limit effect (ListsAll query named room keys text listing fewer is) = changed_keeps t effect [] text is can
-  search_keeps name limit effect (SavesPlace query named room keys text listing many is) =
-      changed_keeps t effect _ text is (cursor_keeps t t.next_cursor name _ (named_of name t.queries query named) can)
+  search_keeps : (name : List ℕ) (limit : ℕ) (budget : Option ℕ) (effect : Effect) → IsSearch t name limit budget effect → CanBeAsked (after_effect effect t)
+  search_keeps name limit budget effect (NoQuerySearched none is) = refused_keeps t effect _ is can
+  search_keeps name limit budget effect (SearchesAreFull query named full is) = refused_keeps t effect _ is can
+  search_keeps name limit budget effect (ListsAll query named room keys next text listing is) = changed_keeps t effect [] text is can
+  search_keeps name limit budget effect (SavesPlace query named room keys stops next text listing on is) =
+      changed_keeps t effect _ text is
+      (cursor_keeps t t.next_cursor name next (named_of name t.queries query named) (next_is_short t name query [] limit budget t.next_cursor keys stops next text named listing (omega arith)) can)
 
-  resume_keeps : (c limit : ℕ) (effect : Effect) → IsResume t c limit effect → CanBeAsked (after_effect effect t)
-  resume_keeps c limit effect (NoSearchResumed none is) = refused_keeps t effect _ is can
-  resume_keeps c limit effect (ListsRest row held query named keys text listing fewer is) = changed_keeps t effect (DropCursor c ∷ []) text is (drop_keeps t c can)
-  resume_keeps c limit effect (MovesPlace row held query named keys text listing many is) = changed_keeps t effect _ text is (cursor_keeps t c row.name _ (named_of row.name t.queries query named) can)
+  resume_keeps : (c limit : ℕ) (budget : Option ℕ) (effect : Effect) → IsResume t c limit budget effect → CanBeAsked (after_effect effect t)
+  resume_keeps c limit budget effect (NoSearchResumed none is) = refused_keeps t effect _ is can
+  resume_keeps c limit budget effect (ListsRest row held query named keys next text listing is) = changed_keeps t effect (DropCursor c ∷ []) text is (drop_keeps t c can)
+  resume_keeps c limit budget effect (MovesPlace row held query named keys stops next text listing on is) =
+      let few = its_query c (λ (r : CursorRow). length r.place ≤ longest_place) row t.cursors can.short held in
+      changed_keeps t effect _ text is
+      (cursor_keeps t c row.name next (named_of row.name t.queries query named) (next_is_short t row.name query row.place limit budget c keys stops next text named listing few) can)
 
   table_keeps : (name : List ℕ) (effect : Effect) → IsTableAnswer t name effect → CanBeAsked (after_effect effect t)
   table_keeps name effect (NoQueryTabled none is) = refused_keeps t effect _ is can
@@ -269,8 +294,8 @@ effect_keeps look t (Some (variant.Replace number file)) effect comes can = repl
 effect_keeps look t (Some (variant.Remove number)) effect comes can = remove_keeps (Some look) t can number effect comes
 effect_keeps look t (Some (variant.Query name file)) effect comes can = keep_keeps (Some look) t can name file effect comes
 effect_keeps look t (Some (variant.Forget name)) effect comes can = forget_keeps (Some look) t can name effect comes
-effect_keeps look t (Some (variant.Search name limit)) effect comes can = search_keeps (Some look) t can name limit effect comes
-effect_keeps look t (Some (variant.Resume cursor limit)) effect comes can = resume_keeps (Some look) t can cursor limit effect comes
+effect_keeps look t (Some (variant.Search name limit budget)) effect comes can = search_keeps (Some look) t can name limit budget effect comes
+effect_keeps look t (Some (variant.Resume cursor limit budget)) effect comes can = resume_keeps (Some look) t can cursor limit budget effect comes
 effect_keeps look t (Some (variant.Show number)) effect comes can = show_keeps (Some look) t can number effect comes
 effect_keeps look t (Some (variant.Table name)) effect comes can = table_keeps (Some look) t can name effect comes
 effect_keeps look t (Some variant.List) effect comes can = changed_keeps t effect [] _ comes can

@@ -254,6 +254,7 @@ can_be_asked : (t : Tables) → AllRead t → CanBeAsked t
 can_be_asked t reads = record {
   queries = all_of_each ReadsQuery (λ (row : QueryRow). HasMeaning row.text) (λ front row is. is.text) t.queries reads.queries;
   cursors = all_of_each (ReadsCursor t.queries t.next_cursor) (λ (row : CursorRow). is_named row.name t.queries ≡ true) (λ front row is. is.name) t.cursors reads.cursors;
+  short = all_of_each (ReadsCursor t.queries t.next_cursor) (λ (row : CursorRow). length row.place ≤ longest_place) (λ front row is. is.short) t.cursors reads.cursors;
 }
 
 -- orders done in turn come to effects

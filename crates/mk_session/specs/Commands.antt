@@ -9,7 +9,7 @@
 --     CommandsAreRead, OneReading, WordsAreRead   laws
 -- A line's words are its longest runs of bytes other than blanks. A byte of a longer character is
 -- no blank, so a line is UTF-8 exactly where each of its words is.
-use Rattle.std.specs.Prelude.{◌≡◌, ◌↔◌, ℕ, ◌≤◌, ◌&&◌, nat_le, List, [], ◌∷◌, Option, Some, None, codes, bytes_eq, if◌then◌else◌, ⊤}
+use Rattle.std.specs.Prelude.{◌≡◌, ◌↔◌, ℕ, ◌≤◌, ◌&&◌, nat_le, List, [], ◌∷◌, Option, Some, None, IfSome, codes, bytes_eq, if◌then◌else◌, ⊤}
 use Rattle.std.specs.Str.{is_utf8}
 use Rattle.mk_text.specs.Columns.{are_blank}
 use Rattle.mk_text.specs.Fields.{digits_number}
@@ -21,7 +21,7 @@ use Rattle.mk_session.specs.declared.command.LineKind.TheVariants as line_kind
 use Rattle.mk_session.specs.declared.command.WordsKind.{WordsKind}
 use Rattle.mk_session.specs.declared.command.WordsKind.TheVariants as words_kind
 use Rattle.mk_kept.specs.Names.{is_name, IsHeldNumber, IsName}
-use Rattle.mk_effects.specs.Searching.{IsLimit}
+use Rattle.mk_effects.specs.Searching.{IsBudget, IsLimit}
 
 -- ---- single words
 
@@ -51,10 +51,14 @@ held_number word = number_in 1 999999999 word
 abbrev pub limit_in : List ℕ → Option ℕ
 limit_in word = number_in 1 10000 word
 
+-- how many turns a search may make
+abbrev pub budget_in : List ℕ → Option ℕ
+budget_in word = number_in 2048 999999999 word
+
 -- ---- the table of commands
 
 -- The words spell the command. One case for each: its word in small letters, and exactly so many
--- words more.
+-- words more. `search` and `resume` have a second case, with a budget as one word more.
 pub data IsCommandOf (words : List (List ℕ)) (command : Command) : Type 0 where
   MatchRow : (a b query molecules : List ℕ) → words ≡ codes "match" ∷ a ∷ b ∷ [] → file_in a ≡ Some query → file_in b ≡ Some molecules
       → command ≡ variant.Match query molecules → IsCommandOf words command
@@ -66,9 +70,13 @@ pub data IsCommandOf (words : List (List ℕ)) (command : Command) : Type 0 wher
       → command ≡ variant.Query name file → IsCommandOf words command
   ForgetRow : (a name : List ℕ) → words ≡ codes "forget" ∷ a ∷ [] → name_in a ≡ Some name → command ≡ variant.Forget name → IsCommandOf words command
   SearchRow : (a b name : List ℕ) (limit : ℕ) → words ≡ codes "search" ∷ a ∷ b ∷ [] → name_in a ≡ Some name → limit_in b ≡ Some limit
-      → command ≡ variant.Search name limit → IsCommandOf words command
+      → command ≡ variant.Search name limit None → IsCommandOf words command
+  SearchWithinRow : (a b d name : List ℕ) (limit budget : ℕ) → words ≡ codes "search" ∷ a ∷ b ∷ d ∷ [] → name_in a ≡ Some name → limit_in b ≡ Some limit
+      → budget_in d ≡ Some budget → command ≡ variant.Search name limit (Some budget) → IsCommandOf words command
   ResumeRow : (a b : List ℕ) (cursor limit : ℕ) → words ≡ codes "resume" ∷ a ∷ b ∷ [] → held_number a ≡ Some cursor → limit_in b ≡ Some limit
-      → command ≡ variant.Resume cursor limit → IsCommandOf words command
+      → command ≡ variant.Resume cursor limit None → IsCommandOf words command
+  ResumeWithinRow : (a b d : List ℕ) (cursor limit budget : ℕ) → words ≡ codes "resume" ∷ a ∷ b ∷ d ∷ [] → held_number a ≡ Some cursor → limit_in b ≡ Some limit
+      → budget_in d ≡ Some budget → command ≡ variant.Resume cursor limit (Some budget) → IsCommandOf words command
   ShowRow : (a : List ℕ) (number : ℕ) → words ≡ codes "show" ∷ a ∷ [] → held_number a ≡ Some number → command ≡ variant.Show number → IsCommandOf words command
   TableRow : (a name : List ℕ) → words ≡ codes "table" ∷ a ∷ [] → name_in a ≡ Some name → command ≡ variant.Table name → IsCommandOf words command
   ListRow : words ≡ codes "list" ∷ [] → command ≡ variant.List → IsCommandOf words command
@@ -87,6 +95,26 @@ abbrev pub with_two : {A B : Type 0} → (A → B → Command) → Option A → 
 with_two make None b = None
 with_two make (Some a) None = None
 with_two make (Some a) (Some b) = Some (make a b)
+
+-- the command with three words more, where each is of its kind
+abbrev pub with_three : {A B C : Type 0} → (A → B → C → Command) → Option A → Option B → Option C → Option Command
+with_three make None b c = None
+with_three make (Some a) None c = None
+with_three make (Some a) (Some b) None = None
+with_three make (Some a) (Some b) (Some c) = Some (make a b c)
+
+-- `search` and `resume` without a budget, and with one
+abbrev pub search_all : List ℕ → ℕ → Command
+search_all name limit = variant.Search name limit None
+
+abbrev pub search_within : List ℕ → ℕ → ℕ → Command
+search_within name limit budget = variant.Search name limit (Some budget)
+
+abbrev pub resume_all : ℕ → ℕ → Command
+resume_all cursor limit = variant.Resume cursor limit None
+
+abbrev pub resume_within : ℕ → ℕ → ℕ → Command
+resume_within cursor limit budget = variant.Resume cursor limit (Some budget)
 
 -- the command that is one word
 abbrev pub row_of_one : List ℕ → Option Command
@@ -107,9 +135,15 @@ row_of_three word a b =
     if bytes_eq word (codes "match") then with_two variant.Match (file_in a) (file_in b)
     else (if bytes_eq word (codes "replace") then with_two variant.Replace (held_number a) (file_in b)
     else (if bytes_eq word (codes "query") then with_two variant.Query (name_in a) (file_in b)
-    else (if bytes_eq word (codes "search") then with_two variant.Search (name_in a) (limit_in b)
-    else (if bytes_eq word (codes "resume") then with_two variant.Resume (held_number a) (limit_in b)
+    else (if bytes_eq word (codes "search") then with_two search_all (name_in a) (limit_in b)
+    else (if bytes_eq word (codes "resume") then with_two resume_all (held_number a) (limit_in b)
     else (if bytes_eq word (codes "drill") then with_two variant.Drill (number_in 0 999999999 a) (limit_in b) else None)))))
+
+-- the command that is four words
+abbrev pub row_of_four : List ℕ → List ℕ → List ℕ → List ℕ → Option Command
+row_of_four word a b d =
+    if bytes_eq word (codes "search") then with_three search_within (name_in a) (limit_in b) (budget_in d)
+    else (if bytes_eq word (codes "resume") then with_three resume_within (held_number a) (limit_in b) (budget_in d) else None)
 
 -- the command that the words are, where they are one
 abbrev pub command_in : List (List ℕ) → Option Command
@@ -117,7 +151,8 @@ command_in [] = None
 command_in (a ∷ []) = row_of_one a
 command_in (a ∷ b ∷ []) = row_of_two a b
 command_in (a ∷ b ∷ c ∷ []) = row_of_three a b c
-command_in (a ∷ b ∷ c ∷ d ∷ words) = None
+command_in (a ∷ b ∷ c ∷ d ∷ []) = row_of_four a b c d
+command_in (a ∷ b ∷ c ∷ d ∷ e ∷ words) = None
 
 -- ---- lines and words
 
@@ -185,8 +220,8 @@ CanAsk (variant.Replace number file) = IsHeldNumber number
 CanAsk (variant.Remove number) = IsHeldNumber number
 CanAsk (variant.Query name file) = IsName name
 CanAsk (variant.Forget name) = IsName name
-CanAsk (variant.Search name limit) = IsName name × IsLimit limit
-CanAsk (variant.Resume cursor limit) = IsHeldNumber cursor × IsLimit limit
+CanAsk (variant.Search name limit budget) = IsName name × IsLimit limit × IfSome budget IsBudget
+CanAsk (variant.Resume cursor limit budget) = IsHeldNumber cursor × IsLimit limit × IfSome budget IsBudget
 CanAsk (variant.Show number) = IsHeldNumber number
 CanAsk variant.List = ⊤
 CanAsk (variant.Table name) = IsName name

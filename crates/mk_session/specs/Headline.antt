@@ -29,8 +29,8 @@ pub record Headline (sound : Type 0) (words : List (List ℕ)) (old new : World)
   -- Whatever the counts were, a status of an answer comes with the whole of a run.
   pub answered : IsAnswered ends → IsWholeRun old.files t (asked words input) old.faults new.faults added left ends
   -- Where no object that was handed in failed and memory sufficed, bytes, tables and status are the
-  -- run's. So each `match`, `search` and `resume` lists exactly the first hits in what is held at
-  -- its turn, each once and in rising order.
+  -- run's. So each `match`, and without a budget each `search` and `resume`, lists exactly the first
+  -- hits in what is held at its turn, each once and in rising order.
   pub headline : IsQuiet old new → ends ≢ status.Memory → IsRun old.files t (asked words input) added left ends
   -- Where besides the words or the script ask for commands and every stored row reads, all commands
   -- are done.

@@ -1,17 +1,18 @@
 -- Laws over runs.
 --     TwoScripts        two scripts one after the other are one script
 --     RunsKeepReading   tables that a run leaves read, where those before it did
---     OneEffect         over told files an order comes to at most one effect
---     OneRun            so a run over told files has at most one outcome
+--     OneEffect         over told files an order without a budget comes to at most one effect
+--     OneRun            so a run over told files without budgets has at most one outcome
 --     OneSaid           at most one thing is said of a text as a query file
 use Rattle.std.specs.Prelude.{◌≡◌, ℕ, ◌≤◌, List, [], ◌∷◌, ◌++◌, length, Option, Some}
+use Rattle.std.specs.List.{AllByRecursion}
 use Rattle.mk_outside.specs.declared.tables.Tables.{Tables}
 use Rattle.mk_session.specs.declared.status.Status.{Status}
 use Rattle.mk_session.specs.declared.status.Status.TheVariants as status
 use Rattle.mk_effects.specs.Effects.{Effect}
 use Rattle.mk_effects.specs.Files.{Look}
 use Rattle.mk_session.specs.Outcomes.{IsAllDone}
-use Rattle.mk_session.specs.Orders.{Asked, Order, asked, asked_of_script, script_bytes}
+use Rattle.mk_session.specs.Orders.{Asked, HasNoBudget, Order, asked, asked_of_script, orders_asked, script_bytes}
 use Rattle.mk_session.specs.Run.{IsRun}
 use Rattle.mk_session.specs.Step.{Comes}
 use Rattle.mk_kept.specs.StoredRows.{AllRead, CanGoOn}
@@ -37,11 +38,13 @@ abbrev pub RunsKeepReading : Type 0
 RunsKeepReading = (files : Option Look) (t left : Tables) (words : List (List ℕ)) (input added : List ℕ) (ends : Status)
     → IsRun files t (asked words input) added left ends → CanGoOn t → CanGoOn left
 
--- over told files an order comes to at most one effect
+-- over told files an order without a budget comes to at most one effect
 abbrev pub OneEffect : Type 0
-OneEffect = (look : Look) (t : Tables) (order : Order) (a b : Effect) → Comes (Some look) t order a → Comes (Some look) t order b → a ≡ b
+OneEffect = (look : Look) (t : Tables) (order : Order) (a b : Effect) → HasNoBudget order → Comes (Some look) t order a → Comes (Some look) t order b → a ≡ b
 
--- over told files a run adds one text, leaves one value of the tables, and ends with one status
+-- over told files a run in which no order has a budget adds one text, leaves one value of the tables,
+-- and ends with one status
 abbrev pub OneRun : Type 0
 OneRun = (look : Look) (t : Tables) (asked : Asked) (a b : List ℕ) (left other : Tables) (ends ends' : Status)
+    → AllByRecursion HasNoBudget (orders_asked asked)
     → IsRun (Some look) t asked a left ends → IsRun (Some look) t asked b other ends' → (a ≡ b) × (left ≡ other) × (ends ≡ ends')

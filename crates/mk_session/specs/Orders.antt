@@ -2,10 +2,12 @@
 --     Order                     a command, or what is no command and is refused
 --     orders_of lines           what the lines ask for, in order; blank lines ask for nothing
 --     asked words input         what the words and the input ask for
-use Rattle.std.specs.Prelude.{ℕ, List, [], ◌∷◌, length, Option, Some, None, nat_lt, if◌then◌else◌}
+--     HasNoBudget order         no budget is given with the order
+use Rattle.std.specs.Prelude.{ℕ, List, [], ◌∷◌, length, ◌≡◌, Option, Some, None, nat_lt, if◌then◌else◌, ⊤}
 use Rattle.std.specs.List.{flat_map}
 use Rattle.mk_text.specs.Lines.{lines_of}
 use Rattle.mk_session.specs.declared.command.Command.{Command}
+use Rattle.mk_session.specs.declared.command.Command.TheVariants as variant
 use Rattle.mk_session.specs.declared.command.LineKind.{LineKind}
 use Rattle.mk_session.specs.declared.command.LineKind.TheVariants as line_kind
 use Rattle.mk_session.specs.declared.command.WordsKind.{WordsKind}
@@ -15,6 +17,12 @@ use Rattle.mk_session.specs.Commands.{kind_of_line, kind_of_words}
 -- what a line that isn't blank asks for: a command, or None, which is refused
 abbrev pub Order : Type 0
 Order = Option Command
+
+-- no budget is given with the order
+abbrev pub HasNoBudget : Order → Type 0
+HasNoBudget (Some (variant.Search name limit budget)) = budget ≡ None
+HasNoBudget (Some (variant.Resume cursor limit budget)) = budget ≡ None
+HasNoBudget _ = ⊤
 
 -- what a line of this kind asks for
 abbrev pub orders_of_kind : LineKind → List Order

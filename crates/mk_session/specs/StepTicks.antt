@@ -17,8 +17,8 @@ use Rattle.mk_session.specs.Stepping.{ended_of}
 -- for itself.
 abbrev pub BeginsOfCommand : Tables → Command → Effect → ℕ → ℕ → Type 0
 BeginsOfCommand t (variant.Match query molecules) effect old new = ⊤
-BeginsOfCommand t (variant.Search name limit) effect old new = BeginsOfSearch t name limit effect old new
-BeginsOfCommand t (variant.Resume cursor limit) effect old new = BeginsOfResume t cursor limit effect old new
+BeginsOfCommand t (variant.Search name limit budget) effect old new = BeginsOfSearch t name limit budget effect old new
+BeginsOfCommand t (variant.Resume cursor limit budget) effect old new = BeginsOfResume t cursor limit budget effect old new
 BeginsOfCommand t (variant.Table name) effect old new = BeginsOfTableAnswer t name effect old new
 BeginsOfCommand t _ effect old new = new ≡ old
 

@@ -6,29 +6,59 @@ use mk_outside::Text;
 #[derive(Debug, Drop)]
 pub enum Command {
     /// Lists where a query lies in a molecule.
-    Match { query: Text, molecules: Text },
+    Match {
+        query: Text,
+        molecules: Text,
+    },
     /// Keeps the records of a file.
-    Load { file: Text },
+    Load {
+        file: Text,
+    },
     /// Keeps the one record of a file in place of another.
-    Replace { number: u32, file: Text },
+    Replace {
+        number: u32,
+        file: Text,
+    },
     /// Drops a record.
-    Remove { number: u32 },
+    Remove {
+        number: u32,
+    },
     /// Keeps a query under a name.
-    Query { name: Text, file: Text },
+    Query {
+        name: Text,
+        file: Text,
+    },
     /// Drops a query and its saved searches.
-    Forget { name: Text },
-    /// Lists the first hits of a query.
-    Search { name: Text, limit: u32 },
-    /// Lists the next hits of a saved search.
-    Resume { cursor: u32, limit: u32 },
+    Forget {
+        name: Text,
+    },
+    /// Lists the first hits of a query. With a budget it makes no more turns than that, and pauses.
+    Search {
+        name: Text,
+        limit: u32,
+        budget: Option<u32>,
+    },
+    /// Lists the next hits of a saved search, within a budget or without.
+    Resume {
+        cursor: u32,
+        limit: u32,
+        budget: Option<u32>,
+    },
     /// Shows the text of a record.
-    Show { number: u32 },
+    Show {
+        number: u32,
+    },
     /// Lists what is kept.
     List,
     /// Says which members of a query stand in each record.
-    Table { name: Text },
+    Table {
+        name: Text,
+    },
     /// Makes a library of its own and searches it.
-    Drill { start: u32, count: u32 },
+    Drill {
+        start: u32,
+        count: u32,
+    },
 }
 
 /// What a line of a script is.

@@ -13,7 +13,7 @@ use mk_text::{Span, is_blank, words};
 use std::alloc::Global;
 
 // A command has no more words.
-const MOST_WORDS: usize = 3;
+const MOST_WORDS: usize = 4;
 
 // The word in front of the path of a store.
 const STORE: &str = "--store";

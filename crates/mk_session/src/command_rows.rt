@@ -1,6 +1,7 @@
 // The rows of the table of commands, from words.
 ghost use Rattle.std.specs.Prelude.{◌≡◌, IfOk};
-ghost use Rattle.mk_session.specs.Commands.{command_in, file_in, held_number, limit_in, name_in, number_in, row_of_one, row_of_three, row_of_two, with_one, with_two};
+ghost use Rattle.mk_session.specs.Commands.{budget_in, command_in, file_in, held_number, limit_in, name_in, number_in};
+ghost use Rattle.mk_session.specs.Commands.{resume_all, resume_within, row_of_four, row_of_one, row_of_three, row_of_two, search_all, search_within, with_one, with_three, with_two};
 
 use crate::Command;
 use crate::command_parts::{file_in, name_in, number_in};
@@ -13,6 +14,11 @@ const GREATEST: u32 = 999_999_999;
 // How many hits are listed, or molecules drilled, at most.
 const MOST: u32 = 10_000;
 
+// The least and the greatest budget.
+const LEAST_BUDGET: u32 = 2_048;
+
+const GREATEST_BUDGET: u32 = 999_999_999;
+
 /// The command that these words are, where they are one.
 pub fn command_of(alloc: Global, words: &[Bytes]) -> Result<Option<Command>, Memory>
     ensures { IfOk result (λ command. command ≡ command_in words.now) }
@@ -21,6 +27,15 @@ pub fn command_of(alloc: Global, words: &[Bytes]) -> Result<Option<Command>, Mem
         [word] => Ok(row_of_one(word.as_slice())),
         [word, a] => row_of_two(alloc, word.as_slice(), a.as_slice()),
         [word, a, b] => row_of_three(alloc, word.as_slice(), a.as_slice(), b.as_slice()),
+        [word, a, b, d] => {
+            row_of_four(
+                alloc,
+                word.as_slice(),
+                a.as_slice(),
+                b.as_slice(),
+                d.as_slice(),
+            )
+        }
         _ => Ok(None),
     }
 }
@@ -75,6 +90,24 @@ fn row_of_three(alloc: Global, word: &[u8], a: &[u8], b: &[u8]) -> Result<Option
     }
     if word == b"drill".as_slice() {
         return Ok(drill_row(a, b));
+    }
+    Ok(None)
+}
+
+fn row_of_four(
+    alloc: Global,
+    word: &[u8],
+    a: &[u8],
+    b: &[u8],
+    d: &[u8],
+) -> Result<Option<Command>, Memory>
+    ensures { IfOk result (λ command. command ≡ row_of_four word.now a.now b.now d.now) }
+{
+    if word == b"search".as_slice() {
+        return search_within_row(alloc, a, b, d);
+    }
+    if word == b"resume".as_slice() {
+        return Ok(resume_within_row(a, b, d));
     }
     Ok(None)
 }
@@ -143,25 +176,71 @@ fn forget_row(alloc: Global, a: &[u8]) -> Result<Option<Command>, Memory>
 }
 
 fn search_row(alloc: Global, a: &[u8], b: &[u8]) -> Result<Option<Command>, Memory>
-    ensures { IfOk result (λ command. command ≡ with_two Command.Search (name_in a.now) (limit_in b.now)) }
+    ensures { IfOk result (λ command. command ≡ with_two search_all (name_in a.now) (limit_in b.now)) }
 {
     let Some(name) = name_in(alloc, a)? else {
         return Ok(None);
     };
     match number_in(b, 1, MOST) {
-        Some(limit) => Ok(Some(Command::Search { name, limit })),
+        Some(limit) => Ok(Some(Command::Search {
+            name,
+            limit,
+            budget: None,
+        })),
+        None => Ok(None),
+    }
+}
+
+fn search_within_row(alloc: Global, a: &[u8], b: &[u8], d: &[u8]) -> Result<Option<Command>, Memory>
+    ensures { IfOk result (λ command. command ≡ with_three search_within (name_in a.now) (limit_in b.now) (budget_in d.now)) }
+{
+    let Some(name) = name_in(alloc, a)? else {
+        return Ok(None);
+    };
+    let Some(limit) = number_in(b, 1, MOST) else {
+        return Ok(None);
+    };
+    match number_in(d, LEAST_BUDGET, GREATEST_BUDGET) {
+        Some(budget) => Ok(Some(Command::Search {
+            name,
+            limit,
+            budget: Some(budget),
+        })),
         None => Ok(None),
     }
 }
 
 fn resume_row(a: &[u8], b: &[u8]) -> Option<Command>
-    ensures { result ≡ with_two Command.Resume (held_number a.now) (limit_in b.now) }
+    ensures { result ≡ with_two resume_all (held_number a.now) (limit_in b.now) }
 {
     let Some(cursor) = number_in(a, 1, GREATEST) else {
         return None;
     };
     match number_in(b, 1, MOST) {
-        Some(limit) => Some(Command::Resume { cursor, limit }),
+        Some(limit) => Some(Command::Resume {
+            cursor,
+            limit,
+            budget: None,
+        }),
+        None => None,
+    }
+}
+
+fn resume_within_row(a: &[u8], b: &[u8], d: &[u8]) -> Option<Command>
+    ensures { result ≡ with_three resume_within (held_number a.now) (limit_in b.now) (budget_in d.now) }
+{
+    let Some(cursor) = number_in(a, 1, GREATEST) else {
+        return None;
+    };
+    let Some(limit) = number_in(b, 1, MOST) else {
+        return None;
+    };
+    match number_in(d, LEAST_BUDGET, GREATEST_BUDGET) {
+        Some(budget) => Some(Command::Resume {
+            cursor,
+            limit,
+            budget: Some(budget),
+        }),
         None => None,
     }
 }

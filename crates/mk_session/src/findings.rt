@@ -1,7 +1,7 @@
 // What a command comes to. A further command is a further function and a further arm here.
 ghost use Rattle.std.specs.Prelude.{◌≡◌, IfOk, Some};
 ghost use Rattle.mk_session.specs.Commands.{CanAsk};
-ghost use Rattle.mk_effects.specs.Searching.{IsLimit};
+ghost use Rattle.mk_effects.specs.Searching.{IsBudget, IsLimit};
 ghost use Rattle.mk_library.specs.Library.{IsSame};
 ghost use Rattle.mk_kept.specs.Saved.{IsSameSaved};
 ghost use Rattle.mk_effects.specs.Drilling.{IsDrillAnswer};
@@ -55,12 +55,19 @@ pub fn found_of<F: Files, L: Ledger>(
             keep_found(alloc, saved, files, name.as_str(), file.as_str())
         }
         Command::Forget { name } => Ok(forget_found(alloc, saved, name.as_str())?),
-        Command::Search { name, limit } => {
-            Ok(search_found(alloc, library, saved, name.as_str(), *limit, steps)?)
+        Command::Search {
+            name,
+            limit,
+            budget,
+        } => {
+            let name = name.as_str();
+            Ok(search_found(alloc, library, saved, name, *limit, *budget, steps)?)
         }
-        Command::Resume { cursor, limit } => {
-            Ok(resume_found(alloc, library, saved, *cursor, *limit, steps)?)
-        }
+        Command::Resume {
+            cursor,
+            limit,
+            budget,
+        } => Ok(resume_found(alloc, library, saved, *cursor, *limit, *budget, steps)?),
         Command::Table { name } => Ok(table_found(alloc, library, saved, name.as_str(), steps)?),
         Command::Drill { start, count } => Ok(drill_found(alloc, *start, *count)?),
     }

@@ -43,8 +43,9 @@ pub fn runs_keep_reading()
     records_change_alone();
 }
 
-/// Over told files a command comes to at most one effect, and a run has at most one outcome: the
-/// bytes that it adds, the tables that it leaves, and its status.
+/// Over told files a command without a budget comes to at most one effect, and a run in which no
+/// command has a budget has at most one outcome: the bytes that it adds, the tables that it leaves,
+/// and its status.
 pub fn one_run()
     ensures effect { OneEffect }
     ensures run { OneRun }

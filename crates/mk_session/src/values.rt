@@ -5,7 +5,8 @@ use mk_query::{fault_or_query, one_first_fault, one_query};
 use mk_rgfile::query_file_is_exact;
 
 /// Over told files, where each is there whose turn comes, an order comes to an effect and a run has
-/// an outcome. That there is one alone is said by `one_run`.
+/// an outcome. That there is one alone where there is no
+/// budget is said by `one_run`.
 pub fn orders_and_runs_have_values()
     ensures effect { EachOrderHasEffect }
     ensures kept { EffectsKeepQueries }

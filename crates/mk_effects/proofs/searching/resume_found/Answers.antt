@@ -1,12 +1,11 @@
-use Rattle.std.proofs.Common.{◌≡◌, ◌∙◌, ◌<◌, length, sym, ap, refl, arith, List}
-use Rattle.std.proofs.lemmas.Bool.{ltb-false, ltb-true}
-use Rattle.mk_text.specs.Rising.{place_behind}
+use Rattle.std.proofs.Common.{◌≡◌, ◌∙◌, ap, refl, subst, List}
 use Rattle.mk_outside.specs.declared.tables.Change.{Change}
 use Rattle.mk_outside.specs.declared.tables.CursorRow.{CursorRow}
+use Rattle.mk_effects.specs.declared.effect.Stop.{Stop}
 use Rattle.mk_effects.specs.Effects.{Answers}
-use Rattle.mk_effects.specs.Searching.{IsListing, ListsRest, MovesPlace}
+use Rattle.mk_effects.specs.Searching.{HasListing, IsListing, ListsRest, MovesPlace}
 use Rattle.mk_kept.specs.Named.{IsQueryNamed}
-use Rattle.mk_effects.proofs.HitLinesLemmas.{ended_is, more_is}
+use Rattle.mk_effects.proofs.HitLinesLemmas.{goes_on}
 use Rattle.mk_effects.proofs.searching.resume_found.Goals as goal
 
 pub returns-in_ok-pending-in-Ended-clause-comes : goal.returns-in_ok-pending-in-Ended-clause-comes
@@ -14,22 +13,40 @@ returns-in_ok-pending-in-Ended-clause-comes g c =
     let s = c.in-Some.search.now in
     let row : CursorRow = record { number = c.args.number; name = s.name; place = s.place } in
     let query = c.in-Some-query_named.query.now in
-    let hits = c.in_ok-listed.listed.hits in
     let named : IsQueryNamed c.args.saved.now.queries s.name query = rw c.as_slice.ensures at c.in-Some-query_named.ensures.some in
-    let listing : IsListing c.args.library.now.records query s.place c.args.limit c.args.number hits c.in_ok-listed.text = rw c.as_slice-place.ensures at c.in_ok-listed.ensures.listing in
-    let few : length hits < c.args.limit = ltb-true _ _ (ended_is _ _ (sym c.in-Ended.is ∙ c.in_ok-listed.ensures.stops)) in
-    ListsRest row c.in-Some.ensures.some query named hits c.in_ok-listed.text listing few (ap (λ (changes : List Change). Answers changes c.in_ok-listed.text) c.in_ok-pending-in-Ended.ensures)
+    let l : HasListing c.args.library.now.records query s.place c.args.limit c.args.budget c.args.number c.in_ok-listed.listed.stop c.in_ok-listed.listed.place
+    c.in_ok-listed.listed.text = rw c.as_slice-place.ensures at c.in_ok-listed.ensures.listed in
+    ListsRest row c.in-Some.ensures.some query named l.keys c.in_ok-listed.listed.place c.in_ok-listed.listed.text
+    (subst (λ (x : Stop). IsListing c.args.library.now.records query s.place c.args.limit c.args.budget c.args.number l.keys x c.in_ok-listed.listed.place c.in_ok-listed.listed.text)
+    c.in-Ended.is l.listing)
+    (ap (λ (changes : List Change). Answers changes c.in_ok-listed.listed.text) c.in_ok-pending-in-Ended.ensures)
 
 pub returns-in_ok-pending-in-More-clause-comes : goal.returns-in_ok-pending-in-More-clause-comes
 returns-in_ok-pending-in-More-clause-comes g c =
     let s = c.in-Some.search.now in
     let row : CursorRow = record { number = c.args.number; name = s.name; place = s.place } in
     let query = c.in-Some-query_named.query.now in
-    let hits = c.in_ok-listed.listed.hits in
     let named : IsQueryNamed c.args.saved.now.queries s.name query = rw c.as_slice.ensures at c.in-Some-query_named.ensures.some in
-    let listing : IsListing c.args.library.now.records query s.place c.args.limit c.args.number hits c.in_ok-listed.text = rw c.as_slice-place.ensures at c.in_ok-listed.ensures.listing in
-    let many = ltb-false _ _ (more_is _ _ _ (sym c.in-More.is ∙ c.in_ok-listed.ensures.stops)) in
-    let full : length hits ≡ c.args.limit = omega (arith, many, listing.first.few) in
+    let l : HasListing c.args.library.now.records query s.place c.args.limit c.args.budget c.args.number c.in_ok-listed.listed.stop c.in_ok-listed.listed.place
+    c.in_ok-listed.listed.text = rw c.as_slice-place.ensures at c.in_ok-listed.ensures.listed in
     let name : c.of-name.result ≡ s.name = c.of-name.ensures ∙ (rw c.as_slice-in-More.ensures at c.in_ok-from_slice-in-More.ensures.items) in
-    let place : c.in_ok-listed.listed.place ≡ place_behind s.place hits = rw c.as_slice-place.ensures at c.in_ok-listed.ensures.behind in
-    MovesPlace row c.in-Some.ensures.some query named hits c.in_ok-listed.text listing full (rw (c.in_ok-pending-in-More.ensures, name, place) refl)
+    MovesPlace row c.in-Some.ensures.some query named l.keys c.in_ok-listed.listed.stop c.in_ok-listed.listed.place c.in_ok-listed.listed.text l.listing
+    (goes_on c.in_ok-listed.listed.stop c.in-More.is) (rw (c.in_ok-pending-in-More.ensures, name) refl)
+
+pub returns-in_ok-pending-in-More-clause-begins : goal.returns-in_ok-pending-in-More-clause-begins
+returns-in_ok-pending-in-More-clause-begins g c =
+    let s = c.in-Some.search.now in
+    let row : CursorRow = record { number = c.args.number; name = s.name; place = s.place } in
+    let name : c.of-name.result ≡ s.name = c.of-name.ensures ∙ (rw c.as_slice-in-More.ensures at c.in_ok-from_slice-in-More.ensures.items) in
+    record {
+      row = row;
+      saved = c.in-Some.ensures.some;
+      listed = record {
+        query = c.in-Some-query_named.query.now;
+        named = rw c.as_slice.ensures at c.in-Some-query_named.ensures.some;
+        stops = c.in_ok-listed.listed.stop;
+        next = c.in_ok-listed.listed.place;
+        begins = rw c.as_slice-place.ensures at c.in_ok-listed.ensures.begins;
+        saved = λ _. rw (c.in_ok-pending-in-More.ensures, name) refl;
+      };
+    }
