@@ -14,7 +14,7 @@ use Rattle.indexmap.specs.IndexMap.{insert_entry, swap_remove_entry}
 use Rattle.mk_model.specs.Graphs.{GraphView}
 use Rattle.mk_model.specs.Molecules.{Molecule}
 use Rattle.mk_model.specs.Queries.{QueryView}
-use Rattle.mk_match.specs.Counts.{HasNoHit}
+use Rattle.mk_model.specs.Hits.{HasNoEmbedding}
 use Rattle.mk_open.specs.Alone.{HoldsNoneAlone, IsAloneCode, alone_code}
 use Rattle.mk_open.specs.Fronts.{IsFrontCode, front_code}
 use Rattle.mk_fronts.specs.Asks.{AreAsksOf, HoldsNoGraph, IsAskOf}
@@ -38,9 +38,9 @@ found query key (e ∷ es) graph are is =
     (λ other. λ later. found query key es graph (All-tail (λ entry. IsAskOf query entry.0.items entry.1) e es are) later)
     is
 
--- a graph that is found, and has no hit
+-- a graph that is found, and has no embedding
 pub refused : (query : QueryView) (mol : Molecule) (key : List ℕ) (es : List (Vec ℕ × GraphView)) (graph : GraphView) → AreAsksOf query es
-    → lookup (λ k. bytes_eq key k.items) es ≡ Some graph → HasNoHit graph mol → HoldsNoGraph query mol key
+    → lookup (λ k. bytes_eq key k.items) es ≡ Some graph → HasNoEmbedding graph mol → HoldsNoGraph query mol key
 refused query mol key es graph are is none = record { part = graph; of = found query key es graph are is; none = none }
 
 module _ (query : QueryView) (eq : Vec ℕ → Vec ℕ → Bool) (same : (a b : Vec ℕ) → eq a b ≡ true → a.items ≡ b.items) where

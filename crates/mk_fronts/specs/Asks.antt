@@ -2,7 +2,7 @@
 --     IsAsk graph asked need          what a graph asks for in numbers, and needs of a screen
 --     IsAskOf query key graph         the graph is that of an open code that begins with the key
 --     AreAsksOf query entries         the graphs that are kept under keys are so
---     HoldsNoGraph query mol key      the molecule has no hit of such a graph
+--     HoldsNoGraph query mol key      the molecule has no embedding of such a graph
 use Rattle.std.specs.Prelude.{ℕ, List, All}
 use Rattle.std.specs.Global.{Vec}
 use Rattle.mk_model.specs.declared.screen.Screen.{Screen}
@@ -12,7 +12,7 @@ use Rattle.mk_model.specs.Queries.{QueryView}
 use Rattle.mk_model.specs.Screens.{IsNeedOf}
 use Rattle.mk_match.specs.declared.asked.Asked.{Asked}
 use Rattle.mk_match.specs.Asked.{AreAsked}
-use Rattle.mk_match.specs.Counts.{HasNoHit}
+use Rattle.mk_model.specs.Hits.{HasNoEmbedding}
 use Rattle.mk_open.specs.Fronts.{IsFrontCode}
 use Rattle.mk_open.specs.OpenGraphs.{IsOpenGraph}
 
@@ -31,9 +31,9 @@ pub record IsAskOf (query : QueryView) (key : List ℕ) (graph : GraphView) : Ty
 abbrev pub AreAsksOf : QueryView → List (Vec ℕ × GraphView) → Type 0
 AreAsksOf query entries = All (λ entry. IsAskOf query entry.0.items entry.1) entries
 
--- the graph of an open code, which is the key with some slots left open behind it, has no hit in the
--- molecule
+-- the graph of an open code, which is the key with some slots left open behind it, has no embedding in
+-- the molecule
 pub record HoldsNoGraph (query : QueryView) (mol : Molecule) (key : List ℕ) : Type 0 where
   pub part : GraphView
   pub of : IsAskOf query key part
-  pub none : HasNoHit part mol
+  pub none : HasNoEmbedding part mol

@@ -1,18 +1,17 @@
 // The graph of an open code, and whether a molecule may hold it.
-ghost use Rattle.std.specs.Prelude.{◌≡◌, ◌<◌, ◌↔◌, false, IfOk, IsTrue};
-ghost use Rattle.mk_model.specs.Screens.{Covers, IsNeedOf, IsScreenOf};
+ghost use Rattle.std.specs.Prelude.{◌≡◌, false, IfOk};
+ghost use Rattle.mk_model.specs.Hits.{HasNoEmbedding};
+ghost use Rattle.mk_model.specs.Screens.{IsNeedOf, IsScreenOf};
 ghost use Rattle.mk_match.specs.Asked.{AreThere};
-ghost use Rattle.mk_match.specs.Counts.{HasNoHit};
 ghost use Rattle.mk_open.specs.OpenCodes.{IsOpenCode};
 ghost use Rattle.mk_open.specs.OpenGraphs.{IsOpenGraph};
 
 use mk_match::{Asked, Counts, cannot_hold, counts_asked, may_hold};
-use mk_model::{Graph, Memory, Mol, Query, Screen, Steps};
+use mk_model::{Graph, Memory, Mol, Query, Screen};
 use mk_open::open_graph;
-use mk_screen::{covers, need_of};
+use mk_screen::{is_covered, need_of};
 use std::alloc::Global;
-use std::marker::{Brand, Model};
-use std::sync::ledger::{Blank, Ledger};
+use std::marker::Model;
 
 // How many turns a search may take that looks for a graph.
 const MOST_TURNS: u32 = 2_000;
@@ -66,9 +65,12 @@ impl Ask {
     ) -> Result<bool, Memory>
         requires screen { IsScreenOf mol.now screen.now }
         requires there { AreThere mol.now there.now }
-        ensures { IfOk result (λ may. may ≡ false → HasNoHit self.now mol.now) }
+        ensures { IfOk result (λ may. may ≡ false → HasNoEmbedding self.now mol.now) }
     {
-        if !is_covered::<Brand>(screen, &self.need, Blank::new(1)) {
+        // The two are asked for what they say alone.
+        let _few = self.graph.atom_count();
+        let _width = mol.atoms().len();
+        if !is_covered(screen, &self.need) {
             return Ok(false);
         }
         if cannot_hold(&self.asked, there) {
@@ -83,15 +85,4 @@ impl Ask {
         let bonds = self.graph.bonds().len().saturating_mul(64);
         atoms.saturating_add(bonds).saturating_add(1_024)
     }
-}
-
-// Tells that a screen covers a need. The look is counted on a ledger of its own.
-fn is_covered<L: Ledger>(screen: &Screen, need: &Screen, blank: Blank) -> bool
-    requires name { blank.name ≡ L.name }
-    requires parts { blank.parts ≡ L.parts }
-    requires one { 0 < L.parts }
-    ensures { IsTrue result ↔ Covers screen.now need.now }
-{
-    let mut looks = Steps::<L>::new(blank);
-    covers(screen, need, &mut looks)
 }

@@ -1,10 +1,12 @@
 -- The first atoms of a hit, one after another.
+--     begun_none        no atom is begun
 --     begun_more        what may stand behind the first atoms goes on with them
 --     hit_begins        each atom of a hit may stand behind those before it
 --     begun_less        and without its last atoms they are begun too
 --     begun_whole       as many atoms as the graph has are a hit
-use Rattle.std.proofs.Common.{◌≡◌, ◌≢◌, ℕ, suc, ◌+◌, ◌<◌, ◌≤◌, ◌-◌, inl, inr, List, [], ◌∷◌, ◌++◌, length, get_or, refl, sym, subst, ◌∙◌, arith, All, length-append}
+use Rattle.std.proofs.Common.{◌≡◌, ◌≢◌, ℕ, suc, ◌+◌, ◌<◌, ◌≤◌, ◌-◌, inl, inr, List, [], ◌∷◌, ◌++◌, length, get_or, take, refl, sym, subst, ◌∙◌, arith, All, Contains, append_assoc, length-append}
 use Rattle.std.proofs.lemmas.Bool.{cases_lt}
+use Rattle.std.proofs.lemmas.List.{take-append-le, take_all}
 use Rattle.std.proofs.Math.ListN.{get_or-append}
 use Rattle.std.proofs.Math.Seq.{get_or-append_seam}
 use Rattle.std.proofs.lemmas.List.Elements.{All-push}
@@ -13,11 +15,13 @@ use Rattle.mk_model.specs.declared.graph.GraphBond.{GraphBond}
 use Rattle.mk_model.specs.Molecules.{IsMolecule, Molecule}
 use Rattle.mk_model.specs.Graphs.{GraphView, IsGraph}
 use Rattle.mk_model.specs.Fitting.{FitsAtom, LiesOn}
-use Rattle.mk_model.specs.Hits.{image, IsHit}
+use Rattle.mk_model.specs.Hits.{image, IsHit, IsPlainAt, IsPlainDrawn}
 use Rattle.mk_model.proofs.ForCallers.{drawn_first}
 use Rattle.mk_match.specs.Begun.{IsBegun, MayStand}
+use Rattle.mk_match.specs.Hydrogens.{LeavesNoneFree}
 use Rattle.mk_match.specs.Table.{MayLie}
 use Rattle.mk_match.proofs.BondCountLemmas.{may_lie}
+use Rattle.mk_match.proofs.HydrogensLemmas.{begins_free, plain_least, plain_most}
 
 -- the images of the first atoms stay
 image_first : (first others : List ℕ) (x : ℕ) → 1 ≤ x → x ≤ length first → image (first ++ others) x ≡ image first x
@@ -39,6 +43,20 @@ lies_by mol bond a b c d first second lies =
 -- how long the first atoms and one more are
 one_longer : (first : List ℕ) (a : ℕ) → length (first ++ (a ∷ [])) ≡ length first + 1
 one_longer first a = length-append first (a ∷ [])
+
+-- before the first atom
+pub begun_none : (graph : GraphView) (mol : Molecule) → All (λ bond. bond.first < bond.second) graph.bonds → IsBegun graph mol []
+begun_none graph mol lower = record {
+  short = omega arith;
+  within = λ k d within. absurd (omega arith);
+  distinct = λ i j d order within. absurd (omega arith);
+  atoms = λ x least most. absurd (omega arith);
+  bonds = λ k d within up_to. (let less = lower k d within in absurd (omega arith));
+  rise = λ x h later plain other order early. absurd (omega arith);
+  first_free = λ size few.
+      (let none : size ≡ 0 = omega arith in
+      subst (λ (n : ℕ). LeavesNoneFree graph mol (take n [])) (sym none) (λ x h m y plain early at_h at_y under. absurd (omega arith)));
+}
 
 -- ---- one atom more
 
@@ -74,6 +92,35 @@ module _ (graph : GraphView) (mol : Molecule) (first : List ℕ) (a : ℕ) where
             lies_by mol bond _ _ _ _ same (sym (image_first first (a ∷ []) bond.second from' up)) (begun.bonds k d within up)
       ]
 
+  -- the images of plain hydrogens rise
+  rise_more : All (λ bond. bond.first < bond.second) graph.bonds → All (λ bond. 1 ≤ bond.first) graph.bonds → IsBegun graph mol first → MayStand graph mol first a
+      → (x h later : ℕ) → IsPlainDrawn graph x h → IsPlainDrawn graph x later → h < later → later ≤ length (first ++ (a ∷ [])) → image (first ++ (a ∷ [])) h < image (first ++ (a ∷ [])) later
+  rise_more lower least begun stands x h later plain other order up_to =
+      let from : 1 ≤ h = plain_least graph x h lower least plain in
+      let long = one_longer first a in
+      let same : image (first ++ (a ∷ [])) h ≡ image first h = image_first first (a ∷ []) h from (omega arith) in
+      elim (cases_lt (length first) later) [
+        | inl last ↦
+            let is : later ≡ length first + 1 = omega arith in
+            let next : image (first ++ (a ∷ [])) later ≡ a = image_next first [] a later is in
+            let rises : image first h < a = stands.rise x h plain (subst (IsPlainDrawn graph x) is other) (omega arith) in
+            omega arith
+        | inr early ↦
+            let there : image (first ++ (a ∷ [])) later ≡ image first later = image_first first (a ∷ []) later (omega arith) early in
+            let rises : image first h < image first later = begun.rise x h later plain other order early in
+            omega arith
+      ]
+
+  -- and none is left free on the way
+  free_more : IsBegun graph mol first → MayStand graph mol first a → (size : ℕ) → size ≤ length (first ++ (a ∷ [])) → LeavesNoneFree graph mol (take size (first ++ (a ∷ [])))
+  free_more begun stands size up_to =
+      elim (cases_lt (length first) size) [
+        | inl last ↦
+            let whole : take size (first ++ (a ∷ [])) ≡ first ++ (a ∷ []) = take_all size (first ++ (a ∷ [])) (omega (arith, one_longer first a)) in
+            subst (LeavesNoneFree graph mol) (sym whole) stands.first_free
+        | inr early ↦ subst (LeavesNoneFree graph mol) (sym (take-append-le size first (a ∷ []) early)) (begun.first_free size early)
+      ]
+
   -- what may stand behind the first atoms goes on with them
   pub begun_more : All (λ bond. bond.first < bond.second) graph.bonds → All (λ bond. 1 ≤ bond.first) graph.bonds → IsBegun graph mol first → MayStand graph mol first a
       → length first < length graph.atoms → 1 ≤ a → a ≤ length mol.atoms → IsBegun graph mol (first ++ (a ∷ []))
@@ -83,6 +130,8 @@ module _ (graph : GraphView) (mol : Molecule) (first : List ℕ) (a : ℕ) where
     distinct = all_pairs_push (λ m n. m ≢ n) first a begun.distinct (λ k d within. stands.new k d within);
     atoms = atoms_more begun stands;
     bonds = bonds_more lower least begun stands;
+    rise = rise_more lower least begun stands;
+    first_free = free_more begun stands;
   }
 
   -- ---- the atoms of a hit
@@ -112,6 +161,13 @@ module _ (graph : GraphView) (mol : Molecule) (first : List ℕ) (a : ℕ) where
               let from' : 1 ≤ bond.first = least k d within in
               let early : bond.first ≤ length first = omega arith in
               lies_by mol bond _ _ _ _ (image_first first (a ∷ others) bond.first from' early) (image_next first others a bond.second is) (hit.bonds k d within);
+          rise = λ x h plain other early.
+              let least' : 1 ≤ h = plain_least graph x h lower least plain in
+              let same : image (first ++ (a ∷ others)) h ≡ image first h = image_first first (a ∷ others) h least' early in
+              let next : image (first ++ (a ∷ others)) (length first + 1) ≡ a = image_next first others a (length first + 1) refl in
+              let rises : image (first ++ (a ∷ others)) h < image (first ++ (a ∷ others)) (length first + 1) = hit.rise x h (length first + 1) plain other (omega arith) in
+              omega arith;
+          first_free = begins_free graph mol drawing (first ++ (a ∷ [])) others (subst (IsHit graph mol) (sym (append_assoc first (a ∷ []) others)) hit);
         },
         in_range.0,
         in_range.1,
@@ -147,9 +203,26 @@ begun_less graph mol first others lower least begun =
           let from' : 1 ≤ bond.second = omega arith in
           let within_all : bond.second ≤ length (first ++ others) = omega arith in
           lies_by mol bond _ _ _ _ (image_first first others bond.first from early) (image_first first others bond.second from' up_to) (begun.bonds k d within within_all));
+      rise = λ x h later plain other order early.
+          (let from : 1 ≤ h = plain_least graph x h lower least plain in
+          let here : image (first ++ others) h ≡ image first h = image_first first others h from (omega arith) in
+          let there : image (first ++ others) later ≡ image first later = image_first first others later (omega arith) early in
+          let rises : image (first ++ others) h < image (first ++ others) later = begun.rise x h later plain other order (omega arith) in
+          omega arith);
+      first_free = λ size early. subst (LeavesNoneFree graph mol) (take-append-le size first others early) (begun.first_free size (omega arith));
     }
 
 -- ---- the whole
+
+-- behind the last atom no taker is left
+none_left_free : (graph : GraphView) (mol : Molecule) (first : List ℕ) → length first ≡ length graph.atoms → LeavesNoneFree graph mol first
+    → (x h m y : ℕ) → IsPlainDrawn graph x h → IsPlainAt mol m (image first h) → IsPlainAt mol m y → y < image first h → Contains first y
+none_left_free graph mol first whole free x h m y plain at_h at_y under =
+    let most = plain_most graph x h plain in
+    elim (free x h m y plain (omega arith) at_h at_y under) [
+      | inl held ↦ held
+      | inr behind ↦ absurd (omega (arith, behind.behind, behind.taker.most))
+    ]
 
 -- as many atoms as the graph has are a hit
 pub begun_whole : (graph : GraphView) (mol : Molecule) (first : List ℕ)
@@ -161,6 +234,10 @@ begun_whole graph mol first within begun whole = record {
   distinct = begun.distinct;
   atoms = λ x least most. (let up_to : x ≤ length first = omega arith in begun.atoms x least up_to);
   bonds = λ k d below. (let up_to = within k d below in begun.bonds k d below (omega arith));
+  rise = λ x h later plain other order. (let most = plain_most graph x later other in begun.rise x h later plain other order (omega arith));
+  first_free = λ x h y plain at_h at_y under.
+      (let all : take (length first) first ≡ first = take_all (length first) first (omega arith) in
+      none_left_free graph mol first whole (subst (LeavesNoneFree graph mol) all (begun.first_free (length first) (omega arith))) x h (image first x) y plain at_h at_y under);
 }
 
 -- a hit has no more atoms than the graph

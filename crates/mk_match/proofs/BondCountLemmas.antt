@@ -1,12 +1,9 @@
 -- The bonds of an atom and those of its image: there are at least as many.
+--     one_image    two atoms of a graph with one image are one
 --     may_lie      an atom of the graph may lie on its image in a hit
-use Rattle.std.proofs.Common.{◌≡◌, ◌≢◌, ℕ, ◌+◌, ◌<◌, ◌≤◌, ◌-◌, inl, inr, true, false, cond, eqb, eq-eqb, List, [], ◌∷◌, length, get_or, map, refl, sym, subst, ◌∙◌, arith, All, AllPairs, Contains}
-use Rattle.std.specs.Cmp.{IsEquivalence}
-use Rattle.std.specs.Set.{is_member}
-use Rattle.std.proofs.lemmas.Bool.Decides.{Decides-eqb, nat_tests}
+use Rattle.std.proofs.Common.{◌≡◌, ◌≢◌, ℕ, ◌+◌, ◌<◌, ◌≤◌, ◌-◌, inl, inr, true, false, cond, List, [], ◌∷◌, length, get_or, map, refl, sym, subst, ◌∙◌, arith, All, AllPairs, Contains}
 use Rattle.std.proofs.lemmas.List.{get_or-map, length-map}
 use Rattle.std.proofs.lemmas.List.Kept.{AllPairs-cons}
-use Rattle.std.proofs.lemmas.Map.Made.{IsDistinct-from_AllPairs, length-le_from_is_member}
 use Rattle.std.proofs.lemmas.Bool.{cases_lt}
 use Rattle.mk_text.proofs.PickedLemmas.{fits_in}
 use Rattle.mk_model.specs.declared.edge.Edge.{Edge}
@@ -63,6 +60,18 @@ ends_within : (atoms : ℕ) (edge : Edge) (x y : ℕ) → IsBetween atoms edge �
 ends_within atoms edge x y between (inl h) = (omega (arith, between.second.0, h.1), omega (arith, between.second.1, h.1))
 ends_within atoms edge x y between (inr h) = (omega (arith, between.first.0, h.0), omega (arith, between.first.1, h.0))
 
+-- two atoms of a graph with one image are one
+pub one_image : (graph : GraphView) (mol : Molecule) (hit : List ℕ) → IsHit graph mol hit → (y z : ℕ) → (1 ≤ y) × (y ≤ length graph.atoms)
+    → (1 ≤ z) × (z ≤ length graph.atoms) → image hit y ≡ image hit z → y ≡ z
+one_image graph mol hit is y z range_y range_z same =
+    elim (cases_lt y z) [
+      | inl less ↦ absurd (is.distinct (y - 1) (z - 1) 0 (omega (arith, range_y.0)) (omega (arith, range_z.0, range_z.1, is.one_each)) same)
+      | inr more ↦ elim (cases_lt z y) [
+        | inl less ↦ absurd (is.distinct (z - 1) (y - 1) 0 (omega (arith, range_z.0)) (omega (arith, range_y.0, range_y.1, is.one_each)) (sym same))
+        | inr up ↦ omega arith
+      ]
+    ]
+
 module _ (graph : GraphView) (mol : Molecule) (hit : List ℕ) (x : ℕ) (drawing : IsGraph graph) (is : IsHit graph mol hit) where
   numbers : List ℕ
   numbers = numbers_at (graph_edges graph.bonds) x
@@ -71,9 +80,9 @@ module _ (graph : GraphView) (mol : Molecule) (hit : List ℕ) (x : ℕ) (drawin
   image_by number = image hit (neighbour (graph_edges graph.bonds) x number)
 
   -- two numbers whose neighbours have one image are one
-  one_image : (a b : ℕ) → IsNumberOf (graph_edges graph.bonds) x a → IsNumberOf (graph_edges graph.bonds) x b → image_by a ≡ image_by b → a ≡ b
+  one_number : (a b : ℕ) → IsNumberOf (graph_edges graph.bonds) x a → IsNumberOf (graph_edges graph.bonds) x b → image_by a ≡ image_by b → a ≡ b
   unfolding image_by
-  one_image a b is_a is_b same =
+  one_number a b is_a is_b same =
       let bonds = graph_edges graph.bonds in
       let below_a : a - 1 < length bonds = omega (arith, is_a.least, is_a.most) in
       let below_b : b - 1 < length bonds = omega (arith, is_b.least, is_b.most) in
@@ -81,7 +90,7 @@ module _ (graph : GraphView) (mol : Molecule) (hit : List ℕ) (x : ℕ) (drawin
       let ends_b = neighbour_ends bonds x b is_b in
       let range_a = ends_within (length graph.atoms) (get_or bonds (a - 1) no_edge) x (neighbour bonds x a) (drawing.sketch.graph.ends (a - 1) no_edge below_a) ends_a in
       let range_b = ends_within (length graph.atoms) (get_or bonds (b - 1) no_edge) x (neighbour bonds x b) (drawing.sketch.graph.ends (b - 1) no_edge below_b) ends_b in
-      let one : neighbour bonds x a ≡ neighbour bonds x b = one_atom (neighbour bonds x a) (neighbour bonds x b) range_a range_b same in
+      let one : neighbour bonds x a ≡ neighbour bonds x b = one_image graph mol hit is (neighbour bonds x a) (neighbour bonds x b) range_a range_b same in
       let joins_a : Joins bonds (a - 1) x (neighbour bonds x a) = record { edge = get_or bonds (a - 1) no_edge; at = at_place bonds (a - 1) no_edge below_a; ends = ends_a } in
       let joins_b : Joins bonds (b - 1) x (neighbour bonds x a) =
       record {
@@ -90,16 +99,6 @@ module _ (graph : GraphView) (mol : Molecule) (hit : List ℕ) (x : ℕ) (drawin
         ends = subst (HasEnds (get_or bonds (b - 1) no_edge) x) (sym one) ends_b;
       } in
       omega (arith, drawing.sketch.graph.once (a - 1) (b - 1) x (neighbour bonds x a) joins_a joins_b, is_a.least, is_b.least)
-    where
-      one_atom : (y z : ℕ) → (1 ≤ y) × (y ≤ length graph.atoms) → (1 ≤ z) × (z ≤ length graph.atoms) → image hit y ≡ image hit z → y ≡ z
-      one_atom y z range_y range_z same =
-          elim (cases_lt y z) [
-            | inl less ↦ absurd (is.distinct (y - 1) (z - 1) 0 (omega (arith, range_y.0)) (omega (arith, range_z.0, range_z.1, is.one_each)) same)
-            | inr more ↦ elim (cases_lt z y) [
-              | inl less ↦ absurd (is.distinct (z - 1) (y - 1) 0 (omega (arith, range_z.0)) (omega (arith, range_y.0, range_y.1, is.one_each)) (sym same))
-              | inr up ↦ omega arith
-            ]
-          ]
 
   -- the images of the neighbours are distinct
   images_distinct : AllPairs (λ a b. a ≢ b) (map image_by numbers)
@@ -111,7 +110,7 @@ module _ (graph : GraphView) (mol : Molecule) (hit : List ℕ) (x : ℕ) (drawin
       let here = get_or-map image_by (numbers_at bonds x) i 0 d below' in
       let there = get_or-map image_by (numbers_at bonds x) j 0 d below in
       numbers_distinct 1 bonds x i j 0 order below
-      (one_image (get_or (numbers_at bonds x) i 0) (get_or (numbers_at bonds x) j 0) (numbers_at-each bonds x i below') (numbers_at-each bonds x j below) (sym here ∙ same ∙ there))
+      (one_number (get_or (numbers_at bonds x) i 0) (get_or (numbers_at bonds x) j 0) (numbers_at-each bonds x i below') (numbers_at-each bonds x j below) (sym here ∙ same ∙ there))
 
   -- the image of a neighbour is bonded to that of the atom
   image_bonded : (a : ℕ) → IsNumberOf (graph_edges graph.bonds) x a → AreBonded mol (image hit x) (image_by a)

@@ -3,7 +3,8 @@
 --     no_end_between      no atom that is bonded lies between the number and the least end above it
 --     no_end_above        and none lies above it where there is no such end
 --     end_bonded          each end is bonded
-use Rattle.std.proofs.Common.{◌≡◌, ℕ, ◌+◌, ◌<◌, ◌≤◌, ◌-◌, ◌||◌, inl, inr, Bool, true, false, cond, eqb, min, List, [], ◌∷◌, ◌++◌, length, get_or, Option, Some, None, refl, sym, ap, subst, ◌∙◌, arith, All}
+--     among_at, at_among  an atom is among the first images where its level says
+use Rattle.std.proofs.Common.{◌≡◌, ℕ, ◌+◌, ◌<◌, ◌≤◌, ◌-◌, ◌||◌, inl, inr, Bool, true, false, cond, eqb, min, List, [], ◌∷◌, ◌++◌, length, get_or, Option, Some, None, refl, sym, ap, subst, ◌∙◌, arith, All, Contains}
 use Rattle.std.specs.Prelude.{IfNone, IfSome, slice_get, nat_le}
 use Rattle.std.proofs.lemmas.Bool.Decides.{nat_tests}
 use Rattle.std.proofs.lemmas.List.{length-map, get_or-map, get_or_default}
@@ -156,3 +157,19 @@ pub ends_above : (mol : Molecule) (n above : ℕ) (found : Option ℕ)
     → IfNone found ((b : ℕ) → above < b → IsCandidate mol (Some n) b → b ≤ length mol.atoms → ⊥)
 ends_above mol n above None is = λ b over bonded within. no_end_above mol n above b is over bonded
 ends_above mol n above (Some least) is = tt
+
+-- ---- the first images
+
+-- the level that is kept for one of the first images is its place
+pub among_at : (first levels : List ℕ) (a level : ℕ) → ((j : ℕ) → j < length first → get_or levels (get_or first j 0 - 1) 0 ≡ j) → level ≡ get_or levels (a - 1) 0
+    → Contains first a → (level < length first) × (get_or first level 0 ≡ a)
+among_at first levels a level stand is held =
+    let k = held.0 in
+    let within : k < length first = held.1 in
+    let here : get_or first k 0 ≡ a = get_or_default first k 0 a within ∙ held.2 in
+    let at : level ≡ k = is ∙ sym (ap (λ (n : ℕ). get_or levels (n - 1) 0) here) ∙ stand k within in
+    (omega arith, ap (λ (n : ℕ). get_or first n 0) at ∙ here)
+
+-- an atom at a level is one of the first
+pub at_among : (first : List ℕ) (a level : ℕ) → level < length first → get_or first level 0 ≡ a → Contains first a
+at_among first a level below here = (level, below, get_or_default first level a 0 below ∙ here)

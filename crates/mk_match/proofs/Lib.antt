@@ -3,6 +3,8 @@ pub mod PassedLemmas
 pub mod ListsFromLemmas
 pub mod ListTestLemmas
 pub mod BondCountLemmas
+pub mod HydrogensLemmas
+pub mod FreeHydrogensLemmas
 pub mod BegunLemmas
 pub mod CountLemmas
 pub mod AskedLemmas

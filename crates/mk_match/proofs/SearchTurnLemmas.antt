@@ -1,7 +1,7 @@
 -- What a turn of a search comes to, from where its walk stood to where it stands.
 --     item_least, item_owed, item_pays        a hit
 --     moved_same .. moved_short               a node that is no hit
-use Rattle.std.proofs.Common.{◌≡◌, ℕ, ◌+◌, ◌<◌, ◌≤◌, inl, inr, Bool, List, [], ◌∷◌, ◌++◌, length, take, refl, sym, subst, arith}
+use Rattle.std.proofs.Common.{◌≡◌, ℕ, ◌+◌, ◌≤◌, inl, inr, Bool, List, [], ◌∷◌, ◌++◌, length, take, sym, subst, arith}
 use Rattle.mk_text.specs.Rising.{IsBelow, IsLeast}
 use Rattle.mk_text.proofs.ForCallers.{below_through, not_below_itself}
 use Rattle.mk_model.specs.Molecules.{Molecule}
@@ -9,6 +9,7 @@ use Rattle.mk_model.specs.Graphs.{GraphView}
 use Rattle.mk_model.specs.Hits.{IsHit}
 use Rattle.mk_model.specs.Nodes.{Pays}
 use Rattle.mk_model.proofs.ForCallers.{not_below_front, pays_visit, same_from_between, same_to_between}
+use Rattle.mk_match.specs.declared.hydrogens.PlainHydrogen.{PlainHydrogen}
 use Rattle.mk_match.specs.declared.search.Search.{Search}
 use Rattle.mk_match.specs.declared.search.Stage.{Stage}
 use Rattle.mk_match.specs.declared.search.Stage.TheVariants.{Walking, Once, Ended}
@@ -68,16 +69,16 @@ below_some : (p : List ℕ) (x : ℕ) → IsBelow [] (p ++ x ∷ [])
 below_some [] x = tt
 below_some (y ∷ p) x = tt
 
-owed_by : (graph : GraphView) (mol : Molecule) (place : List ℕ) (debt : ℕ) (stage : Stage) (fits : List Bool)
-    (images levels : List ℕ) (depth above : ℕ) → IsStage graph mol stage fits images levels depth above
+owed_by : (graph : GraphView) (mol : Molecule) (place : List ℕ) (debt : ℕ) (stage : Stage) (fits : List Bool) (hydrogens : List PlainHydrogen)
+    (images levels : List ℕ) (depth above : ℕ) → IsStage graph mol stage fits hydrogens images levels depth above
     → IsOwedAt place 1 stage images depth above → IsDebt graph place debt → IsOwedAt place debt stage images depth above
-owed_by graph mol place debt stage fits images levels depth above is owed (inl one) = subst (λ (n : ℕ). IsOwedAt place n stage images depth above) (sym one.0) owed
-owed_by graph mol place debt Walking fits images levels depth above is owed (inr none) =
+owed_by graph mol place debt stage fits hydrogens images levels depth above is owed (inl one) = subst (λ (n : ℕ). IsOwedAt place n stage images depth above) (sym one.0) owed
+owed_by graph mol place debt Walking fits hydrogens images levels depth above is owed (inr none) =
     (owed.0, λ _. subst (λ (zs : List ℕ). IsBelow zs (place_of images depth above)) (sym none.1) (below_some (take depth images) (above + 1)))
-owed_by graph mol place debt Once fits images levels depth above is owed (inr none) = absurd (omega (arith, is.1, none.2))
-owed_by graph mol place debt Ended fits images levels depth above is owed (inr none) = tt
+owed_by graph mol place debt Once fits hydrogens images levels depth above is owed (inr none) = absurd (omega (arith, is.1, none.2))
+owed_by graph mol place debt Ended fits hydrogens images levels depth above is owed (inr none) = tt
 
 pub owed_at : (graph : GraphView) (mol : Molecule) (place : List ℕ) (debt : ℕ) (search : Search)
     → IsSearch graph mol search → IsOwed place 1 search → IsDebt graph place debt → IsOwed place debt search
 owed_at graph mol place debt search is owed debt_is =
-    owed_by graph mol place debt search.stage search.fits.items search.walk.images.items search.walk.levels.items search.walk.depth search.walk.above is owed debt_is
+    owed_by graph mol place debt search.stage search.fits.items search.hydrogens.items search.walk.images.items search.walk.levels.items search.walk.depth search.walk.above is owed debt_is

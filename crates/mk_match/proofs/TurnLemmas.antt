@@ -1,16 +1,15 @@
 -- Turns of a walk: which node is reached, and what it pays.
 --     visit_is                           a new atom behind the first images is a node
 --     node_some                          the node where a number is passed
-use Rattle.std.proofs.Common.{◌≡◌, ◌≢◌, ℕ, zero, suc, ◌+◌, ◌<◌, ◌≤◌, ◌-◌, ◌⊎◌, inl, inr, List, [], ◌∷◌, ◌++◌, length, get_or, take, set, refl, sym, ap, subst, ◌∙◌, arith, All, Contains, append_assoc, length-append}
+use Rattle.std.proofs.Common.{◌≡◌, ◌≢◌, ℕ, zero, suc, ◌+◌, ◌<◌, ◌≤◌, ◌-◌, List, [], ◌∷◌, ◌++◌, length, get_or, take, set, refl, sym, subst, ◌∙◌, arith, Contains, append_assoc, length-append}
 use Rattle.std.proofs.lemmas.List.{length-take-le, length-set, take-set, take_all, take_more_set}
 use Rattle.std.proofs.lemmas.List.Elements.{All-push}
 use Rattle.std.proofs.lemmas.List.Quantifiers.{all_pairs_push}
 use Rattle.mk_text.specs.Rising.{IsBelow}
 use Rattle.mk_model.specs.Molecules.{Molecule}
 use Rattle.mk_model.specs.Graphs.{GraphView}
-use Rattle.mk_match.specs.Begun.{IsBegun}
-use Rattle.mk_match.specs.Turns.{IsMapNode, IsVisit, node_of}
-use Rattle.mk_match.specs.Walk.{IsWalk, SameFrom, place_of}
+use Rattle.mk_match.specs.Turns.{IsVisit, node_of}
+use Rattle.mk_match.specs.Walk.{IsWalk, place_of}
 use Rattle.mk_model.proofs.ForCallers.{below_more, below_next, not_below_at}
 use Rattle.mk_match.proofs.ListsFromLemmas.{take_last}
 use Rattle.mk_match.proofs.WalkLemmas.{new_where}

@@ -5,7 +5,7 @@
 use Rattle.std.proofs.Common.{◌≡◌, ◌≢◌, ℕ, ◌+◌, ◌<◌, ◌≤◌, ◌-◌, inl, inr, List, [], ◌∷◌, ◌++◌, length, get_or, take, drop, set, Option, Some, None, sym, ap, subst, ◌∙◌, arith, All, Contains, append_assoc, length-append}
 use Rattle.std.specs.Prelude.{IfSome}
 use Rattle.std.specs.Option.{ForSome}
-use Rattle.std.proofs.lemmas.Bool.{cases_lt, cases_eq}
+use Rattle.std.proofs.lemmas.Bool.{cases_eq}
 use Rattle.std.proofs.lemmas.List.{get_or-set_other, get_or-set_same, get_or-take, get_or_default, drop_all, drop_more, length-drop, length-set, length-take-le, take-append-drop, take-set, take_all, take_more, take_more_set}
 use Rattle.mk_text.specs.Rising.{IsBelow, IsLeastFrom}
 use Rattle.mk_model.specs.declared.graph.GraphBond.{GraphBond}
@@ -19,6 +19,7 @@ use Rattle.mk_match.specs.EarlierBonds.{IsAnchor}
 use Rattle.mk_match.specs.Walk.{IsWalk, SameFrom, place_of}
 use Rattle.mk_match.specs.Outlook.{IsNoHitBehind}
 use Rattle.mk_match.proofs.BegunLemmas.{begun_less, begun_more, begun_whole, hit_begins}
+use Rattle.mk_match.proofs.HydrogensLemmas.{plain_most}
 use Rattle.mk_match.proofs.ListsFromLemmas.{take_last}
 use Rattle.mk_text.proofs.ForCallers.{below_through, not_below_itself}
 use Rattle.mk_match.proofs.PassedLemmas.{none_left, same_back, same_in, same_past, same_skip, same_through}
@@ -52,23 +53,6 @@ anchor_within graph mol first (Some anchor) drawing within is =
     λ x e. (let found : image first is.bond.first ≡ x = sym is.is ∙ (cc) in subst P found (within (is.bond.first - 1) 0 below))
 
 -- ---- an atom that is new
-
--- the level that is kept for one of the first atoms is its place
-pub holds_at : (images levels : List ℕ) (depth a level : ℕ) → depth ≤ length images → ((j : ℕ) → j < depth → get_or levels (get_or images j 0 - 1) 0 ≡ j) → level ≡ get_or levels (a - 1) 0
-    → Contains (take depth images) a → (level < depth) × (get_or images level 0 ≡ a)
-holds_at images levels depth a level room stand is held =
-    let k = held.0 in
-    let within : k < length (take depth images) = held.1 in
-    let below : k < depth = omega (arith, length-take-le depth images room) in
-    let here : get_or images k 0 ≡ a = sym (get_or-take depth images k 0 below) ∙ get_or_default (take depth images) k 0 a within ∙ held.2 in
-    let at : level ≡ k = is ∙ sym (ap (λ (n : ℕ). get_or levels (n - 1) 0) here) ∙ stand k below in
-    (omega arith, ap (λ (n : ℕ). get_or images n 0) at ∙ here)
-
--- an atom at a level is one of the first
-pub held_at : (images : List ℕ) (depth a level : ℕ) → depth ≤ length images → level < depth → get_or images level 0 ≡ a → Contains (take depth images) a
-held_at images depth a level room below here =
-    let within : level < length (take depth images) = omega (arith, length-take-le depth images room) in
-    (level, within, get_or_default (take depth images) level a 0 within ∙ get_or-take depth images level 0 below ∙ here)
 
 -- an atom that isn't one of the first differs from each of them
 pub new_where : (first : List ℕ) (a : ℕ) → (Contains first a → ⊥) → All (λ b. b ≢ a) first
@@ -382,6 +366,8 @@ none_hits graph mol drawing none = record {
       let less : bond.first < bond.second = drawing.sketch.lower_first k d within in
       let most : bond.second ≤ length graph.atoms = drawn_second graph drawing k d within in
       absurd (omega arith));
+  rise = λ x h later plain other order. absurd (let most = plain_most graph x later other in omega arith);
+  first_free = λ x h y plain at_h at_y under. absurd (omega arith);
 }
 
 -- and it is the only one

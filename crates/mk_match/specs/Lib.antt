@@ -1,4 +1,5 @@
 pub mod Table
+pub mod Hydrogens
 pub mod Begun
 pub mod EarlierBonds
 pub mod Candidates

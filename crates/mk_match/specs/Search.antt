@@ -11,22 +11,24 @@ use Rattle.mk_text.specs.Rising.{IsBelow, IsLeastFrom}
 use Rattle.mk_model.specs.Molecules.{Molecule}
 use Rattle.mk_model.specs.Graphs.{GraphView, IsGraph}
 use Rattle.mk_model.specs.Hits.{IsHit}
+use Rattle.mk_match.specs.declared.hydrogens.PlainHydrogen.{PlainHydrogen}
 use Rattle.mk_match.specs.declared.search.Search.{Search}
 use Rattle.mk_match.specs.declared.search.Stage.{Stage}
 use Rattle.mk_match.specs.declared.search.Stage.TheVariants.{Walking, Once, Ended}
+use Rattle.mk_match.specs.Hydrogens.{ArePlain}
 use Rattle.mk_match.specs.Table.{IsTable}
 use Rattle.mk_match.specs.Walk.{IsWalk, SameFrom, place_of}
 
--- the table and the walk are those of the graph and the molecule; a hit is given once only for a
--- graph without atoms
-abbrev pub IsStage : GraphView → Molecule → Stage → List Bool → List ℕ → List ℕ → ℕ → ℕ → Type 0
-IsStage graph mol Walking fits images levels depth above = IsTable graph mol fits × IsWalk graph mol images levels depth
-IsStage graph mol Once fits images levels depth above = IsGraph graph × (length graph.atoms ≡ 0) × (images ≡ [])
-IsStage graph mol Ended fits images levels depth above = Unit {0}
+-- the table, the plain hydrogens and the walk are those of the graph and the molecule; a hit is given
+-- once only for a graph without atoms
+abbrev pub IsStage : GraphView → Molecule → Stage → List Bool → List PlainHydrogen → List ℕ → List ℕ → ℕ → ℕ → Type 0
+IsStage graph mol Walking fits hydrogens images levels depth above = IsTable graph mol fits × ArePlain graph hydrogens × IsWalk graph mol images levels depth
+IsStage graph mol Once fits hydrogens images levels depth above = IsGraph graph × (length graph.atoms ≡ 0) × (images ≡ [])
+IsStage graph mol Ended fits hydrogens images levels depth above = Unit {0}
 
 -- the search is one for the hits of the graph in the molecule
 abbrev pub IsSearch : GraphView → Molecule → Search → Type 0
-IsSearch graph mol search = IsStage graph mol search.stage search.fits.items search.walk.images.items search.walk.levels.items search.walk.depth search.walk.above
+IsSearch graph mol search = IsStage graph mol search.stage search.fits.items search.hydrogens.items search.walk.images.items search.walk.levels.items search.walk.depth search.walk.above
 
 -- the hits from the place on are those from where the walk stands; or the empty one; or there are
 -- none

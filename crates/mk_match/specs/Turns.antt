@@ -3,7 +3,7 @@
 --     node_of images depth above          the list that a walk came to last
 --     IsVisit graph mol from node         a node that isn't below the place
 --     GoesOn step                         the step came to no hit, and isn't the last
-use Rattle.std.specs.Prelude.{◌≡◌, ◌≢◌, ◌≤◌, ◌+◌, ℕ, zero, suc, List, [], ◌∷◌, ◌++◌, length, take, All, AllPairs}
+use Rattle.std.specs.Prelude.{◌≢◌, ◌≤◌, ℕ, zero, suc, List, [], ◌∷◌, ◌++◌, length, take, All, AllPairs}
 use Rattle.mk_text.specs.Rising.{IsBelow}
 use Rattle.mk_model.specs.Molecules.{Molecule}
 use Rattle.mk_model.specs.Graphs.{GraphView}

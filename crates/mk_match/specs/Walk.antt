@@ -4,7 +4,7 @@
 --     IsWalk graph mol images levels depth      the first images may be those of a hit, and the
 --                                               levels say where they stand
 --     lists_from most n place            how many lists of n numbers aren't below the place
-use Rattle.std.specs.Prelude.{◌≡◌, ◌<◌, ◌≤◌, ◌+◌, ◌*◌, ◌-◌, ◌^◌, ℕ, zero, suc, List, [], ◌∷◌, ◌++◌, length, take, slice_index}
+use Rattle.std.specs.Prelude.{◌≡◌, ◌<◌, ◌+◌, ◌*◌, ◌-◌, ◌^◌, ℕ, zero, suc, List, [], ◌∷◌, ◌++◌, length, take, slice_index}
 use Rattle.mk_model.specs.Molecules.{IsMolecule, Molecule}
 use Rattle.mk_model.specs.Graphs.{GraphView, IsGraph}
 pub use Rattle.mk_model.specs.Nodes.{SameFrom}

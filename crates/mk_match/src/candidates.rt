@@ -1,5 +1,5 @@
 // The atoms of the molecule on which the next atom of the graph may lie, one after another.
-ghost use Rattle.std.specs.Prelude.{◌≡◌, ◌<◌, ◌≤◌, ◌+◌, ◌-◌, ℕ, Some, IfNone, IfSome, length, slice_get};
+ghost use Rattle.std.specs.Prelude.{◌≡◌, ◌<◌, ◌≤◌, ◌+◌, ◌-◌, ◌↔◌, ℕ, Contains, Some, IfNone, IfSome, IsTrue, length, slice_get, slice_index};
 ghost use Rattle.std.specs.Option.{ForSome};
 ghost use Rattle.mk_model.specs.declared.molecule.MolBond.{MolBond as Bond};
 ghost use Rattle.mk_model.specs.Edges.{numbers_at};
@@ -56,11 +56,12 @@ fn lesser_end(least: Option<u32>, above: u32, end: u32) -> Option<u32>
     }
 }
 
-// The other end of a bond.
-fn end_at(mol: &Mol, number: u32, atom: u32) -> u32
+/// The other end of a bond.
+pub fn end_at(mol: &Mol, number: u32, atom: u32) -> u32
     requires least { 1 ≤ number }
     requires most { number ≤ length mol.now.bonds }
     ensures end { result ≡ end_numbered mol.now.bonds number atom }
+    ensures some { 1 ≤ result }
     ensures within { result ≤ length mol.now.atoms }
 {
     let bond = mol.bond(number);
@@ -68,4 +69,18 @@ fn end_at(mol: &Mol, number: u32, atom: u32) -> u32
         return bond.second;
     }
     bond.first
+}
+
+/// Tells whether an atom is among the first images, whose levels say where each of them stands.
+pub fn is_among(first: &[u32], levels: &[u32], a: u32) -> bool
+    requires sized { a ≤ length levels.now }
+    requires least { 1 ≤ a }
+    requires stand { (j : ℕ) → j < length first.now → slice_index levels.now (slice_index first.now j - 1) ≡ j }
+    ensures { IsTrue result ↔ Contains first.now a }
+{
+    let level = levels[a as usize - 1] as usize;
+    if level >= first.len() {
+        return false;
+    }
+    first[level] == a
 }

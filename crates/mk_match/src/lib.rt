@@ -10,15 +10,18 @@
 //! place in flat lists. Before an image is taken, a look ahead asks whether any hit begins so: it
 //! searches in an order of its own, and only its no is proved. So the walk never enters a part
 //! without a hit, and going back is left to the order that is good at it. Counts of elements come
-//! first, and which atom may lie on which is asked once for each pair. Codes and libraries aren't
-//! known here.
+//! first, and which atom may lie on which is asked once for each pair. That plain hydrogens are taken
+//! in order is asked as soon as it can be told, so that orders of a methyl's aren't gone through.
+//! Codes and libraries aren't known here.
 #![tactic(auto)]
 
 mod asked;
 mod candidates;
 mod counts;
 mod earlier_bonds;
+mod free_hydrogens;
 mod held;
+mod hydrogens;
 mod laws;
 mod maps;
 mod order;

@@ -3,6 +3,7 @@ ghost use Rattle.std.specs.Prelude.{◌≡◌, IfOk, IsTrue};
 ghost use Rattle.mk_model.specs.Hits.{IsHit};
 ghost use Rattle.mk_text.specs.Rising.{IsLeast, IsLeastFrom};
 
+use crate::hydrogens::{PlainHydrogen, plain_hydrogens};
 use crate::outlook::Outlook;
 use crate::table::table_of;
 use crate::walk::Walk;
@@ -18,10 +19,12 @@ pub enum Stage {
     Ended,
 }
 
-/// A search: on which atoms those of the graph may lie, where its walk stands, and the look ahead.
+/// A search: on which atoms those of the graph may lie, its plain hydrogens, where its walk stands,
+/// and the look ahead.
 #[derive(Debug, Drop)]
 pub struct Search {
     pub fits: Vec<bool>,
+    pub hydrogens: Vec<PlainHydrogen>,
     pub outlook: Outlook,
     pub walk: Walk,
     pub stage: Stage,
@@ -45,11 +48,13 @@ impl Search {
             return Ok(Search::at_rest(alloc, Stage::Ended));
         }
         let fits = table_of(alloc, graph, mol)?;
+        let hydrogens = plain_hydrogens(alloc, graph)?;
         let outlook = Outlook::new(alloc, graph, mol, &fits)?;
         let mut walk = Walk::new(alloc, graph, mol)?;
-        walk.seek(graph, mol, &fits, front);
+        walk.seek(graph, mol, &fits, &hydrogens, front);
         Ok(Search {
             fits,
+            hydrogens,
             outlook,
             walk,
             stage: Stage::Walking,
@@ -63,6 +68,7 @@ impl Search {
     {
         Search {
             fits: Vec::new(alloc),
+            hydrogens: Vec::new(alloc),
             outlook: Outlook::at_rest(alloc),
             walk: Walk::at_rest(alloc),
             stage,
@@ -82,7 +88,10 @@ impl Search {
     {
         match self.stage {
             Stage::Walking => {
-                if self.walk.go_on(graph, mol, &self.fits, &mut self.outlook) {
+                if self
+                    .walk
+                    .go_on(graph, mol, &self.fits, &self.hydrogens, &mut self.outlook)
+                {
                     return true;
                 }
                 self.stage = Stage::Ended;
@@ -105,7 +114,10 @@ impl Search {
             → Turns graph.now mol.now place debt self.new result }
     {
         match self.stage {
-            Stage::Walking => match self.walk.turn(graph, mol, &self.fits, &mut self.outlook) {
+            Stage::Walking => match self
+                .walk
+                .turn(graph, mol, &self.fits, &self.hydrogens, &mut self.outlook)
+            {
                 Turn::Item => Turn::Item,
                 Turn::Moved => Turn::Moved,
                 Turn::End => {

@@ -4,12 +4,15 @@ ghost use Rattle.mk_model.specs.Graphs.{IsGraph};
 ghost use Rattle.mk_model.specs.Hits.{IsHit};
 ghost use Rattle.mk_text.specs.Rising.{IsBelow, IsLeastFrom};
 ghost use Rattle.mk_match.specs.Begun.{MayStand};
+ghost use Rattle.mk_match.specs.Hydrogens.{ArePlain};
 ghost use Rattle.mk_match.specs.Table.{IsTable};
 ghost use Rattle.mk_match.specs.Turns.{GoesOn, IsVisit, node_of};
 ghost use Rattle.mk_match.specs.Walk.{IsWalk, SameFrom, lists_from, place_of};
 
-use crate::candidates::next_atom;
+use crate::candidates::{is_among, next_atom};
 use crate::earlier_bonds::{anchor_of, are_bonds_met};
+use crate::free_hydrogens::are_in_order;
+use crate::hydrogens::PlainHydrogen;
 use crate::outlook::Outlook;
 use crate::table::fits_at;
 use mk_model::{Graph, Memory, Mol, Turn};
@@ -63,8 +66,16 @@ impl Walk {
     }
 
     /// Goes to the lists from a front on.
-    pub fn seek(&mut self, graph: &Graph, mol: &Mol, fits: &[bool], front: &[u32])
+    pub fn seek(
+        &mut self,
+        graph: &Graph,
+        mol: &Mol,
+        fits: &[bool],
+        hydrogens: &[PlainHydrogen],
+        front: &[u32],
+    )
         requires table { IsTable graph.now mol.now fits.now }
+        requires plain { ArePlain graph.now hydrogens.now }
         requires kept { IsWalk graph.now mol.now self.old.images.items self.old.levels.items self.old.depth }
         requires start { self.old.depth ≡ 0 }
         requires first { self.old.above ≡ 0 }
@@ -82,7 +93,7 @@ impl Walk {
                 self.above = number;
                 return;
             }
-            if !self.stands(graph, mol, fits, number) {
+            if !self.stands(graph, mol, fits, hydrogens, number) {
                 self.above = number;
                 return;
             }
@@ -92,8 +103,16 @@ impl Walk {
     }
 
     /// Goes on to the least hit that is left, and stands behind it; tells whether there is one.
-    pub fn go_on(&mut self, graph: &Graph, mol: &Mol, fits: &[bool], outlook: &mut Outlook) -> bool
+    pub fn go_on(
+        &mut self,
+        graph: &Graph,
+        mol: &Mol,
+        fits: &[bool],
+        hydrogens: &[PlainHydrogen],
+        outlook: &mut Outlook,
+    ) -> bool
         requires table { IsTable graph.now mol.now fits.now }
+        requires plain { ArePlain graph.now hydrogens.now }
         requires kept { IsWalk graph.now mol.now self.old.images.items self.old.levels.items self.old.depth }
         ensures kept { IsWalk graph.now mol.now self.new.images.items self.new.levels.items self.new.depth }
         ensures hit { IsTrue result → IsHit graph.now mol.now self.new.images.items }
@@ -103,7 +122,7 @@ impl Walk {
         ensures none { result ≡ false → IsLeastFrom (place_of self.old.images.items self.old.depth self.old.above) (IsHit graph.now mol.now) None }
     {
         'walk: loop {
-            match self.step(graph, mol, fits, outlook) {
+            match self.step(graph, mol, fits, hydrogens, outlook) {
                 Step::Item => return true,
                 Step::Node => {}
                 Step::Back => {}
@@ -113,8 +132,16 @@ impl Walk {
     }
 
     /// Goes on to the next node: a hit or not.
-    pub fn turn(&mut self, graph: &Graph, mol: &Mol, fits: &[bool], outlook: &mut Outlook) -> Turn
+    pub fn turn(
+        &mut self,
+        graph: &Graph,
+        mol: &Mol,
+        fits: &[bool],
+        hydrogens: &[PlainHydrogen],
+        outlook: &mut Outlook,
+    ) -> Turn
         requires table { IsTable graph.now mol.now fits.now }
+        requires plain { ArePlain graph.now hydrogens.now }
         requires kept { IsWalk graph.now mol.now self.old.images.items self.old.levels.items self.old.depth }
         ensures kept { IsWalk graph.now mol.now self.new.images.items self.new.levels.items self.new.depth }
         ensures moved { result ≡ Turn.Moved → SameFrom (IsHit graph.now mol.now) (place_of self.old.images.items self.old.depth self.old.above) (place_of self.new.images.items self.new.depth self.new.above) }
@@ -127,7 +154,7 @@ impl Walk {
         ensures end { result ≡ Turn.End → IsLeastFrom (place_of self.old.images.items self.old.depth self.old.above) (IsHit graph.now mol.now) None }
     {
         'turn: loop {
-            match self.step(graph, mol, fits, outlook) {
+            match self.step(graph, mol, fits, hydrogens, outlook) {
                 Step::Item => return Turn::Item,
                 Step::Node => return Turn::Moved,
                 Step::Back => {}
@@ -156,8 +183,16 @@ impl Walk {
     }
 
     /// Goes on by one step.
-    fn step(&mut self, graph: &Graph, mol: &Mol, fits: &[bool], outlook: &mut Outlook) -> Step
+    fn step(
+        &mut self,
+        graph: &Graph,
+        mol: &Mol,
+        fits: &[bool],
+        hydrogens: &[PlainHydrogen],
+        outlook: &mut Outlook,
+    ) -> Step
         requires table { IsTable graph.now mol.now fits.now }
+        requires plain { ArePlain graph.now hydrogens.now }
         requires kept { IsWalk graph.now mol.now self.old.images.items self.old.levels.items self.old.depth }
         ensures kept { IsWalk graph.now mol.now self.new.images.items self.new.levels.items self.new.depth }
         ensures moved { GoesOn result → SameFrom (IsHit graph.now mol.now) (place_of self.old.images.items self.old.depth self.old.above) (place_of self.new.images.items self.new.depth self.new.above) }
@@ -185,7 +220,7 @@ impl Walk {
             self.above = atom;
             return Step::Back;
         }
-        if !self.may_stand(graph, mol, fits, atom) {
+        if !self.may_stand(graph, mol, fits, hydrogens, atom) {
             self.above = atom;
             return Step::Node;
         }
@@ -210,21 +245,37 @@ impl Walk {
     }
 
     // Tells whether the number is an atom that may stand behind the first ones.
-    fn stands(&self, graph: &Graph, mol: &Mol, fits: &[bool], number: u32) -> bool
+    fn stands(
+        &self,
+        graph: &Graph,
+        mol: &Mol,
+        fits: &[bool],
+        hydrogens: &[PlainHydrogen],
+        number: u32,
+    ) -> bool
         requires table { IsTable graph.now mol.now fits.now }
+        requires plain { ArePlain graph.now hydrogens.now }
         requires kept { IsWalk graph.now mol.now self.now.images.items self.now.levels.items self.now.depth }
         ensures { IsTrue result ↔ ((1 ≤ number) × (number ≤ length mol.now.atoms) × MayStand graph.now mol.now (take self.now.depth self.now.images.items) number) }
     {
         if number == 0 || number > mol.atom_count() {
             return false;
         }
-        self.may_stand(graph, mol, fits, number)
+        self.may_stand(graph, mol, fits, hydrogens, number)
     }
 
-    // Tells whether the atom may lie where the next of the graph does, is new, and is bonded to the
-    // first ones as the graph asks.
-    fn may_stand(&self, graph: &Graph, mol: &Mol, fits: &[bool], a: u32) -> bool
+    // Tells whether the atom may lie where the next of the graph does, is new, is bonded to the first
+    // ones as the graph asks, and takes plain hydrogens in order.
+    fn may_stand(
+        &self,
+        graph: &Graph,
+        mol: &Mol,
+        fits: &[bool],
+        hydrogens: &[PlainHydrogen],
+        a: u32,
+    ) -> bool
         requires table { IsTable graph.now mol.now fits.now }
+        requires plain { ArePlain graph.now hydrogens.now }
         requires kept { IsWalk graph.now mol.now self.now.images.items self.now.levels.items self.now.depth }
         requires least { 1 ≤ a }
         requires most { a ≤ length mol.now.atoms }
@@ -237,7 +288,10 @@ impl Walk {
         if self.holds(a) {
             return false;
         }
-        are_bonds_met(graph, mol, &self.images[..self.depth], a)
+        if !are_bonds_met(graph, mol, &self.images[..self.depth], a) {
+            return false;
+        }
+        are_in_order(mol, hydrogens, &self.images[..self.depth], &self.levels, a)
     }
 
     // Tells whether the atom is among the first ones.
@@ -248,11 +302,7 @@ impl Walk {
         requires stand { (j : ℕ) → j < self.now.depth → slice_index self.now.levels.items (slice_index self.now.images.items j - 1) ≡ j }
         ensures { IsTrue result ↔ Contains (take self.now.depth self.now.images.items) a }
     {
-        let level = self.levels[a as usize - 1] as usize;
-        if level >= self.depth {
-            return false;
-        }
-        self.images[level] == a
+        is_among(&self.images[..self.depth], &self.levels, a)
     }
 
     // Puts an atom behind the first ones.

@@ -17,6 +17,9 @@
 --     filter_rising .. place_found     rising numbers, and how many of them are below another
 --     allows_is .. allowed_same, some_passes .. passes_all      the logic of groups
 --     code_of_valid .. begins_no_key      keys as a number, a code and a hit
+--     host_in_range .. one_host   plain hydrogens and what they are bonded to
+--     embedding_of, no_embedding  hits are embeddings, and without a hit there is none
+--     no_repeat                   no atom stands at two places of a hit
 --     codes_listed, valid_codes_listed    the plain program lists the structural codes, and the valid ones
 --     all_1 .. pairs_two          what each of a few items, or each two of them, keeps
 use Rattle.std.proofs.Common.{◌≡◌, ◌≤◌, ◌<◌, ◌+◌, ◌-◌, ℕ, zero, suc, Bool, true, false, cond, List, [], ◌∷◌, refl, length, get_or, take, arith}
@@ -40,6 +43,8 @@ pub use Rattle.mk_model.proofs.PlainCodesLemmas.{ChoosesWithin, codes_listed, la
 unfoldable pub use Rattle.mk_model.proofs.FewLemmas.{edge}
 pub use Rattle.mk_model.proofs.FewLemmas.{NoPair, all_1, all_2, all_3, all_same, once_by, pairs_none, pairs_one, pairs_two}
 pub use Rattle.mk_model.proofs.TurnLemmas.{not_below_through, not_below_front, below_more, below_next, not_below_at, same_to_between, same_from_between, pays_visit, pays_end}
+pub use Rattle.mk_model.proofs.HydrogenLemmas.{host_in_range, host_only, neighbour_only, no_host, one_host}
+pub use Rattle.mk_model.proofs.OnceLemmas.{embedding_of, no_embedding, no_repeat}
 pub use Rattle.mk_model.proofs.KeysLemmas.{code_of_valid, one_code, read_one_way, begins_no_occurrence, begins_no_key}
 
 -- among bonds that are numbered from j on, k numbers one of atom n

@@ -18,6 +18,10 @@ pub mod PlainCodesLemmas
 pub mod KeysLemmas
 pub mod SingleLabelsLemmas
 pub mod NodesLemmas
+pub mod LoneBondLemmas
+pub mod DecidedLemmas
+pub mod HydrogenLemmas
+pub mod OnceLemmas
 pub mod ForCallers
 pub mod FewLemmas
 pub mod OnLiterals

@@ -1,5 +1,6 @@
 // Laws of structural codes, of labels, of keys and of nodes, each carried by a function that does nothing.
 ghost use Rattle.mk_model.specs.Codes.{CodesAreReadOneWay, NoCodeBeginsAnother};
+ghost use Rattle.mk_model.specs.Hits.{EmbeddingsHaveHits, HitsAreOneByHydrogens};
 ghost use Rattle.mk_model.specs.Keys.{NoKeyBeginsAnother, OccurrencesAreReadOneWay};
 ghost use Rattle.mk_model.specs.Nodes.{AheadAddsUp};
 ghost use Rattle.mk_model.specs.PlainCodes.{ValidCodesAreListed};
@@ -39,4 +40,11 @@ pub fn single_labels_are_as_before()
 /// What lies ahead from a place to a second, and from there to a third, adds up.
 pub fn ahead_adds_up()
     ensures { AheadAddsUp }
+{}
+
+/// Each embedding has a hit that agrees with it at all atoms but plain hydrogens, and hits that agree
+/// there are one, where all plain hydrogens lie on plain hydrogens.
+pub fn hydrogens_are_taken_once()
+    ensures kept { EmbeddingsHaveHits }
+    ensures one { HitsAreOneByHydrogens }
 {}

@@ -33,8 +33,9 @@ mod turn;
 pub use atom_test::{AtomTest, Kind};
 pub use bond_order::put_in_order;
 pub use code_laws::{
-    ahead_adds_up, codes_are_read_one_way, no_code_begins_another, no_key_begins_another,
-    occurrences_are_read_one_way, single_labels_are_as_before, valid_codes_are_listed,
+    ahead_adds_up, codes_are_read_one_way, hydrogens_are_taken_once, no_code_begins_another,
+    no_key_begins_another, occurrences_are_read_one_way, single_labels_are_as_before,
+    valid_codes_are_listed,
 };
 pub use edge::Edge;
 pub use edges::edges_of_graph;

@@ -1,7 +1,7 @@
 -- One choice alone, and what no molecule holds.
 --     begins_with            a code with which an occurrence begins begins with the front
 --     alone_agrees           a code that decides n alone agrees with each choice of n there
---     none_alone             where it has no hit, no occurrence chooses n there
+--     none_alone             where it has no embedding, no occurrence chooses n there
 --     alone_none, slots_none   the laws of choices alone
 --     fronts_none, root_all    those of fronts
 --     alone_open             a choice alone has an open code
@@ -20,8 +20,8 @@ use Rattle.mk_model.specs.Nodes.{BeginsCode}
 use Rattle.mk_model.specs.OpenSlots.{most_at}
 use Rattle.mk_model.specs.Queries.{QueryView, slots_of}
 use Rattle.mk_model.specs.QueryFits.{QueryFits}
-use Rattle.mk_model.proofs.ForCallers.{one_choice}
-use Rattle.mk_screen.proofs.LossFreeLemmas.{covers_of_hit}
+use Rattle.mk_model.proofs.ForCallers.{embedding_of, one_choice}
+use Rattle.mk_screen.proofs.LossFreeLemmas.{covers_of_embedding}
 use Rattle.mk_open.specs.Alone.{AloneFrontsHoldNone, HoldsNoneAlone, SlotsHoldNone, alone_code}
 use Rattle.mk_open.specs.Fronts.{FrontsHoldNone, RootNeed, front_code}
 use Rattle.mk_open.specs.OpenCodes.{Agrees, Completes, IsOpenChoice, IsOpenCode, OpenChoice, open_spelling}
@@ -158,11 +158,11 @@ alone_agrees query (suc s) (Site atom groups first second ∷ slots) n k (undeci
 alone_agrees query (suc s) (Site atom groups first second ∷ slots) n k (undecided others) (filled m inside more) made is e at =
     alone_agrees query s slots n k others more made is.3 (tails 0 0 _ _ e) at
 
--- where it has no hit, no occurrence chooses n there
+-- where it has no embedding, no occurrence chooses n there
 none_alone : (query : QueryView) (mol : Molecule) (s n : ℕ) (numbers : List ℕ) → QueryFits query → HoldsNoneAlone query mol s n → (occurs : IsOccurrence query mol numbers)
     → number_at s occurs.expanded.choice ≡ n → ⊥
 none_alone query mol s n numbers fits lost occurs at =
-    no_hit query lost.code lost.part mol fits lost.graph lost.none occurs.code occurs.graph occurs.hit completes occurs.expanded occurs.hits
+    no_hit query lost.code lost.part mol fits lost.graph lost.none occurs.code occurs.graph completes occurs.expanded occurs.hit (embedding_of occurs.graph mol occurs.hit occurs.hits)
   where
     completes : Completes query occurs.code lost.code
     completes = record {
@@ -209,7 +209,7 @@ root_all query code part need fits is graph of_part mol numbers held_screen occu
     let own : IsCode query 0 occurs.code = record { choice = occurs.expanded.choice; made = occurs.expanded.made; spelt = occurs.expanded.spelt } in
     let completes : Completes query occurs.code code = subst (Completes query occurs.code) (sym is.spelt) (completed query [] occurs.code is.left its own) in
     let holds = held query occurs.code code occurs.graph part fits completes occurs.expanded graph in
-    covers_of_hit part mol (map (image occurs.hit) holds.shared) held_screen need (holds.hits mol occurs.hit occurs.hits) of_mol of_part
+    covers_of_embedding part mol (map (image occurs.hit) holds.shared) held_screen need (holds.images mol occurs.hit (embedding_of occurs.graph mol occurs.hit occurs.hits)) of_mol of_part
 
 -- ---- a choice alone has an open code
 

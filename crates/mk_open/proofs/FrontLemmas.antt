@@ -4,7 +4,7 @@
 --     has_open_code        a front with which a code begins has an open code
 --     completed            each code that begins with the front completes it
 --     own_code             where an occurrence begins with the front, so does its code
---     none_inside          no occurrence begins with a front whose graph has no hit
+--     none_inside          no occurrence begins with a front whose graph has no embedding
 --     passed_over          what remains inside a front that no code can hold
 use Rattle.std.proofs.Common.{◌≡◌, ◌∙◌, ℕ, zero, suc, ◌+◌, ◌-◌, ◌⊎◌, inl, inr, List, [], ◌∷◌, ◌++◌, length, replicate, refl, sym, ap, subst, arith, append_assoc}
 use Rattle.std.proofs.lemmas.Bool.{cases_lt}
@@ -16,14 +16,14 @@ use Rattle.mk_model.specs.declared.template.Slot.TheVariants.{Link, Site}
 use Rattle.mk_model.specs.Codes.{Choice, IsChoice, IsCode, spelling}
 use Rattle.mk_model.specs.Codes.Choice.{done, repeated, unfilled, filled}
 use Rattle.mk_model.specs.Graphs.{GraphView}
-use Rattle.mk_model.specs.Hits.{IsHit}
+use Rattle.mk_model.specs.Hits.{HasNoEmbedding}
 use Rattle.mk_model.specs.Keys.{IsOccurrence}
 use Rattle.mk_model.specs.Labels.{member}
 use Rattle.mk_model.specs.Molecules.{Molecule}
 use Rattle.mk_model.specs.Nodes.{BeginsCode}
 use Rattle.mk_model.specs.Queries.{QueryView, slots_of}
 use Rattle.mk_model.specs.QueryFits.{QueryFits}
-use Rattle.mk_model.proofs.ForCallers.{below_next, one_choice}
+use Rattle.mk_model.proofs.ForCallers.{below_next, embedding_of, one_choice}
 use Rattle.mk_open.specs.Fronts.{FrontsAreCompleted, FrontsArePassedOver, FrontsHaveOpenCodes, front_code}
 use Rattle.mk_open.specs.OpenCodes.{Agrees, Completes, IsOpenChoice, IsOpenCode, OpenChoice, open_spelling}
 use Rattle.mk_open.specs.OpenCodes.OpenChoice.{no_more, undecided, repeats, vacates, fills}
@@ -290,16 +290,16 @@ own_code query mol front more begins occurs = by (one_begins occurs.code front o
         let empty : m ≡ [] = nothing_left m begins.more same.rests in
         ([], sym (is ∙ ap (λ (xs : List ℕ). occurs.code ++ xs) empty ∙ append-nil occurs.code) ∙ sym (append-nil front))
 
--- no occurrence begins with a front whose graph has no hit
+-- no occurrence begins with a front whose graph has no embedding
 pub none_inside : (query : QueryView) (mol : Molecule) (front more : List ℕ) (n : ℕ) (part : GraphView) → QueryFits query → BeginsCode query front → IsOpenGraph query (front_code front n) part
-    → ((hit : List ℕ) → IsHit part mol hit → ⊥) → IsOccurrence query mol (front ++ more) → ⊥
+    → HasNoEmbedding part mol → IsOccurrence query mol (front ++ more) → ⊥
 none_inside query mol front more n part fits begins graph none occurs =
     let begun = own_code query mol front more begins occurs in
     let is_open : IsOpenCode query 0 (front_code front n) = record { choice = graph.choice; made = graph.made; spelt = graph.spelt } in
     let own : IsCode query 0 occurs.code = record { choice = occurs.expanded.choice; made = occurs.expanded.made; spelt = occurs.expanded.spelt } in
     let completes : Completes query occurs.code (front_code front n) =
     subst (λ (code : List ℕ). Completes query code (front_code front n)) (sym begun.1) (completed query front begun.0 n is_open (subst (IsCode query 0) begun.1 own)) in
-    no_hit query (front_code front n) part mol fits graph none occurs.code occurs.graph occurs.hit completes occurs.expanded occurs.hits
+    no_hit query (front_code front n) part mol fits graph none occurs.code occurs.graph completes occurs.expanded occurs.hit (embedding_of occurs.graph mol occurs.hit occurs.hits)
 
 pub passed_over : FrontsArePassedOver
 passed_over query mol numbers tail last n part fits begins graph none = record {

@@ -1,4 +1,4 @@
--- A hit of the whole, at the atoms that it shares with a part, is a hit of the part.
+-- An embedding of the whole, at the atoms that it shares with a part, is one of the part.
 --     hydrogens_weaker .. meets_weaker     what is asked of a molecule, weakened
 --     Draws part graph                     a graph has the atoms and bonds of a fragment
 --     DrawsWeaker part graph               a graph has them with weaker tests
@@ -21,7 +21,7 @@ use Rattle.mk_model.specs.Edges.{other_end, touches}
 use Rattle.mk_model.specs.Expansions.{unmarked}
 use Rattle.mk_model.specs.Fitting.{FitsAtom, LiesOn, drawn_hydrogens, drawn_others, drawn_rings, hydrogens_at, is_drawn_hydrogen, is_hydrogen_kind, is_unsaturated_at, others_at, passes_some, rings_at}
 use Rattle.mk_model.specs.Graphs.{GraphView, IsBefore, IsGraph, graph_edge}
-use Rattle.mk_model.specs.Hits.{IsHit, image}
+use Rattle.mk_model.specs.Hits.{IsEmbedding, image}
 use Rattle.mk_model.specs.Molecules.{Molecule}
 use Rattle.mk_model.specs.Pieces.{Fragment}
 use Rattle.mk_model.specs.Tests.{accepts, asked_kind, charge_fits, hydrogens_fit, is_double, is_single, meets, radical_fits, ring_bonds_fit, substitution_fits, takes_kind, takes_topology, unsaturation_fits}
@@ -368,7 +368,7 @@ module _ (small large : Fragment) (places : List ℕ) (shared : IsShared small l
       ∙ ap (λ (t : AtomTest). is_hydrogen_kind t.kind) (shared.tests q no_atom is.0 is.1)
       ∙ sym (ap (passes_some (λ (atom : GraphAtom). is_hydrogen_kind atom.test.kind)) (whole_at q no_atom is))
 
-  module _ (mol : Molecule) (hit : List ℕ) (is_hit : IsHit whole mol hit) where
+  module _ (mol : Molecule) (hit : List ℕ) (is_hit : IsEmbedding whole mol hit) where
     image_shared : (x : ℕ) → (1 ≤ x) × (x ≤ length small.atoms) → image (map (image hit) places) x ≡ image hit (image places x)
     image_shared x is = get_or-map (image hit) places (x - 1) 0 0 (omega (arith, is.0, is.1, shared.size))
 
@@ -419,8 +419,8 @@ module _ (small large : Fragment) (places : List ℕ) (shared : IsShared small l
         on_bond : (other : GraphBond) → Contains whole.bonds other → LiesOn mol other (image hit other.first) (image hit other.second)
         on_bond other (k, below, at) = subst (λ (b : GraphBond). LiesOn mol b (image hit b.first) (image hit b.second)) at (is_hit.bonds k other below)
 
-    -- the hit at the shared atoms is one of the part
-    pub hit_shared : IsHit part mol (map (image hit) places)
+    -- the embedding at the shared atoms is one of the part
+    pub hit_shared : IsEmbedding part mol (map (image hit) places)
     hit_shared = record {
       one_each = length-map places (image hit) ∙ shared.size ∙ sym atoms_count;
       within = λ i d below.

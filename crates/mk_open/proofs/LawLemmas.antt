@@ -1,7 +1,7 @@
 -- The laws of open codes.
 --     held          each completing code's expansion holds the open code's graph
---     no_hit        so where that has no hit, no completing code has one
---     covered       and where a completing code has one, its need is covered
+--     no_hit        so where that has no embedding, no completing code has one
+--     covered       and where a completing code has a hit, its need is covered
 use Rattle.std.proofs.Common.{◌≡◌, ◌∙◌, ℕ, ◌+◌, ◌-◌, ◌<◌, List, [], ◌++◌, length, get_or, map, sym, ap, subst, arith}
 use Rattle.std.proofs.lemmas.List.{get_or_default}
 use Rattle.mk_model.specs.Codes.{spelling}
@@ -10,8 +10,8 @@ use Rattle.mk_model.specs.Graphs.{GraphView}
 use Rattle.mk_model.specs.Hits.{image}
 use Rattle.mk_model.specs.Pieces.{Fragment}
 use Rattle.mk_model.specs.Queries.{QueryView, slots_of}
-use Rattle.mk_model.proofs.ForCallers.{one_choice, place_within}
-use Rattle.mk_model.specs.Screens.{ScreeningLosesNoHit}
+use Rattle.mk_model.proofs.ForCallers.{embedding_of, one_choice, place_within}
+use Rattle.mk_screen.proofs.LossFreeLemmas.{covers_of_embedding}
 use Rattle.mk_open.specs.Laws.{CompletionsCoverItsNeed, CompletionsHoldTheOpenGraph, IsHeldBy, NoHitNoCompletion}
 use Rattle.mk_open.specs.OpenCodes.{Agrees, Completes, OpenChoice, open_spelling}
 use Rattle.mk_open.specs.OpenGraphs.{IsOpenGraph, open_expansion}
@@ -49,18 +49,18 @@ held query code open_code whole part fits completes is of =
           let range = shared.within (i + 1) (omega arith) (omega (arith, below, shared.size)) in
           let one = at i d below in
           (omega (arith, range.0, one), omega (arith, range.1, one, ap length drawn.atoms));
-      hits = λ mol hit is_hit. hit_shared small large places shared part whole weak drawn mol hit is_hit;
+      images = λ mol hit is_hit. hit_shared small large places shared part whole weak drawn mol hit is_hit;
     }
       where
         at : (i d : ℕ) → i < length places → get_or places i d ≡ image places (i + 1)
         at i d below = (let same : i ≡ i + 1 - 1 = omega arith in get_or_default places i d 0 below ∙ ap (λ (k : ℕ). get_or places k 0) same)
 
 pub no_hit : NoHitNoCompletion
-no_hit query open_code part mol fits of none code whole hit completes is is_hit =
+no_hit query open_code part mol fits of none code whole completes is images embedded =
     let holds = held query code open_code whole part fits completes is of in
-    none (map (image hit) holds.shared) (holds.hits mol hit is_hit)
+    none (map (image images) holds.shared) (holds.images mol images embedded)
 
-pub covered : ScreeningLosesNoHit → CompletionsCoverItsNeed
-covered loses query code open_code whole part mol hit held_screen need fits completes is of kept is_hit of_mol of_part =
+pub covered : CompletionsCoverItsNeed
+covered query code open_code whole part mol hit held_screen need fits completes is of kept is_hit of_mol of_part =
     let holds = held query code open_code whole part fits completes is of in
-    loses part mol (map (image hit) holds.shared) held_screen need of.kept kept (holds.hits mol hit is_hit) of_mol of_part
+    covers_of_embedding part mol (map (image hit) holds.shared) held_screen need (holds.images mol hit (embedding_of whole mol hit is_hit)) of_mol of_part

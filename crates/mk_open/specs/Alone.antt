@@ -3,10 +3,10 @@
 --     root_slot query s                the s-th slot of the root, from 0 on
 --     alone_code s n k                 n at slot s, 0 for each slot before it, and so many 0 behind
 --     IsAloneCode query s n code       the code decides n at slot s of the root, and nothing else
---     HoldsNoneAlone query mol s n     the graph of such a code has no hit in the molecule
+--     HoldsNoneAlone query mol s n     the graph of such a code has no embedding in the molecule
 --     IsPlaceOf query s front          the front chooses at the first s slots of the root
 --     ArePlaces query code places      for each slot of the root the place of its number in the code
---     AloneFrontsHoldNone              where a choice alone has no hit, no front that ends with it holds
+--     AloneFrontsHoldNone              where a choice alone has none, no front that ends with it holds
 --                                      an occurrence
 --     SlotsHoldNone                    where no choice at a slot has one alone, there is no occurrence
 use Rattle.std.specs.Prelude.{◌≡◌, ◌≤◌, ◌<◌, ℕ, List, [], ◌∷◌, ◌++◌, length, replicate, slice_index, slice_index_or, take}
@@ -14,7 +14,7 @@ use Rattle.mk_model.specs.declared.template.Slot.{Slot}
 use Rattle.mk_model.specs.declared.template.Slot.TheVariants.{Link}
 use Rattle.mk_model.specs.Codes.{Choice, IsChoice, spelling}
 use Rattle.mk_model.specs.Graphs.{GraphView}
-use Rattle.mk_model.specs.Hits.{IsHit}
+use Rattle.mk_model.specs.Hits.{HasNoEmbedding}
 use Rattle.mk_model.specs.Molecules.{Molecule}
 use Rattle.mk_model.specs.Nodes.{BeginsCode}
 use Rattle.mk_model.specs.OpenSlots.{most_at}
@@ -41,13 +41,13 @@ pub record IsAloneCode (query : QueryView) (s n : ℕ) (code : List ℕ) : Type 
   pub spelt : code ≡ alone_code s n left
   pub is : IsOpenCode query 0 code
 
--- the graph of the code that decides n alone at slot s of the root has no hit in the molecule
+-- the graph of the code that decides n alone at slot s of the root has no embedding in the molecule
 pub record HoldsNoneAlone (query : QueryView) (mol : Molecule) (s n : ℕ) : Type 0 where
   pub code : List ℕ
   pub part : GraphView
   pub is : IsAloneCode query s n code
   pub graph : IsOpenGraph query code part
-  pub none : (hit : List ℕ) → IsHit part mol hit → ⊥
+  pub none : HasNoEmbedding part mol
 
 -- ---- places of slots
 
@@ -65,14 +65,14 @@ pub record ArePlaces (query : QueryView) (code places : List ℕ) : Type 0 where
 
 -- ---- laws
 
--- Where the graph of a code that decides n alone at slot s has no hit in a molecule, no occurrence of
--- the query there begins with numbers that choose at the slots before s and go on with n.
+-- Where the graph of a code that decides n alone at slot s has no embedding in a molecule, no
+-- occurrence of the query there begins with numbers that choose at the slots before s and go on with n.
 abbrev pub AloneFrontsHoldNone : Type 0
 AloneFrontsHoldNone =
     (query : QueryView) (mol : Molecule) (s n : ℕ) (numbers : List ℕ) → QueryFits query → IsPlaceOf query s numbers
     → BeginsCode query (numbers ++ n ∷ []) → HoldsNoneAlone query mol s n → HoldsNone query mol (numbers ++ n ∷ [])
 
--- where at a slot of the root each number that may stand there has no hit alone, the query has no
+-- where at a slot of the root each number that may stand there has no embedding alone, the query has no
 -- occurrence in the molecule
 abbrev pub SlotsHoldNone : Type 0
 SlotsHoldNone =

@@ -5,15 +5,15 @@
 --     IsNeedOfAll query need         a molecule with an occurrence of the query covers the need
 --     FrontsHaveOpenCodes            a front with which a code begins has an open code
 --     FrontsAreCompleted             each code that begins with a front completes its open code
---     FrontsHoldNone                 where the graph of a front's open code has no hit, no occurrence
---                                    begins with the front
+--     FrontsHoldNone                 where the graph of a front's open code has no embedding, no
+--                                    occurrence begins with the front
 --     FrontsArePassedOver            so what remains inside the front is what remains behind it
 --     RootNeed                       what the graph of the empty front needs, all occurrences need
 use Rattle.std.specs.Prelude.{◌≡◌, ◌+◌, ℕ, List, [], ◌∷◌, ◌++◌, replicate}
 use Rattle.mk_model.specs.declared.screen.Screen.{Screen}
 use Rattle.mk_model.specs.Codes.{IsCode}
 use Rattle.mk_model.specs.Graphs.{GraphView}
-use Rattle.mk_model.specs.Hits.{IsHit}
+use Rattle.mk_model.specs.Hits.{HasNoEmbedding}
 use Rattle.mk_model.specs.Keys.{IsOccurrence}
 use Rattle.mk_model.specs.Molecules.{Molecule}
 use Rattle.mk_model.specs.Nodes.{BeginsCode, SameFrom}
@@ -55,21 +55,21 @@ FrontsAreCompleted =
     (query : QueryView) (front more : List ℕ) (n : ℕ) → IsOpenCode query 0 (front_code front n)
     → IsCode query 0 (front ++ more) → Completes query (front ++ more) (front_code front n)
 
--- where the graph of a front's open code has no hit in a molecule, no occurrence of the query there
--- begins with the front
+-- where the graph of a front's open code has no embedding in a molecule, no occurrence of the query
+-- there begins with the front
 abbrev pub FrontsHoldNone : Type 0
 FrontsHoldNone =
     (query : QueryView) (mol : Molecule) (front code : List ℕ) (part : GraphView) → QueryFits query → BeginsCode query front
-    → IsFrontCode query front code → IsOpenGraph query code part → ((hit : List ℕ) → IsHit part mol hit → ⊥) → HoldsNone query mol front
+    → IsFrontCode query front code → IsOpenGraph query code part → HasNoEmbedding part mol → HoldsNone query mol front
 
--- Where the graph of a front's open code has no hit in a molecule, no occurrence of the query there
--- begins with the front: what remains from a place inside the front is what remains from the front
+-- Where the graph of a front's open code has no embedding in a molecule, no occurrence of the query
+-- there begins with the front: what remains from a place inside the front is what remains from the front
 -- with its last number raised by one.
 abbrev pub FrontsArePassedOver : Type 0
 FrontsArePassedOver =
     (query : QueryView) (mol : Molecule) (numbers tail : List ℕ) (last n : ℕ) (part : GraphView) → QueryFits query
     → BeginsCode query (numbers ++ last ∷ []) → IsOpenGraph query (front_code (numbers ++ last ∷ []) n) part
-    → ((hit : List ℕ) → IsHit part mol hit → ⊥)
+    → HasNoEmbedding part mol
     → SameFrom (IsOccurrence query mol) (numbers ++ last ∷ tail) (numbers ++ (last + 1) ∷ [])
 
 -- the need of the graph in which all slots of the root are left open is a need of all occurrences

@@ -4,8 +4,6 @@ ghost use Rattle.mk_open.specs.Fronts.{FrontsAreCompleted, FrontsArePassedOver, 
 ghost use Rattle.mk_open.specs.Laws.{CompletionsCoverItsNeed, CompletionsHoldTheOpenGraph, NoHitNoCompletion};
 ghost use Rattle.mk_open.specs.OpenCodes.{OpenCodesAreReadOneWay};
 
-use mk_screen::screening_loses_no_hit;
-
 /// Numbers spell at most one open choice.
 pub fn open_codes_are_read_one_way()
     ensures { OpenCodesAreReadOneWay }
@@ -16,7 +14,7 @@ pub fn completions_hold_the_open_graph()
     ensures { CompletionsHoldTheOpenGraph }
 {}
 
-/// Where the graph of an open code has no hit, no code that completes it has one.
+/// Where the graph of an open code has no embedding, no code that completes it has one.
 pub fn no_hit_no_completion()
     ensures { NoHitNoCompletion }
 {}
@@ -24,9 +22,7 @@ pub fn no_hit_no_completion()
 /// Where a code that completes an open code has a hit, the need of the open code's graph is covered.
 pub fn completions_cover_its_need()
     ensures { CompletionsCoverItsNeed }
-{
-    screening_loses_no_hit()
-}
+{}
 
 /// Numbers with which a code begins are an open code, with some slots behind them left open.
 pub fn fronts_have_open_codes()
@@ -38,13 +34,13 @@ pub fn fronts_are_completed()
     ensures { FrontsAreCompleted }
 {}
 
-/// Where the graph of a front's open code has no hit, no occurrence begins with the front.
+/// Where the graph of a front's open code has no embedding, no occurrence begins with the front.
 pub fn fronts_hold_none()
     ensures { FrontsHoldNone }
 {}
 
-/// Where the graph of a front's open code has no hit, what remains inside the front is what remains
-/// behind it.
+/// Where the graph of a front's open code has no embedding, what remains inside the front is what
+/// remains behind it.
 pub fn fronts_are_passed_over()
     ensures { FrontsArePassedOver }
 {}
@@ -54,8 +50,8 @@ pub fn root_need()
     ensures { RootNeed }
 {}
 
-/// Where the graph of a choice alone has no hit, no occurrence begins with numbers that end with that
-/// choice.
+/// Where the graph of a choice alone has no embedding, no occurrence begins with numbers that end
+/// with that choice.
 pub fn alone_fronts_hold_none()
     ensures { AloneFrontsHoldNone }
 {}

@@ -1,7 +1,7 @@
 //! Open codes: what all codes that begin alike have in common.
 //!
 //! An open code is a structural code in which slots may be left open. Callers use one promise: where
-//! the graph of an open code, which `open_graph` makes, has no hit in a molecule, no code that
+//! the graph of an open code, which `open_graph` makes, has no embedding in a molecule, no code that
 //! completes the open code has one (`NoHitNoCompletion` in `specs/Laws.antt`).
 //!
 //! Which numbers are an open code stands in `specs/OpenCodes.antt`, and its graph in

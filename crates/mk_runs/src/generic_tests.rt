@@ -48,7 +48,13 @@ const THREE_LABELS: Content = Grouped(
     ],
 );
 
-static HITS: [(&str, Content, Content, &str); 20] = [
+// A carbon with two sites, each fluorine or a hydrogen that stands for what is left.
+const RESTS: Content = Grouped(
+    "C R# R# | 1-2 1-3 {M  RGP  2   2   1   3   1}{M  LOG  1   1   0   1 0}",
+    &[(1, &[FLUORINE])],
+);
+
+static HITS: [(&str, Content, Content, &str); 26] = [
     (
         "a site of two labels",
         EITHER,
@@ -65,25 +71,61 @@ static HITS: [(&str, Content, Content, &str); 20] = [
         "a site of three labels, by the number in the file",
         THREE_LABELS,
         Drawn("C F | 1-2"),
-        "hit 1 choice 3 map 1 2\nhit 1 choice 5 map 1 3\nhit 1 choice 5 map 1 4\nhit 1 choice 5 map 1 5\nend\n",
+        "hit 1 choice 3 map 1 2\nhit 1 choice 5 map 1 3\nend\n",
     ),
     (
         "a site of three labels, by iodine",
         THREE_LABELS,
         Drawn("C I Br | 1-2 1-3"),
-        "hit 1 choice 1 map 1 3\nhit 1 choice 2 map 1 2\nhit 1 choice 5 map 1 4\nhit 1 choice 5 map 1 5\nend\n",
+        "hit 1 choice 1 map 1 3\nhit 1 choice 2 map 1 2\nhit 1 choice 5 map 1 4\nend\n",
     ),
     (
         "a site of three labels, unfilled",
         THREE_LABELS,
         Drawn("C O | 1=2"),
-        "hit 1 choice 5 map 1 3\nhit 1 choice 5 map 1 4\nend\n",
+        "hit 1 choice 5 map 1 3\nend\n",
     ),
     (
         "hydrogens that are added",
         Drawn("H |"),
         Drawn("N(c3) O | 1-2 {M  CHG  1   2  -1}"),
         "hit 1 choice map 3\nhit 1 choice map 4\nend\n",
+    ),
+    (
+        "one hydrogen of four",
+        Drawn("C H | 1-2"),
+        Drawn("C |"),
+        "hit 1 choice map 1 2\nend\n",
+    ),
+    (
+        "one of four, drawn before its carbon",
+        Drawn("H C | 1-2"),
+        Drawn("C |"),
+        "hit 1 choice map 2 1\nend\n",
+    ),
+    (
+        "hydrogens at two sites",
+        RESTS,
+        Drawn("C |"),
+        "hit 1 choice 2 2 map 1 2 3\nend\n",
+    ),
+    (
+        "hydrogens bonded to each other",
+        Drawn("H H | 1-2"),
+        Drawn("H H | 1-2"),
+        "hit 1 choice map 1 2\nhit 1 choice map 2 1\nend\n",
+    ),
+    (
+        "a charged hydrogen",
+        Drawn("C H(c3) | 1-2"),
+        Drawn("C H H(c3) | 1-2 1-3"),
+        "hit 1 choice map 1 3\nend\n",
+    ),
+    (
+        "hydrogens of deuterium and protium",
+        Drawn("D H | 1-2"),
+        Drawn("H D | 1-2"),
+        "hit 1 choice map 1 2\nhit 1 choice map 2 1\nend\n",
     ),
     (
         "a double bond",

@@ -15,14 +15,14 @@ use Rattle.std.proofs.lemmas.List.Sums.{sum_by-cons}
 use Rattle.std.proofs.lemmas.Map.Made.{IsDistinct-from_AllPairs, length-le_from_is_member}
 use Rattle.mk_text.proofs.PickedLemmas.{IsNumberWhere, distinct_where, each_where, fits_in, has_where, length-numbers_where, numbers_where}
 use Rattle.mk_model.specs.Graphs.{GraphView}
-use Rattle.mk_model.specs.Hits.{IsHit, image}
+use Rattle.mk_model.specs.Hits.{IsEmbedding, image}
 use Rattle.mk_model.specs.Molecules.{Molecule}
 use Rattle.mk_model.specs.Screens.{element_at, shown_by_graph, shown_by_mol}
 use Rattle.mk_screen.proofs.ImageLemmas.{named_image, within_named}
 
 -- ---- a hit needs as many
 
-module _ (graph : GraphView) (mol : Molecule) (z : ℕ) (named : 2 ≤ z) (hit : List ℕ) (is : IsHit graph mol hit) where
+module _ (graph : GraphView) (mol : Molecule) (z : ℕ) (named : 2 ≤ z) (hit : List ℕ) (is : IsEmbedding graph mol hit) where
   of : ℕ → Bool
   of e = eqb e z
 

@@ -16,7 +16,7 @@ use Rattle.mk_model.specs.declared.molecule.MolBond.{MolBond}
 use Rattle.mk_model.specs.Edges.{HasEnds, Joins}
 use Rattle.mk_model.specs.Fitting.{LiesOn}
 use Rattle.mk_model.specs.Graphs.{GraphView, IsGraph, graph_edge, graph_edges}
-use Rattle.mk_model.specs.Hits.{IsHit, image}
+use Rattle.mk_model.specs.Hits.{IsEmbedding, image}
 use Rattle.mk_model.specs.Molecules.{Molecule, edge_of, edges}
 use Rattle.mk_model.specs.Tests.{accepts}
 use Rattle.mk_model.proofs.ForCallers.{at_place, place_is, place_within}
@@ -47,7 +47,7 @@ swap_ends : (edge : Edge) (x y : ℕ) → HasEnds edge x y → HasEnds edge y x
 swap_ends edge x y (inl h) = inr h
 swap_ends edge x y (inr h) = inl h
 
-module _ (graph : GraphView) (mol : Molecule) (hit : List ℕ) (is : IsHit graph mol hit) where
+module _ (graph : GraphView) (mol : Molecule) (hit : List ℕ) (is : IsEmbedding graph mol hit) where
   -- what the image of a named atom is
   pub record IsNamedImage (x : ℕ) : Type 0 where
     pub element : element_at (shown_by_mol mol).elements (image hit x) ≡ element_at (shown_by_graph graph).elements x

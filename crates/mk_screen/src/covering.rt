@@ -12,6 +12,13 @@ pub fn covers<L: Ledger>(held: &Screen, need: &Screen, looks: &mut Steps<L>) -> 
     ensures look { looks.new ≡ looks.old + 1 }
 {
     looks.tick();
+    is_covered(held, need)
+}
+
+/// Tells whether a screen covers a need. It counts nothing: for what is no look at a row of an index.
+pub fn is_covered(held: &Screen, need: &Screen) -> bool
+    ensures { IsTrue result ↔ Covers held.now need.now }
+{
     has_bits(&held.bits, &need.bits) && has_counts(&held.counts, &need.counts)
 }
 

@@ -16,7 +16,7 @@ mod marks;
 mod paths;
 mod taking;
 
-pub use covering::covers;
+pub use covering::{covers, is_covered};
 pub use laws::screening_loses_no_hit;
 pub use mk_model::{Graph, Mol, Screen, Steps};
 pub use taking::{need_of, screen_of};

@@ -9,12 +9,10 @@ ghost use Rattle.mk_search.specs.Kept.{IsKept};
 
 use mk_expand::expand;
 use mk_match::{Asked, cannot_hold, counts_asked, counts_there};
-use mk_model::{Graph, Memory, Mol, Query, Steps};
-use mk_screen::{Screen, covers, need_of};
+use mk_model::{Graph, Memory, Mol, Query};
+use mk_screen::{Screen, is_covered, need_of};
 use std::alloc::Global;
 use std::collections::VecDeque;
-use std::marker::Brand;
-use std::sync::ledger::{Blank, Ledger};
 
 // How many expansions are kept at most.
 const MOST_KEPT: usize = 64;
@@ -103,22 +101,11 @@ pub fn may_hold(expansion: &Expansion, mol: &Mol, screen: &Screen) -> bool
     ensures covers { IsTrue result → Covers screen.now expansion.now.need }
     ensures none { result ≡ false → HasNoHit expansion.now.graph mol.now }
 {
-    if !is_covered::<Brand>(screen, &expansion.need, Blank::new(1)) {
+    if !is_covered(screen, &expansion.need) {
         return false;
     }
     if cannot_hold(&expansion.asked, &counts_there(mol)) {
         return false;
     }
     true
-}
-
-// Tells that a screen covers a need. The look is counted on a ledger of its own.
-fn is_covered<L: Ledger>(screen: &Screen, need: &Screen, blank: Blank) -> bool
-    requires name { blank.name ≡ L.name }
-    requires parts { blank.parts ≡ L.parts }
-    requires one { 0 < L.parts }
-    ensures { IsTrue result ↔ Covers screen.now need.now }
-{
-    let mut looks = Steps::<L>::new(blank);
-    covers(screen, need, &mut looks)
 }

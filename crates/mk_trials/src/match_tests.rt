@@ -82,6 +82,90 @@ fn hits(rt: HostRuntime) -> Result<(), Fail> {
     Ok(())
 }
 
+const METHANE: &str = "C H H H H | 1-2 1-3 1-4 1-5";
+
+const ETHANE: &str = "C C H H H H H H | 1-2 1-3 1-4 1-5 2-6 2-7 2-8";
+
+// A hydrogen between two carbons, and a plain one on the first.
+const BRIDGED: &str = "C H C H | 1-2 2-3 1-4";
+
+// The query, the molecule, and all hits in order: what lies on plain hydrogens takes the first free
+// ones, in order.
+static HYDROGENS: [(&str, &str, &str, &[&[u32]]); 13] = [
+    ("one of four", "C H | 1-2", METHANE, &[&[1, 2]]),
+    ("drawn before its carbon", "H C | 1-2", METHANE, &[&[2, 1]]),
+    ("two of four", "C H H | 1-2 1-3", METHANE, &[&[1, 2, 3]]),
+    (
+        "two drawn before",
+        "H H C | 1-3 2-3",
+        METHANE,
+        &[&[2, 3, 1]],
+    ),
+    (
+        "bonded to each other",
+        "H H | 1-2",
+        "H H | 1-2",
+        &[&[1, 2], &[2, 1]],
+    ),
+    (
+        "a topology is asked for",
+        "C H | 1-2/2",
+        METHANE,
+        &[&[1, 2], &[1, 3], &[1, 4], &[1, 5]],
+    ),
+    ("on any atom", "* H | 1-2", METHANE, &[&[1, 2]]),
+    (
+        "beside any atom drawn behind it",
+        "C H * | 1-2 1-3",
+        METHANE,
+        &[&[1, 2, 3], &[1, 2, 4], &[1, 2, 5], &[1, 3, 2]],
+    ),
+    (
+        "beside any atom drawn before it",
+        "C * H | 1-2 1-3",
+        METHANE,
+        &[&[1, 2, 3], &[1, 3, 2], &[1, 4, 2], &[1, 5, 2]],
+    ),
+    (
+        "with any atom apart",
+        "C H * | 1-2",
+        "C H H | 1-2 1-3",
+        &[&[1, 2, 3], &[1, 3, 2]],
+    ),
+    (
+        "a hydrogen that is a bridge",
+        "C H | 1-2",
+        BRIDGED,
+        &[&[1, 2], &[1, 4], &[3, 2]],
+    ),
+    (
+        "drawn as a bridge",
+        "C H C | 1-2 2-3",
+        BRIDGED,
+        &[&[1, 2, 3], &[3, 2, 1]],
+    ),
+    (
+        "on each of two carbons",
+        "C C H H | 1-2 1-3 2-4",
+        ETHANE,
+        &[&[1, 2, 3, 6], &[2, 1, 6, 3]],
+    ),
+];
+
+#[test]
+fn hydrogens_once(rt: HostRuntime) -> Result<(), Fail> {
+    for (name, query, molecule, want) in HYDROGENS.iter() {
+        let graph = graph_of_sketch(rt.alloc(), query)?;
+        let mol = mol_of_sketch(rt.alloc(), molecule)?;
+        let hits = all_hits(rt.alloc(), &graph, &mol)?;
+        assert_eq!(rt; hits.len(), want.len(), "{name}");
+        for (hit, other) in hits.iter().zip(*want) {
+            assert_eq!(rt; hit.as_slice(), *other, "{name}");
+        }
+    }
+    Ok(())
+}
+
 // A front, and the least hit of C-O in C-O-C that isn't below it.
 const FRONTS: [(&[u32], Option<[u32; 2]>); 11] = [
     (&[], Some([1, 2])),
@@ -384,7 +468,102 @@ fn is_plain_hit(graph: &Graph, mol: &Mol, list: &[u32]) -> bool {
             return false;
         }
     }
+    takes_hydrogens_once(graph, mol, list)
+}
+
+// Tells whether plain hydrogens of the query take the first free ones, in order: those on one atom
+// rise, and a plain hydrogen of the molecule below one that is taken is taken too.
+fn takes_hydrogens_once(graph: &Graph, mol: &Mol, list: &[u32]) -> bool {
+    for h in 1..=list.len() {
+        let host = host_of(graph, h);
+        if host == 0 {
+            continue;
+        }
+        for later in h.saturating_add(1)..=list.len() {
+            if host_of(graph, later) == host && image(list, h) >= image(list, later) {
+                return false;
+            }
+        }
+        let there = image(list, host as usize);
+        if bearer_of(mol, image(list, h)) != there {
+            continue;
+        }
+        for y in 1..image(list, h) {
+            if bearer_of(mol, y) == there && !list.contains(&y) {
+                return false;
+            }
+        }
+    }
     true
+}
+
+// The atom on which an atom of the query is a plain hydrogen, and 0 where it is none.
+fn host_of(graph: &Graph, h: usize) -> u32 {
+    let Some(GraphAtom { test, free: _ }) = graph.atoms().get(h.saturating_sub(1)) else {
+        return 0;
+    };
+    if !is_plain(test) {
+        return 0;
+    }
+    let mut host = 0;
+    for bond in graph.bonds() {
+        let other = if bond.first as usize == h {
+            bond.second
+        } else if bond.second as usize == h {
+            bond.first
+        } else {
+            continue;
+        };
+        if host != 0 || bond.kind != 1 || bond.topology != 0 {
+            return 0;
+        }
+        host = other;
+    }
+    match graph.atoms().get((host as usize).saturating_sub(1)) {
+        Some(atom) => {
+            if let Kind::Element(1) = atom.test.kind {
+                0
+            } else {
+                host
+            }
+        }
+        None => 0,
+    }
+}
+
+// Tells whether hydrogen is asked for and nothing else.
+fn is_plain(test: &AtomTest) -> bool {
+    let Kind::Element(1) = test.kind else {
+        return false;
+    };
+    test.charge == 0
+        && test.radical == 0
+        && test.hydrogens == 0
+        && test.ring_bonds == 0
+        && test.substitution == 0
+        && !test.unsaturated
+}
+
+// The atom on which an atom of the molecule is a plain hydrogen, and 0 where it is none.
+fn bearer_of(mol: &Mol, y: u32) -> u32 {
+    let mut bearer = 0;
+    for bond in mol.bonds() {
+        let other = if bond.first == y {
+            bond.second
+        } else if bond.second == y {
+            bond.first
+        } else {
+            continue;
+        };
+        if bearer != 0 || bond.kind != 1 {
+            return 0;
+        }
+        bearer = other;
+    }
+    match mol.atoms().get((y as usize).saturating_sub(1)) {
+        Some(atom) => { if atom.element == 1 { bearer } else { 0 } }
+        None => 0,
+    }
 }
 
 fn takes_atom(graph: &Graph, x: usize, mol: &Mol, a: u32) -> bool {
@@ -418,7 +597,7 @@ fn image(list: &[u32], x: usize) -> u32 {
 // Neighbouring numbers are spread by it, so that their digits have little in common.
 const SPREAD: u64 = 0x9e37_79b9_7f4a_7c15;
 
-const ELEMENTS: [u8; 5] = [6, 6, 7, 8, 1];
+const ELEMENTS: [u8; 6] = [6, 6, 7, 8, 1, 1];
 
 // The types of bonds, with 0 for two atoms that aren't bonded.
 const BONDS: [u8; 6] = [0, 0, 1, 1, 2, 4];
@@ -432,14 +611,17 @@ const RING_BONDS: [i8; 6] = [0, 0, -1, -2, 2, 3];
 #[derive(Clone, Copy)]
 enum Asked {
     Carbon,
+    Hydrogen,
     OneOf,
     NoneOf,
     Hetero,
     Anything,
 }
 
-const ASKED: [Asked; 6] = [
+const ASKED: [Asked; 8] = [
     Asked::Carbon,
+    Asked::Hydrogen,
+    Asked::Hydrogen,
     Asked::OneOf,
     Asked::NoneOf,
     Asked::Hetero,
@@ -552,6 +734,7 @@ fn asked_bond(first: u32, second: u32, kind: u8, topology: u8) -> GraphBond {
 fn kind_of(alloc: Global, asked: Asked) -> Result<Kind, Memory> {
     let kind = match asked {
         Asked::Carbon => Kind::Element(6),
+        Asked::Hydrogen => Kind::Element(1),
         Asked::OneOf => Kind::OneOf(elements_of(alloc, &[6, 8])?),
         Asked::NoneOf => Kind::NoneOf(elements_of(alloc, &[7])?),
         Asked::Hetero => Kind::Hetero,

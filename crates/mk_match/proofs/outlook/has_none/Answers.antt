@@ -1,4 +1,4 @@
-use Rattle.std.proofs.Common.{◌<◌, ◌+◌, length, refl, arith}
+use Rattle.std.proofs.Common.{◌<◌, length, refl, arith}
 use Rattle.std.proofs.lemmas.Bool.Decides.{nat_tests}
 use Rattle.mk_match.proofs.OutlookLemmas.{looking_ends, looking_goes_back, looking_puts, looking_skips, looking_starts}
 use Rattle.mk_match.proofs.outlook.has_none.Goals as goal

@@ -2,4 +2,4 @@ use Rattle.mk_open.proofs.LawLemmas.{covered}
 use Rattle.mk_open.proofs.laws.completions_cover_its_need.Goals as goal
 
 pub returns : goal.returns
-returns c = covered c.screening_loses_no_hit.ensures
+returns c = covered

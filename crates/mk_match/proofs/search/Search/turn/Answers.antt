@@ -1,7 +1,6 @@
 use Rattle.std.proofs.Common.{◌∷◌, [], refl, lit<, arith}
-use Rattle.mk_model.specs.Hits.{IsHit}
 use Rattle.mk_model.proofs.ForCallers.{pays_end}
-use Rattle.mk_match.specs.Turns.{IsMapNode, node_of}
+use Rattle.mk_match.specs.Turns.{IsMapNode}
 use Rattle.mk_match.specs.Walk.{place_of}
 use Rattle.mk_match.proofs.SearchTurnLemmas.{item_least, item_owed, item_pays, moved_left, moved_owed, moved_pays, moved_same, moved_short}
 use Rattle.mk_match.proofs.WalkLemmas.{none_least, none_more}

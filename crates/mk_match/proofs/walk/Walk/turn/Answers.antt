@@ -1,9 +1,8 @@
 use Rattle.std.proofs.Common.{refl}
-use Rattle.mk_text.specs.Rising.{IsBelow}
-use Rattle.mk_text.proofs.ForCallers.{below_through, below_what_isnt, not_below_itself}
+use Rattle.mk_text.proofs.ForCallers.{below_through, not_below_itself}
 use Rattle.mk_model.specs.Hits.{IsHit}
 use Rattle.mk_model.proofs.ForCallers.{not_below_through}
-use Rattle.mk_match.specs.Turns.{IsVisit, node_of}
+use Rattle.mk_match.specs.Turns.{node_of}
 use Rattle.mk_match.specs.Walk.{place_of}
 use Rattle.mk_match.proofs.PassedLemmas.{same_here, same_through}
 use Rattle.mk_match.proofs.walk.Walk.turn.Goals as goal

@@ -1,4 +1,0 @@
-use Rattle.mk_search.proofs.expansions.may_hold.Given as goal
-
-abbrev pub ghosts-is_covered : goal.ghosts-is_covered
-ghosts-is_covered a = record { name = a.blank.name; parts = a.blank.parts }
