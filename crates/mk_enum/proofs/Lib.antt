@@ -1,0 +1,17 @@
+pub mod SymbolLemmas
+pub mod LimitLemmas
+pub mod EntryLemmas
+pub mod EachEntryLemmas
+pub mod SpeltLemmas
+pub mod LineLemmas
+pub mod SdfileLemmas
+pub mod NextLemmas
+pub mod ListedLemmas
+pub mod AtomThereLemmas
+pub mod ValueLemmas
+pub mod OwnListLemmas
+pub mod OwnBondLemmas
+pub mod PassLemmas
+pub mod OwnQueryLemmas
+pub mod AllStructuresLemmas
+pub mod ForCallers
