@@ -55,26 +55,3 @@ fn negative(z: u8) -> &'static [u8]
         _ => &[],
     }
 }
-
-#[cfg(test)]
-mod tests {
-    use super::valences;
-
-    #[test]
-    fn rows_of_the_table(rt: HostRuntime) {
-        let rows: [(u8, i8, &[u8]); 9] = [
-            (6, 0, &[4]),
-            (6, -1, &[3]),
-            (7, 0, &[3, 5]),
-            (7, 1, &[4]),
-            (16, 0, &[2, 4, 6]),
-            (16, 1, &[3, 5]),
-            (53, 0, &[1]),
-            (1, 0, &[]),
-            (8, 2, &[]),
-        ];
-        for (z, charge, want) in rows {
-            assert_eq!(rt; valences(z, charge), want, "{z} at {charge}");
-        }
-    }
-}

@@ -20,8 +20,6 @@ mod laws;
 mod limits;
 mod listed;
 mod tables;
-#[cfg(test)]
-mod tests;
 mod texts;
 
 pub use enumeration::structures;

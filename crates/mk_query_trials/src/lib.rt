@@ -1,7 +1,8 @@
 //! Tests of queries: raw queries that fail a check, by the check, the table and the item that are
-//! named, and what those that pass become. It serves tests alone, and nothing stands on it.
+//! named, what those that pass become, and the structures that they stand for. It serves tests
+//! alone, and nothing stands on it.
 //!
-//! What is promised is proved in mk_query, whose README names the tests. They go by `compile`
+//! What is promised is proved in mk_query and mk_enum, whose READMEs name the tests. They go by `compile`
 //! alone: a table that is tested by itself is the root of a query, or its first member. They stand
 //! here since a crate with tests is proved twice.
 #![tactic(auto)]
@@ -18,6 +19,8 @@ mod link_tests;
 mod site_tests;
 #[cfg(test)]
 mod size_tests;
+#[cfg(test)]
+mod structure_tests;
 #[cfg(test)]
 mod table_tests;
 #[cfg(test)]

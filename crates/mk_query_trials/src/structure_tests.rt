@@ -1,9 +1,8 @@
 // Structures of drawn queries. The shorthand is that of docs/TESTING.md, "Tables of tests".
-use crate::{Structures, structures, writable};
+use crate::compile_tests;
+use mk_enum::{Structures, structures, writable};
 use mk_fixtures::{graph_of, graph_of_sketch, rgfile_of_sketches};
 use mk_model::{AtomTest, Graph, GraphAtom, GraphBond, Kind, Query};
-use mk_query::compile;
-use mk_rgfile::read_rgfile;
 use std::alloc::Global;
 use std::test::Fail;
 
@@ -252,17 +251,8 @@ fn is_page(found: &Structures, codes: &[&[u32]], behind: &[u32], ended: bool) ->
 }
 
 fn query_of(alloc: Global, root: &str, groups: Groups) -> Result<Query, Fail> {
-    compiled(alloc, &rgfile_of_sketches(alloc, root, groups)?)
-}
-
-fn compiled(alloc: Global, text: &[u8]) -> Result<Query, Fail> {
-    if text.len() > 1_000_000 {
-        return Err(Fail::from("a long text"));
-    }
-    let Ok(raw) = read_rgfile(alloc, text) else {
-        return Err(Fail::from("no query file"));
-    };
-    match compile(alloc, &raw) {
+    let text = rgfile_of_sketches(alloc, root, groups)?;
+    match compile_tests::query_of(alloc, &text)? {
         Ok(query) => Ok(query),
         Err(_) => Err(Fail::from("a query that fails a check")),
     }
