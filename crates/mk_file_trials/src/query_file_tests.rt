@@ -344,7 +344,7 @@ fn texts_are_a_query_or_have_a_bad_line(rt: HostRuntime) -> Result<(), Fail> {
             text.extend_from_slice(piece.as_bytes())?;
         }
         let answer = read_rgfile(rt.alloc(), &text);
-        assert!(rt; is_wanted(&answer, *want), "{name}: {answer:?}");
+        assert!(rt; is_wanted(&answer, *want), "{name}");
     }
     Ok(())
 }

@@ -201,9 +201,11 @@ fn answered(answer: Result<(RawTable, usize), TableFault>) -> Want {
 fn lines_are_a_table_or_have_a_bad_line(rt: HostRuntime) -> Result<(), Fail> {
     for (name, text, at, wanted) in ROWS {
         let spans = lines(rt.alloc(), text.as_bytes())?;
-        assert!(rt; at <= spans.len(), "{name}");
+        if at > spans.len() {
+            return Err(Fail::from(name));
+        }
         let answer = answered(read_table(rt.alloc(), text.as_bytes(), &spans, at));
-        assert_eq!(rt; answer, wanted, "{name}");
+        assert!(rt; answer == wanted, "{name}");
     }
     Ok(())
 }

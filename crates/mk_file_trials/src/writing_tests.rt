@@ -303,21 +303,37 @@ fn has_properties(table: &RawTable, sketch: &[Sketched]) -> bool {
 fn tables_are_written_and_read_again(rt: HostRuntime) -> Result<(), Fail> {
     for (name, sketch, want) in ROWS {
         let written = table(rt.alloc(), sketch)?;
-        assert!(rt; can_be_spelt(&written), "{name}");
-        let mut out = Vec::from_slice(rt.alloc(), b"before\n")?;
-        write_table(rt.alloc(), &mut out, &written)?;
-        assert!(rt; out.starts_with(b"before\n"), "{name}");
-        assert!(rt; &out[7..] == want.as_bytes(), "{name}");
-
+        assert!(rt;
+            is_written_behind(rt.alloc(), &written, b"before\n", want)?,
+            "{name}"
+        );
         let read = read_again(rt.alloc(), want.as_bytes())?;
-        assert!(rt; has_atoms(&read, sketch.atoms), "{name}");
-        assert!(rt; has_bonds(&read, sketch.bonds), "{name}");
-        assert!(rt; has_lists(&read, sketch.lists), "{name}");
-        assert!(rt; has_properties(&read, sketch.props), "{name}");
-        assert!(rt; can_be_spelt(&read), "{name}");
-        let mut again = Vec::new(rt.alloc());
-        write_table(rt.alloc(), &mut again, &read)?;
-        assert!(rt; again.as_slice() == want.as_bytes(), "{name}");
+        let is_read = has_atoms(&read, sketch.atoms)
+            && has_bonds(&read, sketch.bonds)
+            && has_lists(&read, sketch.lists)
+            && has_properties(&read, sketch.props);
+        assert!(rt; is_read, "{name}, read again");
+        assert!(rt;
+            is_written_behind(rt.alloc(), &read, b"", want)?,
+            "{name}, written again"
+        );
     }
     Ok(())
+}
+
+// Whether the text of the table is this, behind what stands there before.
+fn is_written_behind(
+    alloc: Global,
+    written: &RawTable,
+    before: &[u8],
+    want: &str,
+) -> Result<bool, Fail> {
+    if !can_be_spelt(written) {
+        return Ok(false);
+    }
+    let mut out = Vec::from_slice(alloc, before)?;
+    write_table(alloc, &mut out, written)?;
+    let mut all = Vec::from_slice(alloc, before)?;
+    all.extend_from_slice(want.as_bytes())?;
+    Ok(out.as_slice() == all.as_slice())
 }

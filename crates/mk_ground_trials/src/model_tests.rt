@@ -17,11 +17,8 @@ const CARBON: Atom = Atom {
 fn keeps_a_molecule(rt: HostRuntime) -> Result<(), Fail> {
     let atoms = vec![in rt.alloc(); CARBON, CARBON]?;
     let mol = Mol::of(rt.alloc(), 1, atoms, Vec::new(rt.alloc()))?;
-    assert_eq!(rt; mol.atom_count(), 2);
-    assert_eq!(rt; mol.written(), 1);
-    assert_eq!(rt; mol.atom(2), CARBON);
-    assert_eq!(rt; mol.bonds_at(2), [].as_slice());
-    assert!(rt; mol.bond_between(1, 2).is_none());
+    let atoms = mol.atom_count() == 2 && mol.written() == 1 && mol.atom(2) == CARBON;
+    assert!(rt; atoms && mol.bonds_at(2).is_empty() && mol.bond_between(1, 2).is_none());
     Ok(())
 }
 
@@ -29,10 +26,8 @@ fn keeps_a_molecule(rt: HostRuntime) -> Result<(), Fail> {
 fn keeps_a_graph(rt: HostRuntime) -> Result<(), Fail> {
     let atoms = vec![in rt.alloc(); any_atom(), any_atom()]?;
     let graph = Graph::of(rt.alloc(), atoms, Vec::new(rt.alloc()))?;
-    assert_eq!(rt; graph.atom_count(), 2);
-    assert_eq!(rt; graph.atoms().len(), 2);
-    assert!(rt; graph.bonds().is_empty());
-    assert_eq!(rt; graph.bonds_at(2), [].as_slice());
+    let atoms = graph.atom_count() == 2 && graph.atoms().len() == 2;
+    assert!(rt; atoms && graph.bonds().is_empty() && graph.bonds_at(2).is_empty());
     Ok(())
 }
 
@@ -41,7 +36,7 @@ fn lists_elements(rt: HostRuntime) -> Result<(), Fail> {
     let mut list = Elements::new(rt.alloc());
     list.push(6)?;
     list.push(8)?;
-    assert_eq!(rt; list.as_slice(), [6, 8].as_slice());
+    assert!(rt; list.as_slice() == [6u8, 8].as_slice());
     Ok(())
 }
 
@@ -55,14 +50,11 @@ fn puts_bonds_in_order(rt: HostRuntime) -> Result<(), Fail> {
         bonds.push(graph_bond(first, second, kind))?;
     }
     put_in_order(&mut bonds);
-    assert_eq!(rt; bonds.len(), want.len());
+    let mut right = bonds.len() == want.len();
     for ((first, second, kind), bond) in want.iter().zip(&bonds) {
-        assert_eq!(rt;
-            *bond,
-            graph_bond(*first, *second, *kind),
-            "{first} {second}"
-        );
+        right = right && *bond == graph_bond(*first, *second, *kind);
     }
+    assert!(rt; right);
     Ok(())
 }
 
@@ -77,9 +69,8 @@ fn copies_a_long_list(rt: HostRuntime) -> Result<(), Fail> {
     atom.test.kind = Kind::NoneOf(list);
     atom.test.hydrogens = 2;
     let copy = atom.test.copied(rt.alloc())?;
-    assert_eq!(rt; copy.hydrogens, 2);
-    assert_eq!(rt; named(&copy.kind).len(), 20);
-    assert_eq!(rt; named(&copy.kind).last(), Some(&20));
+    let list = named(&copy.kind);
+    assert!(rt; copy.hydrogens == 2 && list.len() == 20 && list.last() == Some(&20));
     Ok(())
 }
 
@@ -117,13 +108,18 @@ fn keeps_a_template(rt: HostRuntime) -> Result<(), Fail> {
     let slots = vec![in rt.alloc(); link, site]?;
     let points = Numbers::of(vec![in rt.alloc(); 2u32]?);
     let template = Template::of(atoms, bonds, slots, points);
-    assert_eq!(rt; template.atoms().len(), 3);
-    assert_eq!(rt; template.bonds(), [bond].as_slice());
-    assert_eq!(rt; template.slots().len(), 2);
-    assert_eq!(rt; template.slots()[0].labels(), [].as_slice());
-    assert_eq!(rt; template.slots()[1].labels(), [7, 9].as_slice());
-    assert_eq!(rt; template.points(), [2].as_slice());
+    let drawn = template.atoms().len() == 3 && template.bonds() == [bond].as_slice();
+    let points = template.points() == [2u32].as_slice();
+    assert!(rt; drawn && points && has_labels(template.slots()));
     Ok(())
+}
+
+// Whether the first of two slots has no label, and the second has 7 and 9.
+fn has_labels(slots: &[Slot]) -> bool {
+    match slots {
+        [link, site] => link.labels().is_empty() && site.labels() == [7u32, 9].as_slice(),
+        _ => false,
+    }
 }
 
 // More intervals than are kept without memory of their own.
@@ -133,8 +129,8 @@ fn keeps_a_range(rt: HostRuntime) -> Result<(), Fail> {
     for least in 1..=5 {
         range.push(Interval { least, most: 9 })?;
     }
-    assert_eq!(rt; range.as_slice().len(), 5);
-    assert_eq!(rt; range.as_slice()[4], Interval { least: 5, most: 9 });
+    let last = range.as_slice().last() == Some(&Interval { least: 5, most: 9 });
+    assert!(rt; last && range.as_slice().len() == 5);
     Ok(())
 }
 

@@ -8,21 +8,31 @@ use std::test::Fail;
 #[test]
 fn items_by_number(rt: HostRuntime) -> Result<(), Fail> {
     let mut map = ByNumber::new(rt.alloc());
-    assert!(rt; map.last_row() == None && map.next_row(0) == None);
+    let none = map.last_row() == None && map.next_row(0) == None;
     put(&mut map, 30, 3)?;
     put(&mut map, 10, 1)?;
     put(&mut map, 20, 2)?;
-    assert!(rt; put_over(&mut map, 20, 4)? == 2);
-    assert!(rt; map.get(20) == Some(&4));
-    assert!(rt; map.remove(20) == Some(4));
-    assert!(rt; map.remove(20) == None);
-    assert!(rt; map.get(20) == None);
-    assert!(rt; !map.holds(20) && map.holds(30));
-    assert!(rt; map.next_row(0) == Some(10) && map.next_row(10) == Some(10));
-    assert!(rt; map.next_row(11) == Some(30) && map.next_row(31) == None);
-    assert!(rt; map.rows().len() == 2 && map.last_row() == Some(30));
-    assert!(rt; map.place(10) == 0 && map.place(11) == 1 && map.place(31) == 2);
+    let over = put_over(&mut map, 20, 4)?;
+    assert!(rt; none && over == 2 && is_taken_out(&mut map));
+    assert!(rt; holds_others(&map) && has_places(&map));
     Ok(())
+}
+
+// Whether 20 has its new item, which is taken out once.
+fn is_taken_out(map: &mut ByNumber<u8>) -> bool {
+    let held = map.get(20) == Some(&4) && map.remove(20) == Some(4);
+    held && map.remove(20) == None && map.get(20) == None && !map.holds(20)
+}
+
+// Whether 10 and 30 are left.
+fn holds_others(map: &ByNumber<u8>) -> bool {
+    map.holds(30) && map.rows().len() == 2 && map.last_row() == Some(30)
+}
+
+fn has_places(map: &ByNumber<u8>) -> bool {
+    let rows = map.next_row(0) == Some(10) && map.next_row(10) == Some(10);
+    let above = map.next_row(11) == Some(30) && map.next_row(31) == None;
+    rows && above && map.place(10) == 0 && map.place(11) == 1 && map.place(31) == 2
 }
 
 fn put(map: &mut ByNumber<u8>, number: u32, item: u8) -> Result<(), Fail> {

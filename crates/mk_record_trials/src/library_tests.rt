@@ -1,4 +1,6 @@
 // Each call that may answer want of memory, with what it answers.
+ghost use Rattle.std.specs.Prelude.{◌<◌};
+
 use mk_library::{Library, LoadRefusal, RecordRow, RestoreFault};
 use mk_outside::Bytes;
 use std::alloc::{AllocError, Global};
@@ -89,16 +91,16 @@ fn answers(library: &mut Library, alloc: Global) -> Result<Vec<u8>, AllocError> 
 fn shown(library: &Library, alloc: Global) -> Result<Vec<u8>, AllocError> {
     let mut shown = Vec::new(alloc);
     for n in 0..6u8 {
-        if let Some(_text) = library.text(u32::from(n)) {
+        if is_there(library, u32::from(n)) {
             shown.push(b'0' + n)?;
         }
     }
-    shown.push(if library.next_number() == 4 {
-        b'y'
-    } else {
-        b'n'
-    })?;
+    shown.push(next_is_four(library))?;
     Ok(shown)
+}
+
+fn is_there(library: &Library, n: u32) -> bool {
+    library.text(n).is_some()
 }
 
 #[test]
@@ -170,22 +172,45 @@ fn refusals_come_in_order(rt: HostRuntime) -> Result<(), Fail> {
 fn drawn(library: &Library, alloc: Global) -> Result<Vec<u8>, AllocError> {
     let mut drawn = Vec::new(alloc);
     for n in 0..6u32 {
-        if let Some(text) = library.text(n) {
-            drawn.extend_from_slice(text)?;
-        }
-        if let Some(mol) = library.shelf().get(n) {
-            drawn.push(if mol.atom_count() == 5 { b'5' } else { b'-' })?;
-        }
+        put_record(&mut drawn, library, n)?;
     }
-    for number in library.shelf().posting(alloc, 137)?.as_slice() {
+    put_numbers(&mut drawn, posting(library, alloc, 137)?.as_slice())?;
+    drawn.push(next_is_four(library))?;
+    Ok(drawn)
+}
+
+// The text under a number, and whether its molecule has five atoms.
+fn put_record(drawn: &mut Vec<u8>, library: &Library, n: u32) -> Result<(), AllocError> {
+    if let Some(text) = library.text(n) {
+        drawn.extend_from_slice(text)?;
+    }
+    if let Some(mol) = library.shelf().get(n) {
+        drawn.push(if mol.atom_count() == 5 { b'5' } else { b'-' })?;
+    }
+    Ok(())
+}
+
+fn put_numbers(drawn: &mut Vec<u8>, numbers: &[u32]) -> Result<(), AllocError> {
+    for number in numbers {
         drawn.push((*number % 100) as u8)?;
     }
-    drawn.push(if library.next_number() == 4 {
+    Ok(())
+}
+
+// The numbers of the records that have this bit.
+fn posting(library: &Library, alloc: Global, bit: u32) -> Result<Vec<u32>, AllocError>
+    requires { bit < 512 }
+{
+    Ok(library.shelf().posting(alloc, bit)?)
+}
+
+// Whether the next number is 4.
+fn next_is_four(library: &Library) -> u8 {
+    if library.next_number() == 4 {
         b'y'
     } else {
         b'n'
-    })?;
-    Ok(drawn)
+    }
 }
 
 // Whether a library that is built anew looks the same.
@@ -198,15 +223,15 @@ fn is_same_anew(library: &Library, alloc: Global) -> Result<bool, AllocError> {
 
 #[test]
 fn a_library_is_built_anew(rt: HostRuntime) -> Result<(), Fail> {
-    let mut library = Library::new(rt.alloc());
-    assert!(rt; is_same_anew(&library, rt.alloc())?, "none");
-    assert!(rt; load(&mut library, rt.alloc(), TWO) == b'+');
-    assert!(rt; is_same_anew(&library, rt.alloc())?, "after a load");
-    assert!(rt; replace(&mut library, rt.alloc(), 2, CARBON) == b'+');
-    assert!(rt; is_same_anew(&library, rt.alloc())?, "after a replacement");
-    assert!(rt; load(&mut library, rt.alloc(), EMPTY) == b'+');
-    assert!(rt; remove(&mut library, rt.alloc(), 3) == b'+');
-    assert!(rt; is_same_anew(&library, rt.alloc())?, "after a removal");
+    let alloc = rt.alloc();
+    let mut library = Library::new(alloc);
+    let none = is_same_anew(&library, alloc)?;
+    let loaded = load(&mut library, alloc, TWO) == b'+' && is_same_anew(&library, alloc)?;
+    let replaced = replace(&mut library, alloc, 2, CARBON) == b'+'
+        && is_same_anew(&library, alloc)?;
+    let more = load(&mut library, alloc, EMPTY) == b'+';
+    let removed = remove(&mut library, alloc, 3) == b'+' && is_same_anew(&library, alloc)?;
+    assert!(rt; none && loaded && replaced && more && removed);
     Ok(())
 }
 
@@ -216,16 +241,26 @@ fn a_library_is_built_anew(rt: HostRuntime) -> Result<(), Fail> {
 fn postings_follow_edits(rt: HostRuntime) -> Result<(), Fail> {
     let alloc = rt.alloc();
     let mut library = Library::new(alloc);
-    for _ in 0..3 {
-        assert!(rt; load(&mut library, alloc, CARBON) == b'+');
-    }
-    assert!(rt; replace(&mut library, alloc, 2, OXYGEN) == b'+');
-    assert!(rt; remove(&mut library, alloc, 1) == b'+');
-    let shelf = library.shelf();
-    assert!(rt; shelf.posting(alloc, 137)?.as_slice() == [3u32].as_slice());
-    assert!(rt; shelf.posting(alloc, 139)?.as_slice() == [2u32].as_slice());
-    assert!(rt; is_same_anew(&library, alloc)?);
+    let edited = is_edited(&mut library, alloc);
+    assert!(rt; edited && has_postings(&library, alloc)?);
     Ok(())
+}
+
+// Three carbons, of which the second becomes an oxygen and the first goes.
+fn is_edited(library: &mut Library, alloc: Global) -> bool {
+    for _ in 0..3 {
+        if load(library, alloc, CARBON) != b'+' {
+            return false;
+        }
+    }
+    replace(library, alloc, 2, OXYGEN) == b'+' && remove(library, alloc, 1) == b'+'
+}
+
+fn has_postings(library: &Library, alloc: Global) -> Result<bool, AllocError> {
+    let carbons = posting(library, alloc, 137)?;
+    let oxygens = posting(library, alloc, 139)?;
+    let right = carbons.as_slice() == [3u32].as_slice() && oxygens.as_slice() == [2u32].as_slice();
+    Ok(right && is_same_anew(library, alloc)?)
 }
 
 // A record row behind one of number 2, the next number, and whether the row reads.

@@ -90,17 +90,31 @@ fn load(library: &mut Library, alloc: Global, bytes: usize) -> Result<u8, AllocE
 fn loads_end_with_the_bytes(rt: HostRuntime) -> Result<(), Fail> {
     let alloc = rt.alloc();
     let mut library = Library::new(alloc);
-    assert!(rt; load(&mut library, alloc, 67_108_865)? == b'4');
-    assert!(rt; load(&mut library, alloc, 67_108_864)? == b'+');
-    assert!(rt; load(&mut library, alloc, 67_108_851)? == b'+');
-    assert!(rt; load(&mut library, alloc, 14)? == b'5');
+    assert!(rt;
+        answers(
+            &mut library,
+            alloc,
+            &[67_108_865, 67_108_864, 67_108_851, 14]
+        )?
+        .as_slice()
+            == b"4++5".as_slice()
+    );
     let Ok(pending) = library.remove(alloc, 2) else {
         return Err(Fail::from(AllocError));
     };
     library.install(pending);
-    assert!(rt; load(&mut library, alloc, 67_108_850)? == b'+');
-    assert!(rt; load(&mut library, alloc, 14)? == b'+');
-    assert!(rt; load(&mut library, alloc, 14)? == b'5');
+    assert!(rt;
+        answers(&mut library, alloc, &[67_108_850, 14, 14])?.as_slice() == b"++5".as_slice()
+    );
     assert!(rt; library.next_number() == 5);
     Ok(())
+}
+
+// What loads of files of so many bytes answer.
+fn answers(library: &mut Library, alloc: Global, sizes: &[usize]) -> Result<Vec<u8>, Fail> {
+    let mut answers = Vec::new(alloc);
+    for size in sizes {
+        answers.push(load(library, alloc, *size)?)?;
+    }
+    Ok(answers)
 }
