@@ -1,6 +1,6 @@
 -- Tables that a command leaves read, where those before it did. A further command is a further lemma.
 --     edit_goes_on            an edit of records
---     match_goes_on .. table_goes_on      each command
+--     match_goes_on .. enum_goes_on      each command
 use Rattle.std.proofs.Common.{◌≡◌, ℕ, ◌+◌, ◌≤◌, true, List, [], ◌∷◌, ◌++◌, length, map, filter, bytes_eq, Option, Some, None, refl, sym, subst, arith}
 use Rattle.mk_text.specs.Lines.{lines_of}
 use Rattle.mk_outside.specs.declared.tables.Change.{Change}
@@ -37,6 +37,7 @@ use Rattle.mk_effects.specs.Records.{IsRemove, IsShow, NoRecordRemoved, NoRecord
 use Rattle.mk_kept.specs.Saved.{IsMeant, greatest_number, kept_tables, longest_place}
 use Rattle.mk_kept.specs.SavedPending.{IsInPlace}
 use Rattle.mk_effects.specs.Searching.{IsListing, IsMoleculeAt, IsResume, IsSearch, ListsAll, ListsRest, MovesPlace, NoQuerySearched, NoSearchResumed, SavesPlace, SearchesAreFull}
+use Rattle.mk_effects.specs.Structures.{IsEnum, NoQueryEnumerated, WritesStructures}
 use Rattle.mk_effects.specs.Table.{IsTableAnswer, NoQueryTabled, WritesRows}
 use Rattle.mk_kept.specs.Named.{IsQueryNamed}
 use Rattle.mk_kept.proofs.ForCallers.{all_of_each, below_all, none_above_greatest, drop_cursor_goes_on, drop_query_goes_on, later_cursor_goes_on, new_cursor_goes_on, put_query_goes_on, named_of, search_is_held, place_is_kept}
@@ -191,3 +192,7 @@ resume_goes_on laws t c limit budget effect (MovesPlace row held query named key
 pub table_goes_on : (t : Tables) (name : List ℕ) (effect : Effect) → IsTableAnswer t name effect → CanGoOn t → CanGoOn (after_effect effect t)
 table_goes_on t name effect (NoQueryTabled none is) go = refused_goes_on t effect _ is go
 table_goes_on t name effect (WritesRows query named rows table is) go = answered_goes_on t effect _ is go
+
+pub enum_goes_on : (t : Tables) (name : List ℕ) (limit : ℕ) (from : List ℕ) (effect : Effect) → IsEnum t.queries name limit from effect → CanGoOn t → CanGoOn (after_effect effect t)
+enum_goes_on t name limit from effect (NoQueryEnumerated none is) go = refused_goes_on t effect _ is go
+enum_goes_on t name limit from effect (WritesStructures query named found are is) go = answered_goes_on t effect _ is go

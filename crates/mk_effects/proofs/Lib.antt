@@ -12,6 +12,7 @@ pub mod OneQueryFileLemmas
 pub mod OneKeepLemmas
 pub mod OneSearchLemmas
 pub mod TableLemmas
+pub mod StructuresLemmas
 pub mod OneMatchLemmas
 pub mod GoingOnLemmas
 pub mod ForCallers

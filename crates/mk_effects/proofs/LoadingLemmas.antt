@@ -6,7 +6,7 @@
 --     rows_as_records  the texts have the numbers of the records
 --     installed        a change of records changes the whole tables so
 use Rattle.std.proofs.Common.{◌≡◌, ◌≢◌, ℕ, Bool, true, false, ◌||◌, List, [], ◌∷◌, ◌++◌, Option, Some, length, refl, sym, ap, ◌∙◌, subst}
-use Rattle.std.specs.Prelude.{Err, codes, decimal, if◌then◌else◌}
+use Rattle.std.specs.Prelude.{Err, codes, if◌then◌else◌}
 use Rattle.std.specs.List.{flat_map}
 use Rattle.std.proofs.lemmas.List.{length-map}
 use Rattle.mk_outside.specs.declared.tables.Change.{Change}

@@ -2,12 +2,11 @@
 --     paced_keys      over what is held so as the records hold it, they are keys that are listed with a budget
 --     stops_paced     a list with a budget stops so as its page
 --     parts_of_page, listing_of_page, begins_of_page     a page over the molecules of a library
-use Rattle.std.proofs.Common.{◌≡◌, ℕ, ◌+◌, ◌-◌, ◌≤◌, ◌⊎◌, inl, inr, List, [], length, refl, sym, subst, Some, arith}
-use Rattle.mk_text.specs.Rising.{AreFirst, Holds, IsBelow}
+use Rattle.std.proofs.Common.{◌≡◌, ℕ, ◌-◌, ◌≤◌, List, length, refl, sym, subst, Some, arith}
 use Rattle.mk_text.proofs.ForCallers.{each_from}
-use Rattle.mk_model.specs.Keys.{IsKey, Remains}
+use Rattle.mk_model.specs.Keys.{IsKey}
 use Rattle.mk_model.specs.Molecules.{Molecule}
-use Rattle.mk_model.specs.Nodes.{Ahead, IsNode}
+use Rattle.mk_model.specs.Nodes.{Ahead}
 use Rattle.mk_model.specs.Queries.{QueryView}
 use Rattle.mk_outside.specs.declared.tables.RecordRow.{RecordRow}
 use Rattle.mk_search.specs.declared.paced.Paced.{Paced}

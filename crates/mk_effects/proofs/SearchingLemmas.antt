@@ -17,7 +17,7 @@ use Rattle.mk_sdfile.specs.declared.raw_record.RawRecord.{RawRecord}
 use Rattle.mk_sdfile.specs.Sdfile.{HasOneValue}
 use Rattle.mk_mol.specs.Filled.{IsFilled}
 use Rattle.mk_mol.specs.Laws.{OneFilledMolecule}
-use Rattle.mk_outside.specs.declared.tables.Change.TheVariants.{PutCursor, DropCursor}
+use Rattle.mk_outside.specs.declared.tables.Change.TheVariants.{PutCursor}
 use Rattle.mk_outside.specs.declared.tables.RecordRow.{RecordRow}
 use Rattle.mk_library.specs.Records.{AreHeld, IsMoleculeOf, text_under}
 use Rattle.mk_search.specs.declared.pages.Page.{Page}

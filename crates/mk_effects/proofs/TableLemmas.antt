@@ -1,7 +1,7 @@
 -- What `table` comes to.
 --     rows_over_records, rows_begun_over_records     the table over the molecules of a library, as that over its records
 --     one_table_answer                               at most one effect
-use Rattle.std.proofs.Common.{◌≡◌, ℕ, true, false, List, [], refl, sym, ap, ◌∙◌, subst}
+use Rattle.std.proofs.Common.{◌≡◌, ℕ, List, [], sym, ap, ◌∙◌, subst}
 use Rattle.mk_model.specs.Molecules.{Molecule}
 use Rattle.mk_model.specs.Queries.{QueryView}
 use Rattle.mk_mol.specs.Laws.{OneFilledMolecule}
@@ -16,7 +16,6 @@ use Rattle.mk_rtable.specs.Begins.{BeginsOfTable}
 use Rattle.mk_rtable.specs.Table.{IsRGroupTable}
 use Rattle.mk_rtable.specs.Text.{table_text}
 use Rattle.mk_rtable.proofs.ForCallers.{begins_over, one_table, table_over}
-use Rattle.mk_kept.specs.Named.{IsQueryNamed}
 use Rattle.mk_kept.proofs.ForCallers.{HasQueryLaws, named_of}
 use Rattle.mk_effects.specs.Effects.{Answers, Effect}
 use Rattle.mk_effects.specs.Searching.{IsMoleculeAt}

@@ -10,6 +10,7 @@ pub mod Records
 pub mod Queries
 pub mod Searching
 pub mod Table
+pub mod Structures
 pub mod Ticks
 pub mod Loading
 pub mod Drilling

@@ -19,6 +19,7 @@ mod matching;
 mod queries;
 mod records;
 mod searching;
+mod structures;
 mod table;
 
 pub use drilling::drill_found;
@@ -29,4 +30,5 @@ pub use mk_text::Memory;
 pub use queries::{forget_found, keep_found};
 pub use records::{list_found, remove_found, show_found};
 pub use searching::{resume_found, search_found};
+pub use structures::enum_found;
 pub use table::table_found;

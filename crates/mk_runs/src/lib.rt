@@ -34,6 +34,8 @@ mod search_store_tests;
 #[cfg(test)]
 mod search_tests;
 #[cfg(test)]
+mod structure_tests;
+#[cfg(test)]
 mod table_tests;
 #[cfg(test)]
 mod test_files;

@@ -20,7 +20,7 @@ const FLUORINE_FIRST: Content = Grouped(
 );
 
 // Fluorine of group 2, and then chlorine and bromine of group 1, at a site that bears both labels.
-const TWO_LABELS: Content = Grouped(
+pub const TWO_LABELS: Content = Grouped(
     "C R# | 1-2 {M  RGP  2   2   1   2   2}{M  LOG  1   1   0   0 0-1}{M  LOG  1   2   0   0 0-1}",
     &[
         (2, &["F | {M  APO  1   1   1}"]),
@@ -29,7 +29,7 @@ const TWO_LABELS: Content = Grouped(
 );
 
 // A site behind which a carbon that bears oxygen may stand up to three times.
-const LINKED: Content = Grouped(
+pub const LINKED: Content = Grouped(
     "R# C O N | 1-2 2-3 2-4 {M  RGP  1   1   1}{M  LIN  1   2   3   1   4}",
     &[(1, &["Br | {M  APO  1   1   1}", "Cl | {M  APO  1   1   1}"])],
 );

@@ -16,7 +16,7 @@ use Rattle.mk_session.specs.declared.command.LineKind.{LineKind}
 use Rattle.mk_session.specs.declared.command.LineKind.TheVariants as line_kind
 use Rattle.mk_session.specs.declared.command.WordsKind.{WordsKind}
 use Rattle.mk_session.specs.declared.command.WordsKind.TheVariants as words_kind
-use Rattle.mk_session.specs.Commands.{CanAsk, CanAskLine, CanAskWords, CommandsAreRead, IsCommandOf, OneReading, behind_store, command_in, file_in, held_number, kind_behind_store, kind_of_line, kind_of_order, kind_of_words, kind_of_words_order, limit_in, name_in, number_in, row_of_one, row_of_three, row_of_two, with_one, with_two, within, row_of_four, search_all, search_within, resume_all, resume_within, with_three, budget_in, MatchRow, LoadRow, ReplaceRow, RemoveRow, QueryRow, ForgetRow, SearchRow, SearchWithinRow, ResumeRow, ResumeWithinRow, ShowRow, TableRow, ListRow, DrillRow}
+use Rattle.mk_session.specs.Commands.{CanAsk, CanAskLine, CanAskWords, CommandsAreRead, IsCommandOf, OneReading, behind_store, command_in, file_in, held_number, kind_behind_store, kind_of_line, kind_of_order, kind_of_words, kind_of_words_order, limit_in, name_in, number_in, row_of_one, row_of_three, row_of_two, with_one, with_two, within, row_of_four, search_all, search_within, resume_all, resume_within, with_three, budget_in, enum_all, structures_in, place_in, MatchRow, LoadRow, ReplaceRow, RemoveRow, QueryRow, ForgetRow, SearchRow, SearchWithinRow, ResumeRow, ResumeWithinRow, ShowRow, TableRow, EnumRow, EnumFromRow, ListRow, DrillRow}
 use Rattle.mk_kept.specs.Names.{IsName, is_name}
 
 -- ---- from a row to what computes it
@@ -50,6 +50,9 @@ row_is words command (ResumeWithinRow a b d cursor limit budget same is is' is''
     of_words words _ command same (three_is resume_within (held_number a) (limit_in b) (budget_in d) cursor limit budget command is is' is'' made)
 row_is words command (ShowRow a number same is made) = of_words words _ command same (one_is variant.Show (held_number a) number command is made)
 row_is words command (TableRow a name same is made) = of_words words _ command same (one_is variant.Table (name_in a) name command is made)
+row_is words command (EnumRow a b name limit same is is' made) = of_words words _ command same (two_is enum_all (name_in a) (structures_in b) name limit command is is' made)
+row_is words command (EnumFromRow a b d name limit from same is is' is'' made) =
+    of_words words _ command same (three_is variant.Enum (name_in a) (structures_in b) (place_in d) name limit from command is is' is'' made)
 row_is words command (ListRow same made) = of_words words _ command same (ap Some (sym made))
 row_is words command (DrillRow a b start count same is is' made) = of_words words _ command same (two_is variant.Drill (number_in 0 999999999 a) (limit_in b) start count command is is' made)
 
@@ -139,7 +142,9 @@ row_three word a b command is =
     (λ same is. let h = has_two resume_all (held_number a) (limit_in b) command is in ResumeRow a b h.a h.b (as_word word _ _ same) h.is h.is' h.made)
     (λ is. by_word word (codes "drill") _ _ command is
     (λ same is. let h = has_two variant.Drill (number_in 0 999999999 a) (limit_in b) command is in DrillRow a b h.a h.b (as_word word _ _ same) h.is h.is' h.made)
-    (λ is. absurd cc))))))
+    (λ is. by_word word (codes "enum") _ _ command is
+    (λ same is. let h = has_two enum_all (name_in a) (structures_in b) command is in EnumRow a b h.a h.b (as_word word _ _ same) h.is h.is' h.made)
+    (λ is. absurd cc)))))))
 
 row_four : (word a b d : List ℕ) (command : Command) → row_of_four word a b d ≡ Some command → IsCommandOf (word ∷ a ∷ b ∷ d ∷ []) command
 row_four word a b d command is =
@@ -151,7 +156,11 @@ row_four word a b d command is =
     (λ same is.
     let h = has_three resume_within (held_number a) (limit_in b) (budget_in d) command is in
     ResumeWithinRow a b d h.a h.b h.c (as_word word _ _ same) h.is h.is' h.is'' h.made)
-    (λ is. absurd cc))
+    (λ is. by_word word (codes "enum") _ _ command is
+    (λ same is.
+    let h = has_three variant.Enum (name_in a) (structures_in b) (place_in d) command is in
+    EnumFromRow a b d h.a h.b h.c (as_word word _ _ same) h.is h.is' h.is'' h.made)
+    (λ is. absurd cc)))
 
 is_row : (words : List (List ℕ)) (command : Command) → command_in words ≡ Some command → IsCommandOf words command
 is_row [] command is = absurd cc
@@ -215,6 +224,8 @@ ranges words command (ResumeWithinRow a b d cursor limit budget same is is' is''
     (within_range 1 999999999 (digits_number a) cursor is, within_range 1 10000 (digits_number b) limit is', within_range 2048 999999999 (digits_number d) budget is'')
 ranges words command (ShowRow a number same is made) = subst CanAsk (sym made) (within_range 1 999999999 (digits_number a) number is)
 ranges words command (TableRow a name same is made) = subst CanAsk (sym made) (name_is a name is)
+ranges words command (EnumRow a b name limit same is is' made) = subst CanAsk (sym made) (name_is a name is, within_range 1 1000 (digits_number b) limit is')
+ranges words command (EnumFromRow a b d name limit from same is is' is'' made) = subst CanAsk (sym made) (name_is a name is, within_range 1 1000 (digits_number b) limit is')
 ranges words command (ListRow same made) = subst CanAsk (sym made) tt
 ranges words command (DrillRow a b start count same is is' made) =
     subst CanAsk (sym made) ((within_range 0 999999999 (digits_number a) start is).1, within_range 1 10000 (digits_number b) count is')

@@ -2,6 +2,7 @@
 --     some_text            keys have lines
 --     some_listing         keys are listed, with a budget or without
 --     some_rows            the rows of a query over the records
+--     some_enum            its structures
 --     some_effect          EachOrderHasEffect
 use Rattle.std.proofs.Common.{◌≡◌, ◌≢◌, ◌<◌, ◌≤◌, ◌+◌, ℕ, Bool, true, false, cond, eqb, List, [], ◌∷◌, ◌++◌, Option, Some, None, refl, sym, ap, subst, arith, inl, inr, length, take}
 use Rattle.std.specs.Prelude.{◌⊎◌, ◌↔◌, IsSome, bytes_eq, codes, nat_eq, nat_lt}
@@ -39,6 +40,7 @@ use Rattle.mk_search.proofs.ListingLemmas.{list_same}
 use Rattle.mk_rtable.specs.declared.rows.TableRow.{TableRow}
 use Rattle.mk_rtable.specs.Table.{IsRGroupTable}
 use Rattle.mk_rtable.specs.Text.{table_text}
+use Rattle.mk_enum.proofs.ForCallers.{some_enumeration}
 use Rattle.mk_rtable.proofs.ForCallers.{some_table, table_over}
 use Rattle.mk_values.proofs.ForCallers.{drill_has_line, edit_is_judged, file_is_judged, list_by, rows_hold, rows_of, taken_first}
 use Rattle.mk_session.specs.declared.command.Command.TheVariants as variant
@@ -64,6 +66,7 @@ use Rattle.mk_effects.specs.Records.{NoRecordRemoved, NoRecordShown, Removes, Sh
 use Rattle.mk_kept.specs.Saved.{HasMeaning, HasRoomFor, greatest_number, is_named, longest_place, most_queries, most_query_number, most_search_number, most_searches, most_text_bytes, bytes_of_texts}
 use Rattle.mk_kept.specs.Saved.{HasSearchRoom}
 use Rattle.mk_effects.specs.Searching.{IsListing, IsMoleculeAt, IsResume, IsSearch, full_searches_text, no_search_text}
+use Rattle.mk_effects.specs.Structures.{IsEnum, NoQueryEnumerated, WritesStructures, place_line}
 use Rattle.mk_effects.specs.Table.{IsTableAnswer, NoQueryTabled, WritesRows}
 use Rattle.mk_kept.specs.Named.{IsQueryNamed, search_of}
 use Rattle.mk_effects.specs.Searching.{ListsAll, ListsRest, MovesPlace, NoQuerySearched, NoSearchResumed, SavesPlace, SearchesAreFull}
@@ -231,6 +234,17 @@ some_table_answer t name can =
           let rows = some_rows t.records named.0 (text_fits named.1.text named.0 named.1.means.is) in
           (Answers [] (table_text named.0 rows.0), WritesRows named.0 named.1 rows.0 rows.1 refl))
       | inr none ↦ (Refuses (no_query_text name), NoQueryTabled none refl)
+    ]
+
+-- ---- structures
+
+some_enum : (t : Tables) (name : List ℕ) (limit : ℕ) (from : List ℕ) → CanBeAsked t → (effect : Effect) × IsEnum t.queries name limit from effect
+some_enum t name limit from can =
+    elim (cases_Bool (is_named name t.queries)) [
+      | inl held ↦ (let named = some_named name t.queries can.queries held in
+          let found = some_enumeration named.0 from limit (text_fits named.1.text named.0 named.1.means.is) in
+          (Answers [] (found.0.text ++ place_line found.0.ended found.0.place), WritesStructures named.0 named.1 found.0 found.1 refl))
+      | inr none ↦ (Refuses (no_query_text name), NoQueryEnumerated none refl)
     ]
 
 -- ---- molecules' files
@@ -424,5 +438,6 @@ some_effect look t (Some (variant.Search name limit budget)) can there = some_se
 some_effect look t (Some (variant.Resume cursor limit budget)) can there = some_resume t cursor limit budget can
 some_effect look t (Some (variant.Show number)) can there = some_show t number
 some_effect look t (Some (variant.Table name)) can there = some_table_answer t name can
+some_effect look t (Some (variant.Enum name limit from)) can there = some_enum t name limit from can
 some_effect look t (Some variant.List) can there = (Answers [] (list_text t), refl)
 some_effect look t (Some (variant.Drill start count)) can there = (let line = drill_has_line start count in (Answers [] line.0, record { line = line.0; is = line.1; whole = refl }))

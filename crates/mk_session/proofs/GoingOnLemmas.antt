@@ -23,7 +23,7 @@ use Rattle.mk_session.specs.Orders.{Asked, Order, Orders, TooMuch, asked_of, ask
 use Rattle.mk_session.specs.Given.{CanAskOrder}
 use Rattle.mk_session.specs.Step.{Comes}
 use Rattle.mk_session.proofs.CommandLemmas.{can_ask_line, can_ask_words}
-use Rattle.mk_effects.proofs.ForCallers.{KeepingLaws, refused_goes_on, answered_goes_on, match_goes_on, edited_goes_on, replace_goes_on, remove_goes_on, show_goes_on, keep_goes_on, forget_goes_on, search_goes_on, table_goes_on, resume_goes_on}
+use Rattle.mk_effects.proofs.ForCallers.{KeepingLaws, refused_goes_on, answered_goes_on, match_goes_on, edited_goes_on, replace_goes_on, remove_goes_on, show_goes_on, keep_goes_on, forget_goes_on, search_goes_on, table_goes_on, enum_goes_on, resume_goes_on}
 
 -- ---- commands
 
@@ -39,6 +39,7 @@ command_goes_on laws files t (variant.Search name limit budget) effect asks come
 command_goes_on laws files t (variant.Resume cursor limit budget) effect asks comes go = resume_goes_on laws t cursor limit budget effect comes go
 command_goes_on laws files t (variant.Show number) effect asks comes go = show_goes_on t number effect comes go
 command_goes_on laws files t (variant.Table name) effect asks comes go = table_goes_on t name effect comes go
+command_goes_on laws files t (variant.Enum name limit from) effect asks comes go = enum_goes_on t name limit from effect comes go
 command_goes_on laws files t variant.List effect asks comes go = answered_goes_on t effect _ comes go
 command_goes_on laws files t (variant.Drill start count) effect asks comes go = answered_goes_on t effect comes.line comes.whole go
 

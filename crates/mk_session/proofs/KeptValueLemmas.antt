@@ -42,6 +42,7 @@ use Rattle.mk_kept.specs.Saved.{HasMeaning, greatest_number, is_named, is_waitin
 use Rattle.mk_kept.specs.SavedPending.{IsInPlace}
 use Rattle.mk_effects.specs.declared.effect.Stop.{Stop}
 use Rattle.mk_effects.specs.Searching.{IsListing, IsMoleculeAt, IsResume, IsSearch}
+use Rattle.mk_effects.specs.Structures.{IsEnum, NoQueryEnumerated, WritesStructures}
 use Rattle.mk_effects.specs.Table.{IsTableAnswer, NoQueryTabled, WritesRows}
 use Rattle.mk_effects.specs.Searching.{ListsAll, ListsRest, MovesPlace, NoQuerySearched, NoSearchResumed, SavesPlace, SearchesAreFull}
 use Rattle.mk_session.specs.Values.{CanBeAsked, EffectsKeepQueries}
@@ -286,6 +287,10 @@ module _ (files : Option Look) (t : Tables) (can : CanBeAsked t) where
   table_keeps name effect (NoQueryTabled none is) = refused_keeps t effect _ is can
   table_keeps name effect (WritesRows query named rows table is) = changed_keeps t effect [] _ is can
 
+  enum_keeps : (name : List ℕ) (limit : ℕ) (from : List ℕ) (effect : Effect) → IsEnum t.queries name limit from effect → CanBeAsked (after_effect effect t)
+  enum_keeps name limit from effect (NoQueryEnumerated none is) = refused_keeps t effect _ is can
+  enum_keeps name limit from effect (WritesStructures query named found are is) = changed_keeps t effect [] _ is can
+
 pub effect_keeps : EffectsKeepQueries
 effect_keeps look t None effect comes can = refused_keeps t effect _ comes can
 effect_keeps look t (Some (variant.Match query molecules)) effect comes can = match_keeps (Some look) t can query molecules effect comes
@@ -298,5 +303,6 @@ effect_keeps look t (Some (variant.Search name limit budget)) effect comes can =
 effect_keeps look t (Some (variant.Resume cursor limit budget)) effect comes can = resume_keeps (Some look) t can cursor limit budget effect comes
 effect_keeps look t (Some (variant.Show number)) effect comes can = show_keeps (Some look) t can number effect comes
 effect_keeps look t (Some (variant.Table name)) effect comes can = table_keeps (Some look) t can name effect comes
+effect_keeps look t (Some (variant.Enum name limit from)) effect comes can = enum_keeps (Some look) t can name limit from effect comes
 effect_keeps look t (Some variant.List) effect comes can = changed_keeps t effect [] _ comes can
 effect_keeps look t (Some (variant.Drill start count)) effect comes can = changed_keeps t effect [] comes.line comes.whole can

@@ -16,7 +16,7 @@ use Rattle.mk_kept.specs.StoredRows.{AllRead}
 use Rattle.mk_kept.proofs.ForCallers.{one_first_bad, reads_not_bad}
 use Rattle.mk_library.specs.Edits.{Load}
 use Rattle.mk_effects.specs.Loading.{loaded_text}
-use Rattle.mk_effects.proofs.ForCallers.{one_edited, one_replace, one_forget, one_keep, one_resume, one_search, one_table_answer, HasLaws, one_match, one_show, one_remove}
+use Rattle.mk_effects.proofs.ForCallers.{one_edited, one_replace, one_forget, one_keep, one_resume, one_search, one_table_answer, one_enum, HasLaws, one_match, one_show, one_remove}
 
 -- ---- all commands
 
@@ -34,6 +34,7 @@ one_effect laws look t (Some (variant.Resume cursor limit None)) a b free p q = 
 one_effect laws look t (Some (variant.Resume cursor limit (Some budget))) a b free p q = absurd cc
 one_effect laws look t (Some (variant.Show number)) a b free p q = one_show t.records number a b p q
 one_effect laws look t (Some (variant.Table name)) a b free p q = one_table_answer laws.queries t name a b p q
+one_effect laws look t (Some (variant.Enum name limit from)) a b free p q = one_enum laws.queries t.queries name limit from a b p q
 one_effect laws look t (Some variant.List) a b free p q = p ∙ sym q
 one_effect laws look t (Some (variant.Drill start count)) a b free p q = p.whole ∙ ap (λ (line : List ℕ). Answers [] line) (laws.drills start count p.line q.line p.is q.is) ∙ sym q.whole
 

@@ -2,7 +2,7 @@
 use Rattle.std.proofs.Common.{◌≡◌, ℕ, ◌≤◌, List, [], ◌++◌, length, take, Option, Some, None, refl, sym, arith, length-append, ◌∙◌, ap}
 use Rattle.std.proofs.lemmas.List.{length-take-le}
 use Rattle.std.specs.Io.KnownBytes.{Consumes}
-use Rattle.std.proofs.KnownBytes.{Consumes-nil, Consumes-trans}
+use Rattle.std.proofs.KnownBytes.{Consumes-trans}
 use Rattle.mk_session.specs.declared.command.WordsKind.{WordsKind}
 use Rattle.mk_session.specs.declared.command.WordsKind.TheVariants as words_kind
 use Rattle.mk_session.specs.declared.command.Command.{Command}

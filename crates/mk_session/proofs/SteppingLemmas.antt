@@ -4,11 +4,9 @@
 use Rattle.std.proofs.Common.{◌≡◌, ℕ, List, Option, refl, sym, ap, ◌∙◌, subst, All}
 use Rattle.std.specs.Prelude.{Result, Ok, Err, IsErr}
 use Rattle.mk_outside.specs.declared.tables.Change.{Change}
-use Rattle.mk_outside.specs.declared.tables.RecordRow.{RecordRow}
 use Rattle.mk_outside.specs.declared.tables.Tables.{Tables}
 use Rattle.mk_outside.specs.Tables.{after_batch}
-use Rattle.mk_library.specs.Library.{IsSame, LibraryView, tables_of}
-use Rattle.mk_library.specs.Pending.{IsOfRecords, RecordsChangeAlone}
+use Rattle.mk_library.specs.Library.{IsSame, LibraryView}
 use Rattle.mk_session.specs.declared.status.Ended.{Ended}
 use Rattle.mk_effects.specs.declared.effect.StepFail.{StepFail}
 use Rattle.mk_kept.specs.Saved.{IsSameSaved, SavedView, saved_tables}

@@ -6,7 +6,7 @@ use Rattle.std.specs.Prelude.{bytes_eq}
 use Rattle.std.proofs.lemmas.Slice.Eq.{bytes_eq-Decides}
 use Rattle.mk_session.specs.declared.command.Command.{Command}
 use Rattle.mk_session.specs.declared.command.WordsKind.TheVariants as words_kind
-use Rattle.mk_session.specs.Commands.{AskFor, AskForScript, IsCommandOf, IsStoreWith, StoreIsRead, WordsAreRead, behind_store, command_in, kind_behind_store, kind_of_words, kind_of_words_order, store_flag, store_path, CommandAlone, CommandBehindStore, NoWords, StoreAlone, MatchRow, LoadRow, ReplaceRow, RemoveRow, QueryRow, ForgetRow, SearchRow, SearchWithinRow, ResumeRow, ResumeWithinRow, ShowRow, TableRow, ListRow, DrillRow}
+use Rattle.mk_session.specs.Commands.{AskFor, AskForScript, IsCommandOf, IsStoreWith, StoreIsRead, WordsAreRead, behind_store, command_in, kind_behind_store, kind_of_words, kind_of_words_order, store_flag, store_path, CommandAlone, CommandBehindStore, NoWords, StoreAlone, MatchRow, LoadRow, ReplaceRow, RemoveRow, QueryRow, ForgetRow, SearchRow, SearchWithinRow, ResumeRow, ResumeWithinRow, ShowRow, TableRow, EnumRow, EnumFromRow, ListRow, DrillRow}
 use Rattle.mk_session.proofs.CommandLemmas.{commands_are_read}
 
 -- a test of the first word
@@ -92,6 +92,8 @@ row_has_no_store words command (ResumeRow a b cursor limit same is is' made) = s
 row_has_no_store words command (SearchWithinRow a b d name limit budget same is is' is'' made) = subst HasNoStore (sym same) refl
 row_has_no_store words command (ResumeWithinRow a b d cursor limit budget same is is' is'' made) = subst HasNoStore (sym same) refl
 row_has_no_store words command (TableRow a name same is made) = subst HasNoStore (sym same) refl
+row_has_no_store words command (EnumRow a b name limit same is is' made) = subst HasNoStore (sym same) refl
+row_has_no_store words command (EnumFromRow a b d name limit from same is is' is'' made) = subst HasNoStore (sym same) refl
 row_has_no_store words command (ShowRow a number same is made) = subst HasNoStore (sym same) refl
 row_has_no_store words command (ListRow same made) = subst HasNoStore (sym same) refl
 row_has_no_store words command (DrillRow a b start count same is is' made) = subst HasNoStore (sym same) refl

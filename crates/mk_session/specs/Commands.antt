@@ -9,11 +9,13 @@
 --     CommandsAreRead, OneReading, WordsAreRead   laws
 -- A line's words are its longest runs of bytes other than blanks. A byte of a longer character is
 -- no blank, so a line is UTF-8 exactly where each of its words is.
-use Rattle.std.specs.Prelude.{◌≡◌, ◌↔◌, ℕ, ◌≤◌, ◌&&◌, nat_le, List, [], ◌∷◌, Option, Some, None, IfSome, codes, bytes_eq, if◌then◌else◌, ⊤}
+use Rattle.std.specs.Prelude.{◌≡◌, ◌↔◌, ℕ, ◌≤◌, ◌&&◌, nat_le, List, [], ◌∷◌, Option, Some, None, IfSome, codes, bytes_eq, length, ◌==◌, if◌then◌else◌, ⊤}
+use Rattle.std.specs.List.{slice_split}
 use Rattle.std.specs.Str.{is_utf8}
 use Rattle.mk_text.specs.Columns.{are_blank}
 use Rattle.mk_text.specs.Fields.{digits_number}
 use Rattle.mk_text.specs.Lines.{words_of}
+use Rattle.mk_text.specs.Options.{◌>>=◌, when}
 use Rattle.mk_session.specs.declared.command.Command.{Command}
 use Rattle.mk_session.specs.declared.command.Command.TheVariants as variant
 use Rattle.mk_session.specs.declared.command.LineKind.{LineKind}
@@ -21,7 +23,9 @@ use Rattle.mk_session.specs.declared.command.LineKind.TheVariants as line_kind
 use Rattle.mk_session.specs.declared.command.WordsKind.{WordsKind}
 use Rattle.mk_session.specs.declared.command.WordsKind.TheVariants as words_kind
 use Rattle.mk_kept.specs.Names.{is_name, IsHeldNumber, IsName}
+use Rattle.mk_kept.specs.Saved.{longest_place}
 use Rattle.mk_effects.specs.Searching.{IsBudget, IsLimit}
+use Rattle.mk_effects.specs.Structures.{IsStructureLimit}
 
 -- ---- single words
 
@@ -55,10 +59,24 @@ limit_in word = number_in 1 10000 word
 abbrev pub budget_in : List ℕ → Option ℕ
 budget_in word = number_in 2048 999999999 word
 
+-- how many structures are written
+abbrev pub structures_in : List ℕ → Option ℕ
+structures_in word = number_in 1 1000 word
+
+-- the numbers of one to nine digits that these words are
+abbrev pub numbers_in : List (List ℕ) → Option (List ℕ)
+numbers_in [] = Some []
+numbers_in (word ∷ words) = digits_number word >>= λ n. numbers_in words >>= λ numbers. Some (n ∷ numbers)
+
+-- a place is 1 to 514 numbers, with a comma between each two, byte 44
+abbrev pub place_in : List ℕ → Option (List ℕ)
+place_in word = (let parts = slice_split (λ b. b == 44) word in when (nat_le (length parts) longest_place) (numbers_in parts))
+
 -- ---- the table of commands
 
 -- The words spell the command. One case for each: its word in small letters, and exactly so many
--- words more. `search` and `resume` have a second case, with a budget as one word more.
+-- words more. `search` and `resume` have a second case, with a budget as one word more, and `enum`
+-- has one with a place.
 pub data IsCommandOf (words : List (List ℕ)) (command : Command) : Type 0 where
   MatchRow : (a b query molecules : List ℕ) → words ≡ codes "match" ∷ a ∷ b ∷ [] → file_in a ≡ Some query → file_in b ≡ Some molecules
       → command ≡ variant.Match query molecules → IsCommandOf words command
@@ -79,6 +97,10 @@ pub data IsCommandOf (words : List (List ℕ)) (command : Command) : Type 0 wher
       → budget_in d ≡ Some budget → command ≡ variant.Resume cursor limit (Some budget) → IsCommandOf words command
   ShowRow : (a : List ℕ) (number : ℕ) → words ≡ codes "show" ∷ a ∷ [] → held_number a ≡ Some number → command ≡ variant.Show number → IsCommandOf words command
   TableRow : (a name : List ℕ) → words ≡ codes "table" ∷ a ∷ [] → name_in a ≡ Some name → command ≡ variant.Table name → IsCommandOf words command
+  EnumRow : (a b name : List ℕ) (limit : ℕ) → words ≡ codes "enum" ∷ a ∷ b ∷ [] → name_in a ≡ Some name → structures_in b ≡ Some limit
+      → command ≡ variant.Enum name limit [] → IsCommandOf words command
+  EnumFromRow : (a b d name : List ℕ) (limit : ℕ) (from : List ℕ) → words ≡ codes "enum" ∷ a ∷ b ∷ d ∷ [] → name_in a ≡ Some name → structures_in b ≡ Some limit
+      → place_in d ≡ Some from → command ≡ variant.Enum name limit from → IsCommandOf words command
   ListRow : words ≡ codes "list" ∷ [] → command ≡ variant.List → IsCommandOf words command
   DrillRow : (a b : List ℕ) (start count : ℕ) → words ≡ codes "drill" ∷ a ∷ b ∷ [] → number_in 0 999999999 a ≡ Some start → limit_in b ≡ Some count
       → command ≡ variant.Drill start count → IsCommandOf words command
@@ -116,6 +138,10 @@ resume_all cursor limit = variant.Resume cursor limit None
 abbrev pub resume_within : ℕ → ℕ → ℕ → Command
 resume_within cursor limit budget = variant.Resume cursor limit (Some budget)
 
+-- `enum` from the first code on
+abbrev pub enum_all : List ℕ → ℕ → Command
+enum_all name limit = variant.Enum name limit []
+
 -- the command that is one word
 abbrev pub row_of_one : List ℕ → Option Command
 row_of_one word = if bytes_eq word (codes "list") then Some variant.List else None
@@ -137,13 +163,15 @@ row_of_three word a b =
     else (if bytes_eq word (codes "query") then with_two variant.Query (name_in a) (file_in b)
     else (if bytes_eq word (codes "search") then with_two search_all (name_in a) (limit_in b)
     else (if bytes_eq word (codes "resume") then with_two resume_all (held_number a) (limit_in b)
-    else (if bytes_eq word (codes "drill") then with_two variant.Drill (number_in 0 999999999 a) (limit_in b) else None)))))
+    else (if bytes_eq word (codes "drill") then with_two variant.Drill (number_in 0 999999999 a) (limit_in b)
+    else (if bytes_eq word (codes "enum") then with_two enum_all (name_in a) (structures_in b) else None))))))
 
 -- the command that is four words
 abbrev pub row_of_four : List ℕ → List ℕ → List ℕ → List ℕ → Option Command
 row_of_four word a b d =
     if bytes_eq word (codes "search") then with_three search_within (name_in a) (limit_in b) (budget_in d)
-    else (if bytes_eq word (codes "resume") then with_three resume_within (held_number a) (limit_in b) (budget_in d) else None)
+    else (if bytes_eq word (codes "resume") then with_three resume_within (held_number a) (limit_in b) (budget_in d)
+    else (if bytes_eq word (codes "enum") then with_three variant.Enum (name_in a) (structures_in b) (place_in d) else None))
 
 -- the command that the words are, where they are one
 abbrev pub command_in : List (List ℕ) → Option Command
@@ -225,6 +253,7 @@ CanAsk (variant.Resume cursor limit budget) = IsHeldNumber cursor × IsLimit lim
 CanAsk (variant.Show number) = IsHeldNumber number
 CanAsk variant.List = ⊤
 CanAsk (variant.Table name) = IsName name
+CanAsk (variant.Enum name limit from) = IsName name × IsStructureLimit limit
 CanAsk (variant.Drill start count) = (start ≤ 999999999) × IsLimit count
 
 -- a line that is a command is one that a session can be asked

@@ -15,6 +15,7 @@ use Rattle.mk_session.specs.Orders.{Order}
 use Rattle.mk_effects.specs.Queries.{IsForget, IsKeep, IsTurnOfKeep}
 use Rattle.mk_effects.specs.Records.{IsRemove, IsShow, list_text}
 use Rattle.mk_effects.specs.Searching.{IsResume, IsSearch}
+use Rattle.mk_effects.specs.Structures.{IsEnum}
 use Rattle.mk_effects.specs.Table.{IsTableAnswer}
 use Rattle.mk_effects.specs.Drilling.{IsDrillAnswer}
 
@@ -35,6 +36,7 @@ Comes files t (Some (variant.Resume cursor limit budget)) effect = IsResume t cu
 Comes files t (Some (variant.Show number)) effect = IsShow t.records number effect
 Comes files t (Some variant.List) effect = effect ≡ Answers [] (list_text t)
 Comes files t (Some (variant.Table name)) effect = IsTableAnswer t name effect
+Comes files t (Some (variant.Enum name limit from)) effect = IsEnum t.queries name limit from effect
 Comes files t (Some (variant.Drill start count)) effect = IsDrillAnswer start count effect
 
 -- the order names the file, and no refusal before the file's turn holds

@@ -1,5 +1,5 @@
 // Commands, and what a line of a script and the words of the command line are.
-use mk_outside::Text;
+use mk_outside::{Place, Text};
 
 /// A command. Names and file names stand as they are written, and numbers without their leading
 /// zeros.
@@ -53,6 +53,12 @@ pub enum Command {
     /// Says which members of a query stand in each record.
     Table {
         name: Text,
+    },
+    /// Writes the first structures that a query stands for, from a place on.
+    Enum {
+        name: Text,
+        limit: u32,
+        from: Place,
     },
     /// Makes a library of its own and searches it.
     Drill {

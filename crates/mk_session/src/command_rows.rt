@@ -1,11 +1,11 @@
 // The rows of the table of commands, from words.
 ghost use Rattle.std.specs.Prelude.{◌≡◌, IfOk};
-ghost use Rattle.mk_session.specs.Commands.{budget_in, command_in, file_in, held_number, limit_in, name_in, number_in};
+ghost use Rattle.mk_session.specs.Commands.{budget_in, command_in, enum_all, file_in, held_number, limit_in, name_in, number_in, place_in, structures_in};
 ghost use Rattle.mk_session.specs.Commands.{resume_all, resume_within, row_of_four, row_of_one, row_of_three, row_of_two, search_all, search_within, with_one, with_three, with_two};
 
 use crate::Command;
-use crate::command_parts::{file_in, name_in, number_in};
-use mk_outside::{Bytes, Memory};
+use crate::command_parts::{file_in, name_in, number_in, place_in};
+use mk_outside::{Bytes, Memory, Place};
 use std::alloc::Global;
 
 // The greatest number of a record or of a saved search.
@@ -13,6 +13,9 @@ const GREATEST: u32 = 999_999_999;
 
 // How many hits are listed, or molecules drilled, at most.
 const MOST: u32 = 10_000;
+
+// How many structures are written at most.
+const MOST_STRUCTURES: u32 = 1_000;
 
 // The least and the greatest budget.
 const LEAST_BUDGET: u32 = 2_048;
@@ -91,6 +94,9 @@ fn row_of_three(alloc: Global, word: &[u8], a: &[u8], b: &[u8]) -> Result<Option
     if word == b"drill".as_slice() {
         return Ok(drill_row(a, b));
     }
+    if word == b"enum".as_slice() {
+        return enum_row(alloc, a, b);
+    }
     Ok(None)
 }
 
@@ -108,6 +114,9 @@ fn row_of_four(
     }
     if word == b"resume".as_slice() {
         return Ok(resume_within_row(a, b, d));
+    }
+    if word == b"enum".as_slice() {
+        return enum_from_row(alloc, a, b, d);
     }
     Ok(None)
 }
@@ -272,5 +281,36 @@ fn drill_row(a: &[u8], b: &[u8]) -> Option<Command>
     match number_in(b, 1, MOST) {
         Some(count) => Some(Command::Drill { start, count }),
         None => None,
+    }
+}
+
+fn enum_row(alloc: Global, a: &[u8], b: &[u8]) -> Result<Option<Command>, Memory>
+    ensures { IfOk result (λ command. command ≡ with_two enum_all (name_in a.now) (structures_in b.now)) }
+{
+    let Some(name) = name_in(alloc, a)? else {
+        return Ok(None);
+    };
+    match number_in(b, 1, MOST_STRUCTURES) {
+        Some(limit) => Ok(Some(Command::Enum {
+            name,
+            limit,
+            from: Place::new(alloc),
+        })),
+        None => Ok(None),
+    }
+}
+
+fn enum_from_row(alloc: Global, a: &[u8], b: &[u8], d: &[u8]) -> Result<Option<Command>, Memory>
+    ensures { IfOk result (λ command. command ≡ with_three Command.Enum (name_in a.now) (structures_in b.now) (place_in d.now)) }
+{
+    let Some(name) = name_in(alloc, a)? else {
+        return Ok(None);
+    };
+    let Some(limit) = number_in(b, 1, MOST_STRUCTURES) else {
+        return Ok(None);
+    };
+    match place_in(alloc, d)? {
+        Some(from) => Ok(Some(Command::Enum { name, limit, from })),
+        None => Ok(None),
     }
 }

@@ -12,8 +12,8 @@ ghost use Rattle.mk_session.specs.StepTicks.{BeginsOfCommand};
 
 use crate::Command;
 use mk_effects::{
-    Found, StepFail, drill_found, forget_found, keep_found, list_found, load_found, match_found,
-    remove_found, replace_found, resume_found, search_found, show_found, table_found,
+    Found, StepFail, drill_found, enum_found, forget_found, keep_found, list_found, load_found,
+    match_found, remove_found, replace_found, resume_found, search_found, show_found, table_found,
 };
 use mk_kept::Saved;
 use mk_library::Library;
@@ -69,6 +69,9 @@ pub fn found_of<F: Files, L: Ledger>(
             budget,
         } => Ok(resume_found(alloc, library, saved, *cursor, *limit, *budget, steps)?),
         Command::Table { name } => Ok(table_found(alloc, library, saved, name.as_str(), steps)?),
+        Command::Enum { name, limit, from } => {
+            Ok(enum_found(alloc, saved, name.as_str(), *limit, from.as_slice())?)
+        }
         Command::Drill { start, count } => Ok(drill_found(alloc, *start, *count)?),
     }
 }

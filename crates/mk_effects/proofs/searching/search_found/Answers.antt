@@ -2,7 +2,6 @@ use Rattle.std.proofs.Common.{[], ◌≡◌, ◌∙◌, refl, subst}
 use Rattle.mk_kept.specs.Saved.{HasSearchRoom}
 use Rattle.mk_effects.specs.declared.effect.Stop.{Stop}
 use Rattle.mk_effects.specs.Searching.{HasListing, IsListing, IsSearch, ListsAll, SavesPlace, SearchesAreFull, full_searches_text}
-use Rattle.mk_effects.specs.Ticks.{BeginsOfListed}
 use Rattle.mk_kept.specs.Named.{IsQueryNamed}
 use Rattle.mk_effects.specs.Findings.{stands_for}
 use Rattle.mk_kept.proofs.ForCallers.{named_of}
