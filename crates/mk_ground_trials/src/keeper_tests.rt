@@ -11,7 +11,7 @@ use std::test::Fail;
 
 // The records before, as numbers and letters; the batch, as what a change does, its number, and the
 // letter that is its text and its name; and what is kept then, table by table, with the next
-// numbers. `r`, `q` and `c` put a record, a query and a cursor, and `R`, `Q` and `C` drop one.
+// numbers. `r`, `q` and `c` put a record, a query and a cursor, and `x`, `y` and `z` drop one.
 static BATCHES: [(&str, &[u8; 6], &[u8; 6], &str); 9] = [
     (
         "between and behind",
@@ -27,14 +27,14 @@ static BATCHES: [(&str, &[u8; 6], &[u8; 6], &str); 9] = [
         b"r7dr3e",
         "3e5a1b7d9c|||81",
     ),
-    ("all of a number dropped", b"2a1b2c", b"R2-R8-", "1b|||11"),
-    ("put and dropped", b"1a2b3c", b"r4dR4-", "1a2b3c|||51"),
+    ("all of a number dropped", b"2a1b2c", b"x2-x8-", "1b|||11"),
+    ("put and dropped", b"1a2b3c", b"r4dx4-", "1a2b3c|||51"),
     ("three tables", b"1a2b3c", b"q1dc2e", "1a2b3c|1d|2e|13"),
-    ("a query by its name", b"1a2b3c", b"q1dQ2d", "1a2b3c|||11"),
+    ("a query by its name", b"1a2b3c", b"q1dy2d", "1a2b3c|||11"),
     (
         "a cursor by its number",
         b"1a2b3c",
-        b"c1dC2d",
+        b"c1dz2d",
         "1a2b3c||1d|12",
     ),
 ];
@@ -82,7 +82,7 @@ fn change_of(alloc: Global, deed: u8, digit: u8, letter: u8) -> Result<Change, A
             let text = bytes(alloc, letter)?;
             Ok(Change::PutQuery { number, name, text })
         }
-        b'Q' => {
+        b'y' => {
             let name = name(alloc, letter)?;
             Ok(Change::DropQuery { name })
         }
@@ -95,7 +95,7 @@ fn change_of(alloc: Global, deed: u8, digit: u8, letter: u8) -> Result<Change, A
                 place,
             })
         }
-        b'C' => Ok(Change::DropCursor { number }),
+        b'z' => Ok(Change::DropCursor { number }),
         _ => Ok(Change::DropRecord { number }),
     }
 }
