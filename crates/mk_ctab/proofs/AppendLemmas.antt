@@ -9,7 +9,7 @@ use Rattle.std.proofs.lemmas.List.{take_more, flat_map_more, replicate-append-re
 use mir.Syntax.{w32}
 use mir.Val.{to_z, of_z}
 use Rattle.mk_text.specs.Lines.{ended}
-use Rattle.mk_ctab.specs.TableSpelling.{three, spaced, counts_line, atom_line, bond_line, numbers_line, property_line, end_line, spelling, FitsThree}
+use Rattle.mk_ctab.specs.TableSpelling.{three, spaced, counts_line, atom_line, bond_line, numbers_line, property_line, end_line, table_spelling, FitsThree}
 use Rattle.mk_ctab.proofs.ThreeLemmas.{passed}
 
 -- ---- texts in turn
@@ -97,10 +97,10 @@ ended_both line xs lines text others =
     ∙ ap (λ (back : List ℕ). flat_map (λ x. ended (line x)) xs ++ back) others
 
 -- the parts of a table's text
-pub spelling_parts : (table : RawTable) → spelling table
+pub spelling_parts : (table : RawTable) → table_spelling table
     ≡ ended (counts_line table) ++ (flat_map (λ atom. ended (atom_line atom)) table.atoms ++ (flat_map (λ bond. ended (bond_line bond)) table.bonds
     ++ (flat_map (λ list. ended (numbers_line list)) table.lists ++ (flat_map (λ property. ended (property_line property)) table.props ++ codes "M  END\n"))))
-unfolding spelling
+unfolding table_spelling
 spelling_parts table =
     ap (λ (rest : List ℕ). ended (counts_line table) ++ rest)
     (ended_both atom_line table.atoms _ _ (ended_both bond_line table.bonds _ _

@@ -16,7 +16,7 @@ use Rattle.mk_ctab.specs.declared.raw.RawTable.{RawTable}
 use Rattle.mk_ctab.specs.Table.{Spell, IsKept, IsBlock, values_of, IsTable}
 use Rattle.mk_ctab.specs.TableLines.{Line, raw_atom_of, raw_bond_of, list_of}
 use Rattle.mk_text.specs.Lines.{ended, EndsWith}
-use Rattle.mk_ctab.specs.TableSpelling.{counts_line, atom_line, bond_line, numbers_line, property_line, end_line, table_lines, spelling, AtomFits, BondFits, ListFits, PropertyFits, IsSymbol, SymbolsFit, SymbolsEnd, RangeFits, CanBeSpelt, SpellingIsRead, EndsWithNoBlank}
+use Rattle.mk_ctab.specs.TableSpelling.{counts_line, atom_line, bond_line, numbers_line, property_line, end_line, table_lines, table_spelling, AtomFits, BondFits, ListFits, PropertyFits, IsSymbol, SymbolsFit, SymbolsEnd, RangeFits, CanBeSpelt, SpellingIsRead, EndsWithNoBlank}
 use Rattle.mk_ctab.proofs.ThreeLemmas.{HasEnd}
 use Rattle.mk_ctab.proofs.LineSpellingLemmas.{counts_are_read, atom_is_read, bond_is_read, list_is_read, each_of}
 use Rattle.mk_ctab.proofs.PropertySpellingLemmas.{property_is_read}
@@ -101,8 +101,8 @@ are_whole [] fit = tt
 are_whole (line ∷ lines) fit = (is_whole line fit.0, are_whole lines fit.1)
 
 -- so they are the lines of the spelling
-lines_are : (table : RawTable) → CanBeSpelt table → lines_of (spelling table) ≡ table_lines table
-unfolding spelling
+lines_are : (table : RawTable) → CanBeSpelt table → lines_of (table_spelling table) ≡ table_lines table
+unfolding table_spelling
 lines_are table can = text_of_lines_is_read (table_lines table) (All-from_recursion IsWholeLine (table_lines table) (are_whole (table_lines table) (all_whole table can)))
 
 -- lines that each spell a value

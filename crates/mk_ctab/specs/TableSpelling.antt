@@ -3,7 +3,7 @@
 --     counts_line table            the counts line
 --     atom_line, bond_line, numbers_line, property_line      the line of an atom, a bond, an atom
 --                                                            list, a property
---     spelling table               all lines of a table, each with LF behind it
+--     table_spelling table         all lines of a table, each with LF behind it
 --     CanBeSpelt table             what is written so is that table again
 --     SpellingIsRead, EndsWithNoBlank      two laws of it
 use Rattle.std.specs.Prelude.{◌≡◌, ℕ, ◌-◌, ◌≤◌, List, [], ◌∷◌, ◌++◌, length, map, replicate, All, Contains, ℤ, pos, neg_ℤ, ◌≤ℤ◌, decimal, codes}
@@ -136,8 +136,8 @@ table_lines table =
     counts_line table ∷ (map atom_line table.atoms ++ (map bond_line table.bonds ++ (map numbers_line table.lists ++ (map property_line table.props ++ end_line ∷ []))))
 
 -- the text of a table: each line and LF behind it
-unfoldable pub spelling : RawTable → List ℕ
-spelling table = text_of (table_lines table)
+unfoldable pub table_spelling : RawTable → List ℕ
+table_spelling table = text_of (table_lines table)
 
 -- ---- which tables can be spelt
 
@@ -273,8 +273,8 @@ pub record CanBeSpelt (table : RawTable) : Type 0 where
 
 -- the lines of what is written are that table
 abbrev pub SpellingIsRead : Type 0
-SpellingIsRead = (table : RawTable) → CanBeSpelt table → IsTable (lines_of (spelling table)) table
+SpellingIsRead = (table : RawTable) → CanBeSpelt table → IsTable (lines_of (table_spelling table)) table
 
 -- no line of what is written ends with a blank, byte 32
 abbrev pub EndsWithNoBlank : Type 0
-EndsWithNoBlank = (table : RawTable) → CanBeSpelt table → All (λ line. ¬ (EndsWith 32 line)) (lines_of (spelling table))
+EndsWithNoBlank = (table : RawTable) → CanBeSpelt table → All (λ line. ¬ (EndsWith 32 line)) (lines_of (table_spelling table))

@@ -8,7 +8,7 @@
 //! in `specs/TableFacts.antt` says. `table_at` in `specs/TableReading.antt` is the same, computed,
 //! and readers of longer texts go on from it.
 //!
-//! `write_table` appends exactly the spelling of a table that can be spelt (`spelling` and
+//! `write_table` appends exactly the spelling of a table that can be spelt (`table_spelling` and
 //! `CanBeSpelt` in `specs/TableSpelling.antt`), and that spelling is the table again
 //! (`spelling_is_read`).
 //!

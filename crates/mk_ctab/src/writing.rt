@@ -3,7 +3,7 @@ ghost use Rattle.std.specs.Prelude.{◌≡◌, ◌++◌, All, OnOk, OnErr};
 ghost use Rattle.std.specs.List.{flat_map};
 ghost use Rattle.mk_ctab.specs.Table.{IsKept};
 ghost use Rattle.mk_text.specs.Lines.{ended};
-ghost use Rattle.mk_ctab.specs.TableSpelling.{atom_line, bond_line, numbers_line, property_line, spelling, AtomFits, BondFits, ListFits, PropertyFits, CanBeSpelt};
+ghost use Rattle.mk_ctab.specs.TableSpelling.{atom_line, bond_line, numbers_line, property_line, table_spelling, AtomFits, BondFits, ListFits, PropertyFits, CanBeSpelt};
 
 use crate::raw::{RawAtom, RawBond, RawList, RawTable};
 use crate::writing_lines::{put_atom, put_bond, put_counts, put_list};
@@ -56,7 +56,7 @@ fn put_properties(alloc: Global, out: &mut Vec<u8>, properties: &[Property]) -> 
 // All lines in order.
 fn put_table(alloc: Global, out: &mut Vec<u8>, table: &RawTable) -> Result<(), Memory>
     requires { CanBeSpelt table.now }
-    ensures { OnOk result (out.new.items ≡ out.old.items ++ spelling table.now) }
+    ensures { OnOk result (out.new.items ≡ out.old.items ++ table_spelling table.now) }
 {
     put_counts(alloc, out, table)?;
     put_atoms(alloc, out, table.atoms.as_slice())?;
@@ -69,7 +69,7 @@ fn put_table(alloc: Global, out: &mut Vec<u8>, table: &RawTable) -> Result<(), M
 /// Appends the text of a table. Where there is no memory for it, nothing is appended.
 pub fn write_table(alloc: Global, out: &mut Vec<u8>, table: &RawTable) -> Result<(), Memory>
     requires { CanBeSpelt table.now }
-    ensures ok { OnOk result (out.new.items ≡ out.old.items ++ spelling table.now) }
+    ensures ok { OnOk result (out.new.items ≡ out.old.items ++ table_spelling table.now) }
     ensures err { OnErr result (out.new.items ≡ out.old.items) }
 {
     let mut text = Vec::new(alloc);

@@ -3,7 +3,7 @@ use Rattle.std.proofs.Common.{[], ◌∷◌, ◌≡◌, ℕ, List, Some, arith, 
 use Rattle.std.proofs.lemmas.List.{append-nil}
 use Rattle.mk_text.specs.Lines.{lines_of}
 use Rattle.mk_ctab.specs.declared.raw.RawTable.{RawTable}
-use Rattle.mk_ctab.specs.TableSpelling.{CanBeSpelt, spelling}
+use Rattle.mk_ctab.specs.TableSpelling.{CanBeSpelt, table_spelling}
 use Rattle.mk_ctab.proofs.TableSpellingLemmas.{is_read}
 use Rattle.mk_sdfile.specs.declared.raw_record.RawRecord.{RawRecord}
 use Rattle.mk_sdfile.specs.Sdfile.{IsRecord, IsSdfile}
@@ -19,7 +19,7 @@ abbrev pub record_of : RawTable → RawRecord
 record_of table = record { table = table; text = record_text table }
 
 -- three empty lines, and those of the table
-lines_are : (table : RawTable) → lines_of (drilled_text table) ≡ [] ∷ [] ∷ [] ∷ lines_of (spelling table)
+lines_are : (table : RawTable) → lines_of (drilled_text table) ≡ [] ∷ [] ∷ [] ∷ lines_of (table_spelling table)
 unfolding drilled_text lines_of
 lines_are table = refl
 
@@ -31,7 +31,7 @@ is_record table can = record {
   whole = sym (append-nil (lines_of (drilled_text table)));
   molfile = record {
     header_lines = [] ∷ [] ∷ [] ∷ [];
-    table_lines = lines_of (spelling table);
+    table_lines = lines_of (table_spelling table);
     whole = lines_are table;
     three = refl;
     is = inr (is_read table can);

@@ -9,7 +9,7 @@ use Rattle.mk_text.specs.Lines.{ended, lines_of, onto_first_piece, pieces, text_
 use Rattle.mk_ctab.specs.declared.raw.RawAtom.{RawAtom}
 use Rattle.mk_ctab.specs.declared.raw.RawBond.{RawBond}
 use Rattle.mk_ctab.specs.declared.raw.RawTable.{RawTable}
-use Rattle.mk_ctab.specs.TableSpelling.{AtomFits, BondFits, CanBeSpelt, IsSymbol, at_left, atom_line, bond_line, counts_line, end_line, numbers_line, property_line, spelling, table_lines}
+use Rattle.mk_ctab.specs.TableSpelling.{AtomFits, BondFits, CanBeSpelt, IsSymbol, at_left, atom_line, bond_line, counts_line, end_line, numbers_line, property_line, table_spelling, table_lines}
 use Rattle.mk_ctab.proofs.ThreeLemmas.{count_fits, length-three}
 use Rattle.mk_drill.proofs.DrilledChecksLemmas.{of_none}
 use Rattle.mk_drill.specs.DrilledRecords.{drilled_text, record_text}
@@ -118,14 +118,14 @@ count_lines table no_lists no_properties =
     simp (length-append, length-map) (omega (arith, lists, properties))
 
 -- the spelling of a table with few atoms and bonds and nothing else
-pub spelling_size : (table : RawTable) → CanBeSpelt table → table.lists ≡ [] → table.props ≡ [] → length table.atoms + length table.bonds ≤ 40 → length (spelling table) ≤ 2520
-unfolding spelling
+pub spelling_size : (table : RawTable) → CanBeSpelt table → table.lists ≡ [] → table.props ≡ [] → length table.atoms + length table.bonds ≤ 40 → length (table_spelling table) ≤ 2520
+unfolding table_spelling
 spelling_size table can no_lists no_properties few =
     let size = short_size (table_lines table) (recursion_from_All IsShort (table_lines table) (are_short table can no_lists no_properties)) in
     omega (arith, size, count_lines table no_lists no_properties)
 
 -- the text that is loaded
-pub text_size : (table : RawTable) → length (spelling table) ≤ 2520 → length (drilled_text table) ≤ 2523
+pub text_size : (table : RawTable) → length (table_spelling table) ≤ 2520 → length (drilled_text table) ≤ 2523
 unfolding drilled_text
 text_size table few = omega arith
 

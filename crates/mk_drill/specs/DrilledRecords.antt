@@ -14,7 +14,7 @@ use Rattle.mk_text.specs.Lines.{lines_of}
 use Rattle.mk_model.specs.Molecules.{Molecule}
 use Rattle.mk_outside.specs.declared.tables.RecordRow.{RecordRow}
 use Rattle.mk_ctab.specs.declared.raw.RawTable.{RawTable}
-use Rattle.mk_ctab.specs.TableSpelling.{CanBeSpelt, spelling}
+use Rattle.mk_ctab.specs.TableSpelling.{CanBeSpelt, table_spelling}
 use Rattle.mk_mol.specs.FirstFault.{MeetsAllChecks}
 use Rattle.mk_rows.specs.declared.by_number.Numbered.{Numbered}
 use Rattle.mk_library.specs.Library.{LibraryView}
@@ -24,7 +24,7 @@ use Rattle.mk_drill.specs.Draws.{drilled_table, state_for}
 
 -- three empty header lines, and the spelling of the table
 unfoldable pub drilled_text : RawTable → List ℕ
-drilled_text table = codes "\n\n\n" ++ spelling table
+drilled_text table = codes "\n\n\n" ++ table_spelling table
 
 -- the text of a table's record: what is kept of the table's lines
 unfoldable pub record_text : RawTable → List ℕ

@@ -13,7 +13,7 @@ use Rattle.mk_text.specs.Lines.{ended, lines_of, onto_first_piece, pieces, text_
 use Rattle.mk_text.proofs.ForCallers.{and_true, list_all_at, not_true}
 use Rattle.mk_text.proofs.PieceLemmas.{pieces_at}
 use Rattle.mk_ctab.specs.declared.raw.RawTable.{RawTable}
-use Rattle.mk_ctab.specs.TableSpelling.{spelling, table_lines}
+use Rattle.mk_ctab.specs.TableSpelling.{table_spelling, table_lines}
 use Rattle.mk_ctab.proofs.NoLfLemmas.{HasNoLf, is_no_lf, no_lf_both}
 use Rattle.mk_enum.specs.Texts.{behind_blank, choice_numbers, structure_text}
 
@@ -97,7 +97,7 @@ no_lf_first code k within =
 
 -- the text behind the first line
 abbrev behind_first : RawTable → List ℕ
-behind_first table = codes "\n\n" ++ (spelling table ++ codes "$$$$\n")
+behind_first table = codes "\n\n" ++ (table_spelling table ++ codes "$$$$\n")
 
 -- the text is the first line, LF, and what stands behind it
 in_two : (code : List ℕ) (table : RawTable) → structure_text code table ≡ first_line code ++ 10 ∷ behind_first table
@@ -115,8 +115,8 @@ last_line : lines_of (codes "$$$$\n") ≡ codes "$$$$" ∷ []
 unfolding lines_of
 last_line = refl
 
-spelling_behind : (table : RawTable) (rest : List ℕ) → lines_of (spelling table ++ rest) ≡ lines_of (spelling table) ++ lines_of rest
-unfolding spelling
+spelling_behind : (table : RawTable) (rest : List ℕ) → lines_of (table_spelling table ++ rest) ≡ lines_of (table_spelling table) ++ lines_of rest
+unfolding table_spelling
 spelling_behind table rest = text_behind (table_lines table) rest
 
 -- the three lines in front of the table
@@ -124,19 +124,19 @@ abbrev pub header_lines : List ℕ → List (List ℕ)
 header_lines code = without_cr (first_line code) ∷ [] ∷ [] ∷ []
 
 -- the lines of the text: three, those of the table, and the separator
-pub record_lines : (code : List ℕ) (table : RawTable) → lines_of (structure_text code table) ≡ (header_lines code ++ lines_of (spelling table)) ++ codes "$$$$" ∷ []
+pub record_lines : (code : List ℕ) (table : RawTable) → lines_of (structure_text code table) ≡ (header_lines code ++ lines_of (table_spelling table)) ++ codes "$$$$" ∷ []
 record_lines code table =
     ap lines_of (in_two code table) ∙ first_cut code (behind_first table)
-    ∙ ap (λ (ls : List (List ℕ)). without_cr (first_line code) ∷ ls) (two_empty (spelling table ++ codes "$$$$\n"))
+    ∙ ap (λ (ls : List (List ℕ)). without_cr (first_line code) ∷ ls) (two_empty (table_spelling table ++ codes "$$$$\n"))
     ∙ ap (λ (ls : List (List ℕ)). header_lines code ++ ls)
-    (spelling_behind table (codes "$$$$\n") ∙ ap (λ (ls : List (List ℕ)). lines_of (spelling table) ++ ls) last_line)
+    (spelling_behind table (codes "$$$$\n") ∙ ap (λ (ls : List (List ℕ)). lines_of (table_spelling table) ++ ls) last_line)
 
 -- the text is that of some lines
 all_lines : List ℕ → RawTable → List (List ℕ)
 all_lines code table = first_line code ∷ [] ∷ [] ∷ (table_lines table ++ codes "$$$$" ∷ [])
 
 text_is : (code : List ℕ) (table : RawTable) → structure_text code table ≡ text_of (all_lines code table)
-unfolding spelling all_lines
+unfolding table_spelling all_lines
 text_is code table =
     in_two code table
     ∙ sym (append_assoc (first_line code) (10 ∷ []) (codes "\n\n" ++ text_of (table_lines table ++ codes "$$$$" ∷ []))

@@ -7,7 +7,7 @@ use Rattle.mk_text.specs.KeptLines.{kept_lines}
 use Rattle.mk_text.specs.Lines.{lines_of}
 use Rattle.mk_model.specs.Queries.{QueryView}
 use Rattle.mk_ctab.specs.declared.raw.RawTable.{RawTable}
-use Rattle.mk_ctab.specs.TableSpelling.{CanBeSpelt, spelling}
+use Rattle.mk_ctab.specs.TableSpelling.{CanBeSpelt, table_spelling}
 use Rattle.mk_ctab.proofs.TableSpellingLemmas.{is_read}
 use Rattle.mk_sdfile.specs.declared.raw_record.RawRecord.{RawRecord}
 use Rattle.mk_sdfile.specs.Sdfile.{IsRecordBlock}
@@ -19,19 +19,19 @@ use Rattle.mk_enum.proofs.SpeltLemmas.{can_be_spelt}
 
 -- the record of a structure
 abbrev record_of : List ℕ → RawTable → RawRecord
-record_of code table = record { table = table; text = kept_lines (header_lines code ++ lines_of (spelling table)) }
+record_of code table = record { table = table; text = kept_lines (header_lines code ++ lines_of (table_spelling table)) }
 
 -- the lines of its text are that record and its separator
 is_block : (code : List ℕ) (table : RawTable) → CanBeSpelt table → IsRecordBlock (lines_of (structure_text code table)) (record_of code table)
 is_block code table can = record {
-  record_lines = header_lines code ++ lines_of (spelling table);
+  record_lines = header_lines code ++ lines_of (table_spelling table);
   separator = codes "$$$$";
   whole = record_lines code table;
   is = record {
-    molfile_lines = header_lines code ++ lines_of (spelling table);
+    molfile_lines = header_lines code ++ lines_of (table_spelling table);
     data_lines = [];
-    whole = sym (append-nil (header_lines code ++ lines_of (spelling table)));
-    molfile = record { header_lines = header_lines code; table_lines = lines_of (spelling table); whole = refl; three = refl; is = inr (is_read table can) };
+    whole = sym (append-nil (header_lines code ++ lines_of (table_spelling table)));
+    molfile = record { header_lines = header_lines code; table_lines = lines_of (table_spelling table); whole = refl; three = refl; is = inr (is_read table can) };
     no_separator = tt;
     text = refl;
   };

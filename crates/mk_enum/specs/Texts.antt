@@ -4,7 +4,7 @@
 use Rattle.std.specs.Prelude.{ℕ, List, ◌∷◌, ◌++◌, codes, decimal}
 use Rattle.std.specs.List.{flat_map}
 use Rattle.mk_ctab.specs.declared.raw.RawTable.{RawTable}
-use Rattle.mk_ctab.specs.TableSpelling.{spelling}
+use Rattle.mk_ctab.specs.TableSpelling.{table_spelling}
 
 -- a number behind a blank, byte 32
 abbrev pub behind_blank : ℕ → List ℕ
@@ -17,4 +17,4 @@ choice_numbers code = flat_map behind_blank code
 -- the line `choice` and the code's numbers, two empty lines, the table's text, and the line `$$$$`
 abbrev pub structure_text : List ℕ → RawTable → List ℕ
 structure_text code table =
-    codes "choice" ++ (choice_numbers code ++ (codes "\n\n\n" ++ (spelling table ++ codes "$$$$\n")))
+    codes "choice" ++ (choice_numbers code ++ (codes "\n\n\n" ++ (table_spelling table ++ codes "$$$$\n")))

@@ -16,7 +16,7 @@ use Rattle.mk_outside.specs.declared.tables.QueryRow.{QueryRow}
 use Rattle.mk_outside.specs.declared.tables.CursorRow.{CursorRow}
 use Rattle.mk_outside.specs.Rows.{put, without}
 use Rattle.mk_outside.specs.Tables.{record_number, query_number, cursor_number, without_name}
-use Rattle.mk_sqlite.specs.Told.{number_by, blob_by, text_by, place_in, record_in, query_in, cursor_in, IsKept}
+use Rattle.mk_sqlite.specs.Told.{number_by, blob_by, text_by, spelt_place, record_in, query_in, cursor_in, IsKept}
 use Rattle.mk_sqlite.proofs.ToldLemmas.{some_of, mapped_of}
 use Rattle.mk_sqlite.proofs.TreeRowLemmas.{rise_from_table, read_put, read_filter, read_without}
 
@@ -60,7 +60,7 @@ pub record IsCursor (row : List Value) (x : CursorRow) : Type 0 where
   pub name : column row 2 ≡ Text x.name
   pub bytes : List ℕ
   pub blob : column row 3 ≡ Blob bytes
-  pub place : place_in bytes ≡ Some x.place
+  pub place : spelt_place bytes ≡ Some x.place
 
 -- a row that is read as a record is one
 pub record_is : (row : Row) (x : RecordRow) → record_in row ≡ Some x → IsRecord row x
@@ -89,8 +89,8 @@ pub cursor_is : (row : Row) (x : CursorRow) → cursor_in row ≡ Some x → IsC
 cursor_is row x h =
     let n = some_of _ (number_by (rowid row)) x h in
     let m = some_of _ (text_by (column row 2)) x n.2 in
-    let p = mapped_of _ (option_and_then place_in (blob_by (column row 3))) x m.2 in
-    let b = some_of place_in (blob_by (column row 3)) p.0 p.1 in
+    let p = mapped_of _ (option_and_then spelt_place (blob_by (column row 3))) x m.2 in
+    let b = some_of spelt_place (blob_by (column row 3)) p.0 p.1 in
     record {
       number = number_is (rowid row) n.0 n.1 ∙ ap (λ (r : CursorRow). Int (pos r.number)) p.2;
       name = text_is (column row 2) m.0 m.1 ∙ ap (λ (r : CursorRow). Text r.name) p.2;
@@ -120,7 +120,7 @@ pub query_made : (n : ℕ) (name text : List ℕ) → n < 4294967296 → query_i
 query_made n name text h = rw (lt-ltb n 4294967296 h)
 
 -- the row of a cursor is read as it
-pub cursor_made : (n : ℕ) (name bytes place : List ℕ) → n < 4294967296 → place_in bytes ≡ Some place
+pub cursor_made : (n : ℕ) (name bytes place : List ℕ) → n < 4294967296 → spelt_place bytes ≡ Some place
     → cursor_in (Int (pos n) ∷ Null ∷ Text name ∷ Blob bytes ∷ []) ≡ Some (record { number = n; name = name; place = place })
 cursor_made n name bytes place h is = rw (lt-ltb n 4294967296 h, is)
 

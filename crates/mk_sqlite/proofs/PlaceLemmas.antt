@@ -3,18 +3,18 @@ use Rattle.std.proofs.Common.{◌≡◌, ◌++◌, ◌+◌, ◌<◌, ◌≤◌, 
 use Rattle.std.specs.Int.{w32, bytes_high_first, to_be_bytes, from_be_bytes}
 use Rattle.std.proofs.lemmas.List.{drop_all}
 use Rattle.std.proofs.lemmas.Nat.{from_be_bytes-to_be_bytes_4}
-use Rattle.mk_sqlite.specs.Told.{place_in}
+use Rattle.mk_sqlite.specs.Told.{spelt_place}
 use Rattle.mk_sqlite.specs.Stored.{stored_place}
 
 -- what is stored is read
-pub read_stored : (place : List ℕ) → ((i : ℕ) → get_or place i 0 < 2 ^ 32) → place_in (stored_place place) ≡ Some place
+pub read_stored : (place : List ℕ) → ((i : ℕ) → get_or place i 0 < 2 ^ 32) → spelt_place (stored_place place) ≡ Some place
 unfolding stored_place
 read_stored [] fits = refl
 read_stored (n ∷ place) fits = rw (read_stored place (λ i. fits (suc i)), from_be_bytes-to_be_bytes_4 n (fits 0))
 
 -- four bytes are a number
 pub read_more : (rest four behind : List ℕ) (n : ℕ) → four ≡ take 4 rest → behind ≡ drop 4 rest → length behind + 4 ≡ length rest → n ≡ from_be_bytes w32 four
-    → place_in rest ≡ option_map (λ place. n ∷ place) (place_in behind)
+    → spelt_place rest ≡ option_map (λ place. n ∷ place) (spelt_place behind)
 read_more [] four behind n h k long is = absurd (omega arith)
 read_more (a ∷ []) four behind n h k long is = absurd (omega arith)
 read_more (a ∷ b ∷ []) four behind n h k long is = absurd (omega arith)
@@ -36,7 +36,7 @@ ahead_none None = refl
 ahead_none (Some rest) = refl
 
 -- the end of the bytes
-pub ahead_all : (place rest : List ℕ) → length rest < 4 → length rest % 4 ≡ 0 → ahead place (place_in rest) ≡ Some place
+pub ahead_all : (place rest : List ℕ) → length rest < 4 → length rest % 4 ≡ 0 → ahead place (spelt_place rest) ≡ Some place
 ahead_all place [] short whole = ap Some (append-nil place)
 ahead_all place (a ∷ []) short whole = absurd (omega arith)
 ahead_all place (a ∷ b ∷ []) short whole = absurd (omega arith)

@@ -20,7 +20,7 @@ use Rattle.mk_outside.specs.declared.tables.RecordRow.{RecordRow}
 use Rattle.mk_outside.specs.declared.tables.QueryRow.{QueryRow}
 use Rattle.mk_outside.specs.declared.tables.CursorRow.{CursorRow}
 use Rattle.mk_outside.specs.declared.tables.Tables.{Tables}
-use Rattle.mk_sqlite.specs.Told.{record_in, query_in, cursor_in, next_by, next_in, number_by, place_in, AreRead}
+use Rattle.mk_sqlite.specs.Told.{record_in, query_in, cursor_in, next_by, next_in, number_by, spelt_place, AreRead}
 use Rattle.mk_sqlite.specs.Steps.{IsWhole}
 use Rattle.mk_sqlite.specs.Stored.{IsRecordRow, IsQueryRow, IsCursorRow, IsNext}
 use Rattle.mk_sqlite.proofs.AnswerLemmas.{answered, answered_in_order, passes}
@@ -61,7 +61,7 @@ same_cursor r x y is h =
     let n : x.number ≡ y.number = let a = sym h.number ∙ p.number in cc in
     let m : x.name ≡ y.name = let a = sym h.name ∙ p.name in cc in
     let b : Rattle.mk_sqlite.specs.Stored.stored_place x.place ≡ p.bytes = let a = sym h.place ∙ p.blob in cc in
-    let t : x.place ≡ y.place = let a = sym h.read ∙ ap place_in b ∙ p.place in cc in
+    let t : x.place ≡ y.place = let a = sym h.read ∙ ap spelt_place b ∙ p.place in cc in
     λ i. record { number = n i; name = m i; place = t i }
 
 module _ {X : Type 0} (f : Row → Option X) (show : Row → Row) (IsRow : Row → X → Type 0) (same : (r : Row) (x y : X) → f r ≡ Some y → IsRow (show r) x → x ≡ y) where

@@ -34,7 +34,7 @@ use Rattle.mk_outside.specs.declared.tables.Tables.{Tables}
 use Rattle.mk_outside.specs.Rows.{put, without}
 use Rattle.mk_outside.specs.Tables.{record_number, query_number, cursor_number, without_name}
 use Rattle.mk_sqlite.specs.Layout.{records, queries, cursors, nexts, all_tables}
-use Rattle.mk_sqlite.specs.Told.{record_in, query_in, cursor_in, number_by, next_in, place_in, IsKept, AreNext, IsTold}
+use Rattle.mk_sqlite.specs.Told.{record_in, query_in, cursor_in, number_by, next_in, spelt_place, IsKept, AreNext, IsTold}
 use Rattle.mk_sqlite.specs.Steps.{IsAt, IsWhole, Changes}
 use Rattle.mk_sqlite.proofs.AnswerLemmas.{over_table, passes, shows, answered, taken_out}
 use Rattle.mk_sqlite.proofs.FormLemmas.{record_keyed, query_keyed, cursor_keyed, record_made, query_made, cursor_made, query_is, number_is, kept_put, kept_without, kept_filter}
@@ -216,7 +216,7 @@ puts_query old new n name text count fits ran t at =
     queries_set db new.now t at.told _ _ put (kept_put query_in query_number query_keyed row _ (query_made n name text fits) (db 1) t.queries at.told.queries)
 
 -- a cursor is put, whose place its bytes spell
-pub puts_cursor : (old new : State) (n : ℕ) (name bytes place : List ℕ) (count : ℕ) → n < 4294967296 → place_in bytes ≡ Some place → Executes TextLemmas.put_cursor
+pub puts_cursor : (old new : State) (n : ℕ) (name bytes place : List ℕ) (count : ℕ) → n < 4294967296 → spelt_place bytes ≡ Some place → Executes TextLemmas.put_cursor
     (Int (pos n) ∷ Text name ∷ Blob bytes ∷ []) old new (Ok count)
     → Changes old new (λ t. record t { cursors = put cursor_number (record { number = n; name = name; place = place }) t.cursors })
 puts_cursor old new n name bytes place count fits read ran t at =

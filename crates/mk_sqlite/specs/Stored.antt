@@ -11,7 +11,7 @@ use Rattle.sqlite_value.specs.Order.{column}
 use Rattle.mk_outside.specs.declared.tables.RecordRow.{RecordRow}
 use Rattle.mk_outside.specs.declared.tables.QueryRow.{QueryRow}
 use Rattle.mk_outside.specs.declared.tables.CursorRow.{CursorRow}
-use Rattle.mk_sqlite.specs.Told.{place_in}
+use Rattle.mk_sqlite.specs.Told.{spelt_place}
 
 -- four bytes a number, the highest of them first
 unfoldable pub stored_place : List ℕ → List ℕ
@@ -34,7 +34,7 @@ pub record IsCursorRow (columns : List Value) (row : CursorRow) : Type 0 where
   pub number : column columns 0 ≡ Int (pos row.number)
   pub name : column columns 1 ≡ Text row.name
   pub place : column columns 2 ≡ Blob (stored_place row.place)
-  pub read : place_in (stored_place row.place) ≡ Some row.place
+  pub read : spelt_place (stored_place row.place) ≡ Some row.place
 
 -- the next number of a kind is what its row says, and 1 where there is none
 abbrev pub IsNext : List (List Value) → ℕ → Type 0

@@ -1,5 +1,5 @@
 -- The tables that a database stands for.
---     place_in bytes                               the place that bytes of the file spell
+--     spelt_place bytes                            the place that bytes of the file spell
 --     record_in row, query_in row, cursor_in row   what a row of the file says, where it has a form
 --     next_in which rows                           the next number of a kind
 --     tables_of db                                 the tables, where the database stands for some
@@ -42,10 +42,10 @@ text_by _ = None
 
 -- A place is four bytes a number, the highest of them first. Bytes that aren't four a number are
 -- none.
-abbrev pub place_in : List ℕ → Option (List ℕ)
-place_in [] = Some []
-place_in (a ∷ b ∷ c ∷ d ∷ more) = option_map (λ place. from_be_bytes w32 (a ∷ b ∷ c ∷ d ∷ []) ∷ place) (place_in more)
-place_in _ = None
+abbrev pub spelt_place : List ℕ → Option (List ℕ)
+spelt_place [] = Some []
+spelt_place (a ∷ b ∷ c ∷ d ∷ more) = option_map (λ place. from_be_bytes w32 (a ∷ b ∷ c ∷ d ∷ []) ∷ place) (spelt_place more)
+spelt_place _ = None
 
 -- a record is its number, which is the rowid, and its text
 abbrev pub record_in : Row → Option RecordRow
@@ -60,7 +60,7 @@ query_in row = option_and_then (λ n. option_and_then (λ name. option_map (λ t
 -- a cursor is its number, its name and its place
 abbrev pub cursor_in : Row → Option CursorRow
 cursor_in row = option_and_then (λ n. option_and_then (λ name. option_map (λ place. record { number = n; name = name; place = place })
-    (option_and_then place_in (blob_by (column row 3)))) (text_by (column row 2))) (number_by (rowid row))
+    (option_and_then spelt_place (blob_by (column row 3)))) (text_by (column row 2))) (number_by (rowid row))
 
 -- a next number is the value of its row, and 1 where there is none
 abbrev pub next_by : Option Row → Option ℕ

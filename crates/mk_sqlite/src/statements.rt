@@ -8,7 +8,7 @@ ghost use Rattle.std.specs.Prelude.{List};
 ghost use Rattle.mk_outside.specs.declared.tables.Tables.{Tables};
 ghost use Rattle.mk_outside.specs.Rows.{put, without};
 ghost use Rattle.mk_outside.specs.Tables.{record_number, query_number, cursor_number, without_name};
-ghost use Rattle.mk_sqlite.specs.Told.{place_in};
+ghost use Rattle.mk_sqlite.specs.Told.{spelt_place};
 ghost use Rattle.mk_sqlite.specs.Steps.{IsWhole, Inside, Changes, Moves, with_one, with_two, with_three, with_all};
 
 use crate::fails::fail_of;
@@ -203,7 +203,7 @@ pub fn put_cursor<S: Alter>(
     ensures same_reference { transaction.new.conn.ghost_name ≡ transaction.old.conn.ghost_name }
     ensures survives { Survives (state S.Store transaction.old.conn.now) (state S.Store transaction.new.conn.now) (λ _. ⊥) }
     ensures inside { Inside (state S.Store transaction.old.conn.now) (state S.Store transaction.new.conn.now) result
-        (λ _. (list : List ℕ) → place_in place.now ≡ Some list → Changes (state S.Store transaction.old.conn.now) (state S.Store transaction.new.conn.now) (λ t. record t { cursors = put cursor_number (record { number = number; name = name.now; place = list }) t.cursors })) }
+        (λ _. (list : List ℕ) → spelt_place place.now ≡ Some list → Changes (state S.Store transaction.old.conn.now) (state S.Store transaction.new.conn.now) (λ t. record t { cursors = put cursor_number (record { number = number; name = name.now; place = list }) t.cursors })) }
 {
     send(
         transaction,

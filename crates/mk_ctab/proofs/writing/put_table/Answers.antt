@@ -5,7 +5,7 @@ use Rattle.mk_ctab.specs.declared.raw.RawAtom.{RawAtom}
 use Rattle.mk_ctab.specs.declared.raw.RawBond.{RawBond}
 use Rattle.mk_ctab.specs.declared.raw.RawList.{RawList}
 use Rattle.mk_text.specs.Lines.{ended}
-use Rattle.mk_ctab.specs.TableSpelling.{counts_line, atom_line, bond_line, numbers_line, property_line, spelling}
+use Rattle.mk_ctab.specs.TableSpelling.{counts_line, atom_line, bond_line, numbers_line, property_line, table_spelling}
 use Rattle.mk_ctab.proofs.AppendLemmas.{as_text, as_last, table_last, spelling_parts}
 use Rattle.mk_ctab.proofs.writing.put_table.Goals as goal
 
@@ -24,7 +24,7 @@ returns c =
     let bonds = flat_map (λ (bond : RawBond). ended (bond_line bond)) table.bonds in
     let lists = flat_map (λ (list : RawList). ended (numbers_line list)) table.lists in
     let properties = flat_map (λ (property : Property). ended (property_line property)) table.props in
-    as_last c.extend_from_slice.result old last (counts ++ (atoms ++ (bonds ++ (lists ++ (properties ++ codes "M  END\n"))))) (spelling table) (sym (spelling_parts table))
+    as_last c.extend_from_slice.result old last (counts ++ (atoms ++ (bonds ++ (lists ++ (properties ++ codes "M  END\n"))))) (table_spelling table) (sym (spelling_parts table))
     (table_last c.extend_from_slice.result old counted placed bound listed told last counts atoms bonds lists properties (codes "M  END\n") c.in_ok-put_counts.ensures
     (as_text counted placed (flat_map (λ (atom : RawAtom). ended (atom_line atom)) c.as_slice.result.now) atoms
     (ap (λ (xs : List RawAtom). flat_map (λ (atom : RawAtom). ended (atom_line atom)) xs) c.as_slice.ensures)
