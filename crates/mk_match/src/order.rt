@@ -3,7 +3,6 @@
 ghost use Rattle.std.specs.Prelude.{◌≡◌, ◌≤◌, ◌-◌, length, slice_index};
 ghost use Rattle.mk_match.specs.Table.{IsTable};
 
-use crate::table::fits_at;
 use mk_model::{Graph, Memory, Mol};
 use std::alloc::Global;
 
@@ -39,7 +38,7 @@ impl Order {
             placed: vec![in alloc; 0u32; atoms]?,
             edge: Vec::with_capacity(alloc, atoms)?,
             choices,
-            first: 0,
+            first: NONE,
         })
     }
 
@@ -50,7 +49,7 @@ impl Order {
             placed: Vec::new(alloc),
             edge: Vec::new(alloc),
             choices: Vec::new(alloc),
-            first: 0,
+            first: NONE,
         }
     }
 
@@ -156,11 +155,13 @@ fn choices_of(graph: &Graph, mol: &Mol, fits: &[bool], x: u32) -> u32
     requires least { 1 ≤ x }
     requires most { x ≤ length graph.now.atoms }
 {
+    // The two lists are asked for what they say alone.
+    let width = mol.atoms().len();
+    let _few = graph.atom_count();
+    let end = x as usize * width;
     let mut count = 0u32;
-    for m in 0..mol.atom_count() {
-        if fits_at(fits, graph, x, mol, m + 1) {
-            count = count.saturating_add(1);
-        }
+    for says in &fits[end - width..end] {
+        count = count.saturating_add(u32::from(*says));
     }
     count
 }

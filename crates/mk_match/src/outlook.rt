@@ -102,11 +102,12 @@ impl Outlook {
 
     // Keeps the first atoms and what was found behind them as the witness.
     fn keep(&mut self, first: &[u32]) {
-        if first.is_empty() || first.len() > self.witness.len() {
+        if first.len() > self.witness.len() {
             return;
         }
-        let last = first.len() - 1;
-        self.witness[last] = first[last];
+        if let Some(a) = first.last() {
+            self.witness[first.len() - 1] = *a;
+        }
         for (x, a) in self.order.atoms.iter().zip(self.chosen.iter()) {
             put_at(&mut self.witness, *x, *a);
         }

@@ -49,7 +49,10 @@ impl Search {
         }
         let fits = table_of(alloc, graph, mol)?;
         let hydrogens = plain_hydrogens(alloc, graph)?;
-        let outlook = Outlook::new(alloc, graph, mol, &fits)?;
+        let mut outlook = Outlook::new(alloc, graph, mol, &fits)?;
+        if front.is_empty() && outlook.is_dead(graph, mol, &fits, &[], &[]) {
+            return Ok(Search::at_rest(alloc, Stage::Ended));
+        }
         let mut walk = Walk::new(alloc, graph, mol)?;
         walk.seek(graph, mol, &fits, &hydrogens, front);
         Ok(Search {

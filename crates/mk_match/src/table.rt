@@ -1,6 +1,7 @@
 // On which atoms of the molecule each atom of the graph may lie, asked once for each pair.
 ghost use Rattle.std.specs.Prelude.{◌≡◌, ◌<◌, ◌≤◌, ◌+◌, ◌-◌, ◌*◌, ◌↔◌, ℕ, false, IfOk, IsTrue, OnOk, length, slice_index_or, take};
-ghost use Rattle.mk_model.specs.Graphs.{IsGraph};
+ghost use Rattle.mk_model.specs.Edges.{numbers_at};
+ghost use Rattle.mk_model.specs.Graphs.{IsGraph, graph_edges};
 ghost use Rattle.mk_model.specs.Molecules.{IsMolecule};
 ghost use Rattle.mk_match.specs.Table.{AreRows, IsTable, MayLie, cell};
 
@@ -12,7 +13,8 @@ use std::alloc::Global;
 pub fn table_of(alloc: Global, graph: &Graph, mol: &Mol) -> Result<Vec<bool>, Memory>
     ensures { IfOk result (λ fits. IsTable graph.now mol.now fits.items) }
 {
-    let mut fits = Vec::new(alloc);
+    let cells = graph.atom_count() as usize * mol.atoms().len();
+    let mut fits = Vec::with_capacity(alloc, cells)?;
     for x in 0..graph.atom_count() {
         push_row(&mut fits, graph, mol, x + 1)?;
     }
@@ -26,21 +28,24 @@ fn push_row(fits: &mut Vec<bool>, graph: &Graph, mol: &Mol, x: u32) -> Result<()
     requires rows { AreRows graph.now mol.now (x - 1) fits.old.items }
     ensures { OnOk result (AreRows graph.now mol.now x fits.new.items) }
 {
+    let bonds = graph.bonds_at(x).len();
     for m in 0..mol.atom_count() {
-        let says = may_lie(graph, x, mol, m + 1);
+        let says = may_lie(graph, x, bonds, mol, m + 1);
         fits.push(says)?;
     }
     Ok(())
 }
 
-fn may_lie(graph: &Graph, x: u32, mol: &Mol, m: u32) -> bool
+// Tells whether atom x, which has so many bonds, may lie on atom m.
+fn may_lie(graph: &Graph, x: u32, bonds: usize, mol: &Mol, m: u32) -> bool
     requires drawn_least { 1 ≤ x }
     requires drawn_most { x ≤ length graph.now.atoms }
+    requires bonds { bonds ≡ length (numbers_at (graph_edges graph.now.bonds) x) }
     requires atom_least { 1 ≤ m }
     requires atom_most { m ≤ length mol.now.atoms }
     ensures { IsTrue result ↔ MayLie graph.now mol.now x m }
 {
-    if mol.bonds_at(m).len() < graph.bonds_at(x).len() {
+    if mol.bonds_at(m).len() < bonds {
         return false;
     }
     atom_fits(graph, x, mol, m)
