@@ -1,6 +1,6 @@
 -- The atoms of an expansion.
 --     copies_are            copies with their free ends, by the list of these
---     copies_at, piece_at   what the atom at a place becomes, by the lists that the code keeps
+--     atoms_step            what one atom more becomes, by the lists that the code keeps
 use Rattle.std.proofs.Common.{◌≡◌, ◌∙◌, ℕ, zero, suc, ◌+◌, ◌-◌, ◌<◌, ◌≤◌, List, [], ◌∷◌, ◌++◌, length, get_or, refl, sym, ap, arith, add-one}
 use Rattle.std.proofs.lemmas.List.{get_or_default}
 use Rattle.mk_model.specs.declared.atom_test.AtomTest.{AtomTest}
@@ -42,31 +42,25 @@ module _ (template : TemplateView) (pieces : List Piece) (takers befores frees :
   before_of = (let same : i ≡ i + 1 - 1 = omega arith in laid.each i (omega (arith, laid.size)) ∙ ap (room template pieces) same)
 
   -- there is room for the copies
-  pub copies_within : (n : ℕ) → n ≡ width (piece_numbered pieces (get_or takers i 0)) → get_or befores i 0 + n ≤ length frees
-  copies_within n is =
+  pub copies_within : get_or befores i 0 + width (piece_numbered pieces (get_or takers i 0)) ≤ length frees
+  copies_within =
       let more = room_more template pieces i in
       let up = room_within template pieces (i + 1) (length template.atoms) (omega arith) in
-      let wide : n ≡ width (piece_numbered pieces (taker template (i + 1))) = is ∙ ap (λ k. width (piece_numbered pieces k)) taken in
+      let wide = ap (λ k. width (piece_numbered pieces k)) taken in
       omega (arith, laid.each i (omega (arith, laid.size)), are.size)
 
-  -- copies of the atom at a place
-  pub copies_at : (n : ℕ) (test : AtomTest) → Copies n ≡ piece_numbered pieces (get_or takers i 0) → test ≡ get_or template.atoms i test
-      → with_frees frees test (get_or befores i 0) n ≡ atoms_of_piece template pieces (i + 1) (piece_numbered pieces (get_or takers i 0))
-  copies_at n test is at =
-      let within = copies_within n (ap width is) in
+  -- the atoms of a piece that stands for the atom at a place
+  piece_at : (p : Piece) (test : AtomTest) → test ≡ get_or template.atoms i test → get_or befores i 0 + width p ≤ length frees
+      → piece_atoms frees test (get_or befores i 0) p ≡ atoms_of_piece template pieces (i + 1) p
+  piece_at (Copies n) test at within =
       let same : i + 1 - 1 ≡ i = omega arith in
       let here : get_or template.atoms (i + 1 - 1) anything ≡ test = ap (λ k. get_or template.atoms k anything) same ∙ get_or_default template.atoms i anything test below ∙ sym at in
-      rw (← is, here, ← before_of) (copies_are template pieces frees test (get_or befores i 0) n are within)
+      rw (here, ← before_of) (copies_are template pieces frees test (get_or befores i 0) n are within)
+  piece_at (Member part) test at within = refl
+  piece_at (Hydrogens n) test at within = refl
+  piece_at Nothing test at within = refl
 
-  -- the piece that the atom at a place becomes
-  pub piece_at : (p : Piece) (test : AtomTest) → p ≡ piece_numbered pieces (get_or takers i 0) → test ≡ get_or template.atoms i test
-      → piece_atoms frees test (get_or befores i 0) p ≡ atoms_of_piece template pieces (i + 1) (piece_numbered pieces (get_or takers i 0))
-  piece_at (Copies n) test is at = copies_at n test is at
-  piece_at (Member part) test is at = rw (← is) refl
-  piece_at (Hydrogens n) test is at = rw (← is) refl
-  piece_at Nothing test is at = rw (← is) refl
-
-  -- one atom more, by the lists
-  pub atoms_step : (out new : List GraphAtom) → new ≡ out ++ atoms_of_piece template pieces (i + 1) (piece_numbered pieces (get_or takers i 0)) → out ≡ atoms_of template pieces i
-      → new ≡ atoms_of template pieces (i + 1)
-  atoms_step out new is so_far = rw (atoms_more, ← taken, ← so_far) is
+  -- one atom more
+  pub atoms_step : (out new : List GraphAtom) (test : AtomTest) → test ≡ get_or template.atoms i test
+      → new ≡ out ++ piece_atoms frees test (get_or befores i 0) (piece_numbered pieces (get_or takers i 0)) → out ≡ atoms_of template pieces i → new ≡ atoms_of template pieces (i + 1)
+  atoms_step out new test at is so_far = rw (atoms_more, ← taken, ← so_far, ← piece_at (piece_numbered pieces (get_or takers i 0)) test at copies_within) is

@@ -2,6 +2,7 @@
 --     AreTakers template takers              for each atom the number of the slot that takes it
 --     IsLaid template pieces takers befores  and for each atom how many atoms stand before those
 --                                            that it becomes
+--     Laid                                   a template whose slots have become pieces
 use Rattle.std.specs.Prelude.{◌≡◌, ◌≤◌, ◌<◌, ◌+◌, ◌++◌, ℕ, zero, suc, List, [], ◌∷◌, length, replicate, slice_index}
 use Rattle.mk_model.specs.Pieces.{Piece}
 use Rattle.mk_model.specs.Pieces.Piece.{Copies, Member, Hydrogens, Nothing}
@@ -25,6 +26,11 @@ pub record IsLaid (template : TemplateView) (pieces : List Piece) (takers before
   pub fits : HaveRoom template pieces
   pub size : length befores ≡ length template.atoms + 1
   pub each : (i : ℕ) → i < length befores → slice_index befores i ≡ room template pieces i
+
+-- a template whose slots have become these pieces
+pub record Laid : Type 0 where
+  pub template : TemplateView
+  pub pieces : List Piece
 
 -- the slot stands at one of so many atoms
 abbrev pub StandsWithin : ℕ → Slot → Type 0

@@ -7,6 +7,7 @@ ghost use Rattle.mk_expand.specs.Laid.{AreFrees, IsLaid, piece_atoms, with_frees
 
 use crate::part::Shape;
 use crate::piece::Piece;
+use crate::places::Layout;
 use mk_model::{AtomTest, GraphAtom, Kind, Memory, Template};
 use std::alloc::Global;
 
@@ -26,48 +27,31 @@ pub fn expanded_atoms(
     let mut out = Vec::with_capacity(alloc, frees.len())?;
     let atoms = template.atoms();
     for i in 0..atoms.len() {
-        put_atoms(alloc, &mut out, template, pieces, takers, befores, frees, i)?;
+        put_atoms(
+            alloc, &mut out, &atoms[i], frees, befores[i], pieces, takers[i],
+        )?;
     }
     Ok(out)
 }
 
-// What the atom at a place becomes.
+// What an atom becomes where the slot of this number takes it.
 fn put_atoms(
-    alloc: Global,
-    out: &mut Vec<GraphAtom>,
-    template: &Template,
-    pieces: &[Piece],
-    takers: &[u32],
-    befores: &[u32],
-    frees: &[u32],
-    i: usize,
-) -> Result<(), Memory>
-    requires laid { IsLaid template.now pieces.now takers.now befores.now }
-    requires frees { AreFrees template.now pieces.now frees.now }
-    requires i { i < length template.now.atoms }
-    ensures { OnOk result (out.new.items ≡ out.old.items ++ atoms_of_piece template.now pieces.now (i + 1) (piece_numbered pieces.now (slice_index takers.now i))) }
-{
-    let number = takers[i] as usize;
-    let test = &template.atoms()[i];
-    if number == 0 {
-        return put_copies(alloc, out, test, frees, befores[i], 1);
-    }
-    put_piece(alloc, out, test, frees, befores[i], &pieces[number - 1])
-}
-
-// The atoms of a piece.
-fn put_piece(
     alloc: Global,
     out: &mut Vec<GraphAtom>,
     test: &AtomTest,
     frees: &[u32],
     before: u32,
-    piece: &Piece,
+    pieces: &[Piece],
+    number: u32,
 ) -> Result<(), Memory>
-    requires { before + width piece.now ≤ length frees.now }
-    ensures { OnOk result (out.new.items ≡ out.old.items ++ piece_atoms frees.now test.now before piece.now) }
+    requires number { number ≤ length pieces.now }
+    requires frees { before + width (piece_numbered pieces.now number) ≤ length frees.now }
+    ensures { OnOk result (out.new.items ≡ out.old.items ++ piece_atoms frees.now test.now before (piece_numbered pieces.now number)) }
 {
-    match piece.shape() {
+    if number == 0 {
+        return put_copies(alloc, out, test, frees, before, 1);
+    }
+    match pieces[number as usize - 1].shape() {
         Shape::Copies(n) => put_copies(alloc, out, test, frees, before, *n),
         Shape::Member(part) => put_part(alloc, out, part.atoms()),
         Shape::Hydrogens(n) => put_hydrogens(out, *n),
@@ -143,17 +127,9 @@ pub fn expanded_points(
     ensures { IfOk result (λ points. points.items ≡ map (λ x. before template.now pieces.now x + 1) template.now.points) }
 {
     let mut points = Vec::with_capacity(alloc, 2)?;
+    let layout = Layout::of(template, pieces, takers, befores);
     for x in template.points() {
-        points.push(first_atom(template, pieces, takers, befores, *x))?;
+        points.push(layout.before(*x) + 1)?;
     }
     Ok(points)
-}
-
-// The first of the atoms that atom x becomes.
-fn first_atom(template: &Template, pieces: &[Piece], takers: &[u32], befores: &[u32], x: u32) -> u32
-    requires laid { IsLaid template.now pieces.now takers.now befores.now }
-    requires within { IsAtomOf template.now x }
-    ensures { result ≡ before template.now pieces.now x + 1 }
-{
-    befores[x as usize - 1] + 1
 }

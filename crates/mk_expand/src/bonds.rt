@@ -1,5 +1,5 @@
 // The bonds of an expansion.
-ghost use Rattle.std.specs.Prelude.{◌≡◌, ◌≤◌, ◌<◌, ◌+◌, ◌-◌, ◌++◌, ◌==◌, ℕ, Bool, All, IfOk, OnOk, length, map, slice_index_or};
+ghost use Rattle.std.specs.Prelude.{◌≡◌, ◌≤◌, ◌<◌, ◌+◌, ◌-◌, ◌++◌, ◌==◌, ◌&&◌, not, ℕ, Bool, All, IfOk, OnOk, length, map, slice_index_or};
 ghost use Rattle.std.specs.List.{flat_map};
 ghost use Rattle.mk_model.specs.Expansions.{all_within, bond_between, bond_joining, bonds_within, chained, copied, drawn, is_hydrogens, is_nothing, shifted, spanned};
 ghost use Rattle.mk_model.specs.Pieces.{piece_numbered};
@@ -9,7 +9,7 @@ ghost use Rattle.mk_pieces.specs.Rooms.{IsSmall, IsWithin, StandsAt};
 
 use crate::part::Shape;
 use crate::piece::Piece;
-use crate::places::{ending, width_numbered};
+use crate::places::{Layout, width_numbered};
 use mk_model::{Memory, QueryBond, Slot, Template};
 use std::alloc::Global;
 
@@ -25,34 +25,37 @@ pub fn put_template_bonds(
     requires within { All (IsWithin template.now) template.now.bonds }
     ensures { OnOk result (out.new.items ≡ out.old.items ++ flat_map (drawn template.now pieces.now) template.now.bonds) }
 {
+    let layout = Layout::of(template, pieces, takers, befores);
     for bond in template.bonds() {
-        put_drawn(out, template, pieces, takers, befores, *bond)?;
+        put_drawn(out, &layout, *bond)?;
     }
     Ok(())
 }
 
 // What a bond of the template becomes.
-fn put_drawn(
-    out: &mut Vec<QueryBond>,
-    template: &Template,
-    pieces: &[Piece],
-    takers: &[u32],
-    befores: &[u32],
-    bond: QueryBond,
-) -> Result<(), Memory>
-    requires laid { IsLaid template.now pieces.now takers.now befores.now }
-    requires within { IsWithin template.now bond }
-    ensures { OnOk result (out.new.items ≡ out.old.items ++ drawn template.now pieces.now bond) }
+#[tactic(auto, unfolding(mk_model::specs::Expansions::drawn))]
+fn put_drawn(out: &mut Vec<QueryBond>, layout: &Layout, bond: QueryBond) -> Result<(), Memory>
+    requires { IsWithin layout.now.template bond }
+    ensures { OnOk result (out.new.items ≡ out.old.items ++ drawn layout.now.template layout.now.pieces bond) }
 {
-    let first = bond.first as usize - 1;
-    let second = bond.second as usize - 1;
-    if takers[first] != 0 && takers[first] == takers[second] {
-        let count = width_numbered(pieces, takers[first]);
-        return put_copied(out, bond, befores[first], befores[second], count);
+    let pieces = layout.pieces();
+    let p = layout.taker(bond.first);
+    let q = layout.taker(bond.second);
+    if is_one_slot(p, q) {
+        let x = layout.before(bond.first);
+        let y = layout.before(bond.second);
+        return put_copied(out, bond, x, y, width_numbered(pieces, p));
     }
-    let x = ending(template, pieces, takers, befores, bond.first, bond.second);
-    let y = ending(template, pieces, takers, befores, bond.second, bond.first);
-    put_spanned(out, pieces, takers[first], takers[second], bond, x, y)
+    let x = layout.ending(bond.first, bond.second);
+    let y = layout.ending(bond.second, bond.first);
+    put_spanned(out, pieces, p, q, bond, x, y)
+}
+
+// The numbers are those of one slot.
+fn is_one_slot(p: u32, q: u32) -> bool
+    ensures { result ≡ (not (p == 0) && (p == q)) }
+{
+    p != 0 && p == q
 }
 
 // A bond like this one between copies of equal number.
@@ -164,10 +167,12 @@ pub fn put_all_within(
     requires slots { All (StandsAt template.now) template.now.slots }
     ensures { OnOk result (out.new.items ≡ out.old.items ++ all_within template.now pieces.now template.now.slots pieces.now) }
 {
+    let layout = Layout::of(template, pieces, takers, befores);
     let slots = template.slots();
     for k in 0..slots.len() {
-        let before = befores[atom_of(&slots[k]) as usize - 1];
-        put_within(out, template.bonds(), before, &slots[k], &pieces[k])?;
+        let slot = &slots[k];
+        let before = layout.before(atom_of(slot));
+        put_within(out, template.bonds(), before, slot, &pieces[k])?;
     }
     Ok(())
 }

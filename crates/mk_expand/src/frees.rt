@@ -1,53 +1,35 @@
 // The free ends of an expansion's atoms.
 ghost use Rattle.std.specs.Prelude.{◌≡◌, ◌≤◌, ◌<◌, ◌+◌, ◌*◌, ◌==◌, ℕ, All, IfOk, length, slice_index, if◌then◌else◌};
 ghost use Rattle.mk_model.specs.Expansions.{ends_there, frees_of};
-ghost use Rattle.mk_expand.specs.Laid.{AreFrees, IsLaid};
+ghost use Rattle.mk_expand.specs.Laid.{AreFrees};
 ghost use Rattle.mk_pieces.specs.Rooms.{HasNeighbours};
 
 use crate::part::Shape;
 use crate::piece::Piece;
-use crate::places::ending;
-use mk_model::{Memory, Slot, Template};
+use crate::places::Layout;
+use mk_model::{Memory, Slot};
 use std::alloc::Global;
 
 /// For each atom of the expansion how many free ends it has.
-pub fn frees_of(
-    alloc: Global,
-    template: &Template,
-    pieces: &[Piece],
-    takers: &[u32],
-    befores: &[u32],
-) -> Result<Vec<u32>, Memory>
-    requires laid { IsLaid template.now pieces.now takers.now befores.now }
-    requires neighbours { All (HasNeighbours template.now) template.now.slots }
-    ensures { IfOk result (λ frees. AreFrees template.now pieces.now frees.items) }
+pub fn frees_of(alloc: Global, layout: &Layout) -> Result<Vec<u32>, Memory>
+    requires { All (HasNeighbours layout.now.template) layout.now.template.slots }
+    ensures { IfOk result (λ frees. AreFrees layout.now.template layout.now.pieces frees.items) }
 {
-    let total = befores[takers.len()];
-    let mut frees = vec![in alloc; 0u32; total as usize]?;
-    let slots = template.slots();
+    let mut frees = vec![in alloc; 0u32; layout.room() as usize]?;
+    let pieces = layout.pieces();
+    let slots = layout.slots();
     for k in 0..slots.len() {
-        add_frees(
-            &mut frees, template, pieces, takers, befores, &slots[k], &pieces[k],
-        );
+        add_frees(&mut frees, layout, &slots[k], &pieces[k]);
     }
     Ok(frees)
 }
 
 // The free ends that a slot leaves.
-fn add_frees(
-    frees: &mut Vec<u32>,
-    template: &Template,
-    pieces: &[Piece],
-    takers: &[u32],
-    befores: &[u32],
-    slot: &Slot,
-    piece: &Piece,
-)
-    requires laid { IsLaid template.now pieces.now takers.now befores.now }
-    requires neighbours { HasNeighbours template.now slot.now }
+fn add_frees(frees: &mut Vec<u32>, layout: &Layout, slot: &Slot, piece: &Piece)
+    requires neighbours { HasNeighbours layout.now.template slot.now }
     requires few { All (λ free. free ≤ 2048) frees.old.items }
     ensures size { length frees.new.items ≡ length frees.old.items }
-    ensures each { (p : ℕ) → p < length frees.old.items → slice_index frees.new.items p ≡ slice_index frees.old.items p + frees_of template.now pieces.now (p + 1) slot.now piece.now }
+    ensures each { (p : ℕ) → p < length frees.old.items → slice_index frees.new.items p ≡ slice_index frees.old.items p + frees_of layout.now.template layout.now.pieces (p + 1) slot.now piece.now }
 {
     match (slot, piece.shape()) {
         (
@@ -59,33 +41,24 @@ fn add_frees(
             },
             Shape::Nothing,
         ) => {
-            add_end(frees, template, pieces, takers, befores, *first, *atom);
-            add_end(frees, template, pieces, takers, befores, *second, *atom);
+            add_end(frees, layout, *first, *atom);
+            add_end(frees, layout, *second, *atom);
         }
         _ => {}
     }
 }
 
 // The free end of a neighbour; none where there is no such neighbour.
-fn add_end(
-    frees: &mut Vec<u32>,
-    template: &Template,
-    pieces: &[Piece],
-    takers: &[u32],
-    befores: &[u32],
-    x: u32,
-    site: u32,
-)
-    requires laid { IsLaid template.now pieces.now takers.now befores.now }
-    requires most { x ≤ length template.now.atoms }
+fn add_end(frees: &mut Vec<u32>, layout: &Layout, x: u32, site: u32)
+    requires most { x ≤ length layout.now.template.atoms }
     requires few { All (λ free. free ≤ 4096) frees.old.items }
     ensures size { length frees.new.items ≡ length frees.old.items }
-    ensures each { (p : ℕ) → p < length frees.old.items → slice_index frees.new.items p ≡ slice_index frees.old.items p + ends_there template.now pieces.now (p + 1) site x }
+    ensures each { (p : ℕ) → p < length frees.old.items → slice_index frees.new.items p ≡ slice_index frees.old.items p + ends_there layout.now.template layout.now.pieces (p + 1) site x }
 {
     if x == 0 {
         return;
     }
-    add_one(frees, ending(template, pieces, takers, befores, x, site));
+    add_one(frees, layout.ending(x, site));
 }
 
 // One more at a place; nothing where there is no such place.

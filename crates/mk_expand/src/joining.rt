@@ -10,7 +10,7 @@ use crate::bonds::{put_all_within, put_template_bonds};
 use crate::frees::frees_of;
 use crate::part::Part;
 use crate::piece::Piece;
-use crate::places::befores_of;
+use crate::places::{Layout, befores_of};
 use mk_model::{Memory, Template};
 use std::alloc::Global;
 
@@ -22,7 +22,8 @@ pub fn joined(alloc: Global, template: &Template, pieces: &[Piece]) -> Result<Pa
 {
     let takers = takers_of(alloc, template)?;
     let befores = befores_of(alloc, template, pieces, &takers)?;
-    let frees = frees_of(alloc, template, pieces, &takers, &befores)?;
+    let layout = Layout::of(template, pieces, &takers, &befores);
+    let frees = frees_of(alloc, &layout)?;
     let atoms = expanded_atoms(alloc, template, pieces, &takers, &befores, &frees)?;
     let mut bonds = Vec::with_capacity(alloc, template.bonds().len())?;
     put_template_bonds(&mut bonds, template, pieces, &takers, &befores)?;

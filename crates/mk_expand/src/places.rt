@@ -1,6 +1,7 @@
 // Where the atoms of a template stand in its expansion.
 ghost use Rattle.std.specs.Prelude.{◌≡◌, ◌≤◌, ◌<◌, ◌+◌, ◌-◌, ℕ, Bool, All, IfOk, length, if◌then◌else◌, slice_index, slice_get};
 ghost use Rattle.mk_model.specs.Pieces.{before, end_of, ending, is_far, is_far_of, piece_numbered, room, taker, width};
+ghost use Rattle.mk_model.specs.QueryFits.{IsAtomOf};
 ghost use Rattle.mk_expand.specs.Laid.{AreTakers, IsLaid};
 ghost use Rattle.mk_pieces.specs.Rooms.{HaveRoom, IsSmall};
 
@@ -8,6 +9,7 @@ use crate::part::Shape;
 use crate::piece::Piece;
 use mk_model::{Memory, Slot, Template};
 use std::alloc::Global;
+use std::marker::Model;
 
 /// For each atom how many atoms stand before those that it becomes, and behind the last one how
 /// many there are.
@@ -58,6 +60,19 @@ fn width_of(piece: &Piece) -> u32
     }
 }
 
+// The near or the far end of what the slot of this number has become.
+fn end_numbered(pieces: &[Piece], number: u32, far: bool) -> u32
+    requires within { number ≤ length pieces.now }
+    requires small { All IsSmall pieces.now }
+    ensures end { result ≡ end_of (piece_numbered pieces.now number) far }
+    ensures small { result ≤ 512 }
+{
+    if number == 0 {
+        return 1;
+    }
+    end_of(&pieces[number as usize - 1], far)
+}
+
 // The near or the far end of a piece.
 fn end_of(piece: &Piece, far: bool) -> u32
     ensures { result ≡ end_of piece.now far }
@@ -78,13 +93,107 @@ fn point_of(points: &[u32], second: bool) -> u32
     points.get(at).copied().unwrap_or(0)
 }
 
-// Whether atom y faces the far end of the slot at x.
-fn is_far(slot: &Slot, x: u32, y: u32) -> bool
-    ensures { result ≡ is_far slot.now x y }
+// Whether atom y faces the far end of the slot of this number at x.
+fn is_far_of(slots: &[Slot], number: u32, x: u32, y: u32) -> bool
+    requires { number ≤ length slots.now }
+    ensures { result ≡ is_far_of slots.now number x y }
 {
-    match slot {
+    if number == 0 {
+        return false;
+    }
+    match &slots[number as usize - 1] {
         Slot::Link { atom, to, .. } => *atom == x && *to == y,
         Slot::Site { atom, second, .. } => *atom == x && *second == y,
+    }
+}
+
+/// A template whose slots have become pieces, with the slot that takes each atom and how many atoms
+/// stand before those that it becomes.
+#[derive(Drop)]
+pub(crate) struct Layout<'a> {
+    template: &'a Template,
+    pieces: &'a [Piece],
+    takers: &'a [u32],
+    befores: &'a [u32],
+}
+
+impl<'a> Model for Layout<'a> {
+    ghost use Rattle.mk_expand.specs.Laid.{IsLaid, Laid};
+
+    ghost Value = { Laid };
+
+    ghost view = { λ l. record { template = l.template.now; pieces = l.pieces.now } };
+
+    ghost invariant = { λ l. IsLaid l.template.now l.pieces.now l.takers.now l.befores.now };
+}
+
+impl<'a> Layout<'a> {
+    pub fn of(
+        template: &'a Template,
+        pieces: &'a [Piece],
+        takers: &'a [u32],
+        befores: &'a [u32],
+    ) -> Layout<'a>
+        requires { IsLaid template.now pieces.now takers.now befores.now }
+        ensures { result ≡ record { template = template.now; pieces = pieces.now } }
+    {
+        Layout {
+            template,
+            pieces,
+            takers,
+            befores,
+        }
+    }
+
+    pub fn slots(&self) -> &[Slot]
+        ensures { result.now ≡ self.now.template.slots }
+    {
+        self.template.slots()
+    }
+
+    pub fn pieces(&self) -> &[Piece]
+        ensures same { result.now ≡ self.now.pieces }
+        ensures room { HaveRoom self.now.template self.now.pieces }
+    {
+        self.pieces
+    }
+
+    /// The number of the slot that takes atom x, and 0 where none does.
+    pub fn taker(&self, x: u32) -> u32
+        requires { IsAtomOf self.now.template x }
+        ensures is { result ≡ taker self.now.template x }
+        ensures within { result ≤ length self.now.pieces }
+    {
+        self.takers[x as usize - 1]
+    }
+
+    /// How many atoms stand before those that atom x becomes.
+    pub fn before(&self, x: u32) -> u32
+        requires { IsAtomOf self.now.template x }
+        ensures is { result ≡ before self.now.template self.now.pieces x }
+        ensures small { result ≤ 512 }
+    {
+        self.befores[x as usize - 1]
+    }
+
+    /// How many atoms the template becomes.
+    pub fn room(&self) -> u32
+        ensures { result ≡ room self.now.template self.now.pieces (length self.now.template.atoms) }
+    {
+        self.befores[self.takers.len()]
+    }
+
+    /// The number of the atom at which the bond from x to y ends on the side of x.
+    #[tactic(auto, unfolding(mk_model::specs::Pieces::ending))]
+    pub fn ending(&self, x: u32, y: u32) -> u32
+        requires { IsAtomOf self.now.template x }
+        ensures is { result ≡ ending self.now.template self.now.pieces x y }
+        ensures small { result ≤ 1024 }
+    {
+        let pieces = self.pieces();
+        let number = self.taker(x);
+        let far = is_far_of(self.slots(), number, x, y);
+        self.before(x) + end_numbered(pieces, number, far)
     }
 }
 
@@ -103,14 +212,5 @@ pub fn ending(
     ensures is { result ≡ ending template.now pieces.now x y }
     ensures small { result ≤ 1024 }
 {
-    let before = befores[x as usize - 1];
-    let number = takers[x as usize - 1] as usize;
-    if number == 0 {
-        return before + 1;
-    }
-    before
-        + end_of(
-            &pieces[number - 1],
-            is_far(&template.slots()[number - 1], x, y),
-        )
+    Layout::of(template, pieces, takers, befores).ending(x, y)
 }

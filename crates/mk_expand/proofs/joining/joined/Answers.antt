@@ -3,8 +3,8 @@ use Rattle.mk_model.specs.Expansions.{joined}
 use Rattle.mk_pieces.proofs.ForCallers.{bonds_within, slots_stand, slots_neighbours}
 use Rattle.mk_expand.proofs.joining.joined.Goals as goal
 
-pub frees_of-requires-clause-neighbours : goal.frees_of-requires-clause-neighbours
-frees_of-requires-clause-neighbours c = slots_neighbours _ c.requires.template
+pub frees_of-requires : goal.frees_of-requires
+frees_of-requires c = rw c.of-layout.ensures (slots_neighbours _ c.requires.template)
 
 pub put_template_bonds-requires-clause-within : goal.put_template_bonds-requires-clause-within
 put_template_bonds-requires-clause-within c = bonds_within _ c.requires.template
