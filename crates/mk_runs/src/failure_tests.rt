@@ -1,9 +1,6 @@
-// Calls that fail, files that aren't read, and a store with a bad row.
-use crate::test_files::{C, CO, COC, NOTHING, failing, files, is_run_over, words};
-use mk_outside::{
-    Bytes, CallNumbers, FileRows, MemFiles, MemKeeper, MemSink, MemSource, Memory, RecordRow,
-    SureFiles, SureKeeper, SureSink, SureSource, Tables,
-};
+// Calls that fail, and what the next run finds.
+use crate::test_files::{C, CO, COC, failing, files, is_run_over};
+use mk_outside::{Bytes, CallNumbers, MemFiles, MemKeeper, MemSink, MemSource, Memory, Tables};
 use mk_session::{Status, top};
 use std::alloc::Global;
 use std::test::Fail;
@@ -19,7 +16,7 @@ struct Row {
 
 const ANSWER: &str = "hit 1 choice map 1 2\nhit 1 choice map 3 2\nend\n";
 
-static FAILURES: [Row; 11] = [
+static FAILURES: [Row; 8] = [
     Row {
         script: "match q m",
         fails: [9, 9, 9, 9],
@@ -43,24 +40,6 @@ static FAILURES: [Row; 11] = [
         fails: [9, 2, 9, 9],
         status: Status::Read,
         wanted: "",
-    },
-    Row {
-        script: "match q none",
-        fails: [9, 9, 9, 9],
-        status: Status::Read,
-        wanted: "",
-    },
-    Row {
-        script: "load none",
-        fails: [9, 9, 9, 9],
-        status: Status::Read,
-        wanted: "",
-    },
-    Row {
-        script: "replace 1 none",
-        fails: [9, 9, 9, 9],
-        status: Status::Refused,
-        wanted: "refused 6 record 1\n",
     },
     Row {
         script: "match q m",
@@ -121,80 +100,27 @@ fn is_kept_run(
     status: Status,
 ) -> Result<bool, Fail> {
     let mut files = MemFiles::new(files(alloc, C, C)?, CallNumbers::new(alloc));
-    let is_so = is_run_over(alloc, &[], &mut files, keeper, script, wanted, status)?;
+    let is_so = is_run_over(alloc, &mut files, keeper, script, wanted, status)?;
     Ok(is_so)
 }
 
-// The third commit fails, and in the next run a file isn't there. The records before are kept, and
+// Whether the third commit fails, a file isn't there in the next run, and the records before are
 // read again.
-#[test]
-fn a_failed_commit_keeps_what_was_kept(rt: HostRuntime) -> Result<(), Fail> {
-    let alloc = rt.alloc();
+fn is_read_again(alloc: Global) -> Result<bool, Fail> {
     let commits = failing(alloc, 3)?;
     let mut keeper = MemKeeper::new(Tables::new(alloc), CallNumbers::new(alloc), commits);
-    let answers = "loaded 1 first 1\nloaded 1 first 2\n";
-    assert!(rt;
-        is_kept_run(
-            alloc,
-            &mut keeper,
-            "load m\nload m\nload m",
-            answers,
-            Status::Store
-        )?
-    );
-    let script = "load m\nload none.sdf";
-    assert!(rt;
-        is_kept_run(
-            alloc,
-            &mut keeper,
-            script,
-            "loaded 1 first 3\n",
-            Status::Read
-        )?
-    );
+    let three = "load m\nload m\nload m";
+    let two = "loaded 1 first 1\nloaded 1 first 2\n";
     let list = "records 3\nrecord 1\nrecord 2\nrecord 3\nqueries 0\ncursors 0\nnext 4 1\n";
-    assert!(rt; is_kept_run(alloc, &mut keeper, "list", list, Status::Done)?);
-    Ok(())
+    let stopped = is_kept_run(alloc, &mut keeper, three, two, Status::Store)?;
+    let then = "load m\nload none.sdf";
+    let missed = is_kept_run(alloc, &mut keeper, then, "loaded 1 first 3\n", Status::Read)?;
+    let listed = is_kept_run(alloc, &mut keeper, "list", list, Status::Done)?;
+    Ok(stopped && missed && listed)
 }
 
-// A query that is refused leaves the molecules unread.
 #[test]
-fn a_refused_query_is_the_only_file_read(rt: HostRuntime) -> Result<(), Fail> {
-    let alloc = rt.alloc();
-    let mut files = MemFiles::new(files(alloc, NOTHING, COC)?, failing(alloc, 2)?);
-    let mut input = SureSource::new(Bytes::new(alloc));
-    let mut output = SureSink::new(Bytes::new(alloc));
-    let mut keeper = SureKeeper::new(Tables::new(alloc));
-    let words = words(alloc, ["match", "q", "none"].as_slice())?;
-    let ended = top(
-        alloc,
-        &words,
-        &mut files,
-        &mut input,
-        &mut output,
-        &mut keeper,
-    );
-    assert!(rt; ended != Status::Memory, "want of memory");
-    assert!(rt; ended == Status::Refused);
-    assert!(rt; output.bytes() == b"refused 2 query line 1\n".as_slice());
-    Ok(())
-}
-
-// A stored text that is no record.
-#[test]
-fn a_bad_row_ends_the_run(rt: HostRuntime) -> Result<(), Fail> {
-    let alloc = rt.alloc();
-    let mut tables = Tables::new(alloc);
-    tables.records.push(RecordRow {
-        number: 3,
-        text: Bytes::of(b"x".to_vec(alloc)?),
-    })?;
-    let mut files = SureFiles::new(FileRows::new(alloc));
-    let mut input = SureSource::new(Bytes::new(alloc));
-    let mut output = SureSink::new(Bytes::new(alloc));
-    let mut keeper = SureKeeper::new(tables);
-    let ended = top(alloc, &[], &mut files, &mut input, &mut output, &mut keeper);
-    assert!(rt; ended == Status::BadStore);
-    assert!(rt; output.bytes() == b"bad store record 3\n".as_slice());
+fn a_failed_commit_keeps_what_was_kept(rt: HostRuntime) -> Result<(), Fail> {
+    assert!(rt; is_read_again(rt.alloc())?);
     Ok(())
 }
