@@ -12,11 +12,7 @@ ghost use Rattle.mk_outside.specs.Causes.{cause_of};
 ghost use Rattle.mk_session.specs.Status.{code_of};
 ghost use Rattle.markush.specs.Exits.{code_without_words};
 
-#[cfg(test)]
-mod disk_tests;
 mod running;
-#[cfg(test)]
-mod tests;
 
 use mk_outside::{Cause, DiskFiles, StdSink, StdSource, cause_of};
 use mk_session::Status;

@@ -6,12 +6,12 @@ use sqlite_disk::{Crash, Fuse, Memory};
 use std::alloc::{AllocError, Global};
 use std::test::Fail;
 
-type Fused = Fuse<Memory>;
+pub type Fused = Fuse<Memory>;
 
-type FusedKeeper = SqlKeeper<FileStore<Fused>>;
+pub type FusedKeeper = SqlKeeper<FileStore<Fused>>;
 
 // An empty log and an empty database, which stop after so many calls.
-fn files(alloc: Global, log: u64, db: u64) -> Files<Fused> {
+pub fn files(alloc: Global, log: u64, db: u64) -> Files<Fused> {
     Files {
         log: Fuse::new(Memory::new(alloc), log),
         db: Fuse::new(Memory::new(alloc), db),
@@ -19,7 +19,7 @@ fn files(alloc: Global, log: u64, db: u64) -> Files<Fused> {
 }
 
 // A keeper over the files, or else the files.
-fn opened(alloc: Global, files: Files<Fused>) -> Result<FusedKeeper, Files<Fused>> {
+pub fn opened(alloc: Global, files: Files<Fused>) -> Result<FusedKeeper, Files<Fused>> {
     if !files.may_be_used() {
         return Err(files);
     }
@@ -30,7 +30,7 @@ fn opened(alloc: Global, files: Files<Fused>) -> Result<FusedKeeper, Files<Fused
 }
 
 // The files of a keeper, whether they could be closed well or not.
-fn closed(keeper: FusedKeeper) -> Option<Files<Fused>> {
+pub fn closed(keeper: FusedKeeper) -> Option<Files<Fused>> {
     match keeper.back() {
         Some(connection) => match connection.close_files() {
             Ok(files) => Some(files),
@@ -49,7 +49,7 @@ fn made(keeper: &mut FusedKeeper, alloc: Global) -> Result<usize, AllocError> {
 }
 
 // The files after a stop: what was not yet safe is lost, and they take calls again.
-fn restarted(mut files: Files<Fused>) -> Files<Fused> {
+pub fn restarted(mut files: Files<Fused>) -> Files<Fused> {
     files.log.crash();
     files.db.crash();
     files

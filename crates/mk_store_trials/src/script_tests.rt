@@ -1,0 +1,129 @@
+// A script over disks in memory that stop at each of their calls. The program's run over a store is
+// `top` over this keeper.
+use crate::disk_tests::{FusedKeeper, closed, files, opened, restarted};
+use mk_outside::{Bytes, FileRow, FileRows, SureFiles, SureSink, SureSource, Text};
+use mk_session::{Memory, Status, top};
+use std::alloc::Global;
+use std::test::Fail;
+
+// A carbon and an oxygen with a bond, and methoxymethane.
+static CHAINS: [(&str, &str); 2] = [
+    (
+        "co",
+        "\n\n\n  2  1\n                               C\n                               O\n  1  2  1\nM  END\n",
+    ),
+    (
+        "coc",
+        "\n\n\n  3  2\n                               C\n                               O\n                               C\n  1  2  1\n  2  3  1\nM  END\n",
+    ),
+];
+
+fn text(alloc: Global, text: &str) -> Result<Bytes, Memory> {
+    Ok(Bytes::of(Vec::from_slice(alloc, text.as_bytes())?))
+}
+
+fn chains(alloc: Global) -> Result<FileRows, Memory> {
+    let mut rows = FileRows::new(alloc);
+    for (name, bytes) in CHAINS.iter() {
+        rows.push(FileRow {
+            name: Text::of(String::from_str(alloc, name)?),
+            bytes: text(alloc, bytes)?,
+        })?;
+    }
+    Ok(rows)
+}
+
+// What a script over the keeper writes, and how it ends.
+fn ran(alloc: Global, keeper: &mut FusedKeeper, script: &str) -> Result<(Vec<u8>, Status), Memory> {
+    let mut files = SureFiles::new(chains(alloc)?);
+    let mut input = SureSource::new(text(alloc, script)?);
+    let mut output = SureSink::new(Bytes::new(alloc));
+    let ended = top(alloc, &[], &mut files, &mut input, &mut output, keeper);
+    Ok((Vec::from_slice(alloc, output.bytes())?, ended))
+}
+
+// What is written by none, one, two and all of the commands, and what is then listed.
+static STEPS: [(&str, &str); 4] = [
+    ("", "records 0\nqueries 0\ncursors 0\nnext 1 1\n"),
+    (
+        "loaded 1 first 1\n",
+        "records 1\nrecord 1\nqueries 0\ncursors 0\nnext 2 1\n",
+    ),
+    (
+        "loaded 1 first 1\nkept q\n",
+        "records 1\nrecord 1\nqueries 1\nquery q\ncursors 0\nnext 2 1\n",
+    ),
+    (
+        "loaded 1 first 1\nkept q\nhit 1 choice map 1 2\nmore 1\n",
+        "records 1\nrecord 1\nqueries 1\nquery q\ncursors 1\ncursor 1 q\nnext 2 2\n",
+    ),
+];
+
+// How many commands wrote this.
+fn answered(answers: &[u8]) -> Option<usize> {
+    STEPS
+        .iter()
+        .position(|(wanted, _)| answers == wanted.as_bytes())
+}
+
+fn is_listed(alloc: Global, keeper: &mut FusedKeeper, commands: usize) -> Result<bool, Memory> {
+    match STEPS.get(commands) {
+        Some((_, wanted)) => {
+            let (answers, ended) = ran(alloc, keeper, "list\n")?;
+            Ok(ended == Status::Done && answers.as_slice() == wanted.as_bytes())
+        }
+        None => Ok(false),
+    }
+}
+
+// How many of the commands are answered over files that stop after so many calls. Fails where the
+// store then holds neither what they made nor that of one command more.
+fn stopped(alloc: Global, log: u64, db: u64) -> Result<usize, Fail> {
+    let (commands, files) = match opened(alloc, files(alloc, log, db)) {
+        Ok(mut keeper) => {
+            let (answers, ended) = ran(alloc, &mut keeper, "load coc\nquery q co\nsearch q 1\n")?;
+            let commands = answered(answers.as_slice()).ok_or("whole answers")?;
+            if (ended == Status::Done) != (commands == 3) {
+                return Err(Fail::new("a status of another end"));
+            }
+            (commands, closed(keeper).ok_or("files")?)
+        }
+        Err(files) => (0, files),
+    };
+    let Ok(mut keeper) = opened(alloc, restarted(files)) else {
+        return Err(Fail::new("files that can't be opened again"));
+    };
+    if is_listed(alloc, &mut keeper, commands)? {
+        return Ok(commands);
+    }
+    if is_listed(alloc, &mut keeper, commands.saturating_add(1))? {
+        return Ok(commands);
+    }
+    Err(Fail::new("the tables of no number of commands"))
+}
+
+// Stops the log at each call until all commands are answered, and the database at each of its first
+// calls. Says how often so many commands were answered before the log stopped.
+fn stop_each(alloc: Global) -> Result<[u32; 4], Fail> {
+    let mut seen = [0u32; 4];
+    for calls in 0..1000 {
+        let commands = stopped(alloc, calls, u64::MAX)?;
+        if let Some(count) = seen.get_mut(commands) {
+            *count = count.saturating_add(1);
+        }
+        if commands == 3 {
+            break;
+        }
+    }
+    for calls in 0..40 {
+        stopped(alloc, u64::MAX, calls)?;
+    }
+    Ok(seen)
+}
+
+#[test]
+fn a_stopped_script_leaves_whole_commands(rt: HostRuntime) -> Result<(), Fail> {
+    let seen = stop_each(rt.alloc())?;
+    assert!(rt; seen[0] > 1 && seen[1] > 1 && seen[2] > 1 && seen[3] == 1);
+    Ok(())
+}
