@@ -7,38 +7,44 @@ use std::alloc::Global;
 use std::test::Fail;
 
 // Fronts, and the least code that isn't below each.
-static ROWS: [(&str, &[u32], &[u32]); 5] = [
-    ("the empty front", &[], &[1, 1]),
-    ("a front that is no valid code", &[1, 2], &[2, 1]),
-    ("behind a code", &[2, 1, 0], &[2, 2]),
-    ("a code itself", &[2, 2], &[2, 2]),
-    ("a front that begins a code", &[2], &[2, 1]),
+static ROWS: [(&str, &[u32], Option<&[u32]>); 6] = [
+    ("the empty front", &[], Some(&[1, 1])),
+    ("a front that is no valid code", &[1, 2], Some(&[2, 1])),
+    ("behind a code", &[2, 1, 0], Some(&[2, 2])),
+    ("a code itself", &[2, 2], Some(&[2, 2])),
+    ("behind the last code", &[2, 2, 0], None),
+    ("a front that begins a code", &[2], Some(&[2, 1])),
 ];
 
 #[test]
 fn least_codes(rt: HostRuntime) -> Result<(), Fail> {
     let query = query_of_two_sites(rt.alloc())?;
     for (name, front, want) in &ROWS {
-        assert!(rt; is_least(rt.alloc(), &query, front, want)?, "{name}");
+        assert!(rt; is_least(rt.alloc(), &query, front, *want)?, "{name}");
     }
-    assert!(rt; least_code(rt.alloc(), &query, &[2, 2, 0])?.is_none());
     Ok(())
 }
 
 #[test]
 fn codes_in_order(rt: HostRuntime) -> Result<(), Fail> {
     let query = query_of_two_sites(rt.alloc())?;
-    let mut codes = Codes::from_place(rt.alloc(), &query, &[])?;
-    let mut told = Vec::new(rt.alloc());
+    let told = all_codes(rt.alloc(), &query)?;
+    assert!(rt; told.as_slice() == [1, 1, 2, 1, 2, 2, 0, 2, 2, 0].as_slice());
+    Ok(())
+}
+
+// The codes, a 0 where there are no more, and the place then.
+fn all_codes(alloc: Global, query: &Query) -> Result<Vec<u32>, Memory> {
+    let mut codes = Codes::from_place(alloc, query, &[])?;
+    let mut told = Vec::new(alloc);
     for _ in 0..4 {
         match codes.next() {
             Some(code) => told.extend_from_slice(code)?,
             None => told.push(0)?,
         }
     }
-    assert_eq!(rt; told.as_slice(), [1, 1, 2, 1, 2, 2, 0].as_slice());
-    assert_eq!(rt; codes.place(rt.alloc())?.as_slice(), [2, 2, 0].as_slice());
-    Ok(())
+    told.extend_from_slice(codes.place(alloc)?.as_slice())?;
+    Ok(told)
 }
 
 // One `Codes` goes to each front in turn, from wherever it stands, and to one that is longer than
@@ -46,17 +52,21 @@ fn codes_in_order(rt: HostRuntime) -> Result<(), Fail> {
 #[test]
 fn rewound(rt: HostRuntime) -> Result<(), Fail> {
     let query = query_of_two_sites(rt.alloc())?;
-    let mut codes = Codes::from_place(rt.alloc(), &query, &[2, 2, 0])?;
-    for (name, front, want) in &ROWS {
+    assert!(rt; goes_to_each(rt.alloc(), &query)?);
+    Ok(())
+}
+
+fn goes_to_each(alloc: Global, query: &Query) -> Result<bool, Memory> {
+    let mut codes = Codes::from_place(alloc, query, &[2, 2, 0])?;
+    for (_, front, want) in &ROWS {
         codes.rewind(front)?;
-        assert_eq!(rt; codes.place(rt.alloc())?.as_slice(), *front, "{name}");
-        assert!(rt; is_code(codes.next(), want), "{name}");
+        let place = codes.place(alloc)?;
+        if place.as_slice() != *front || !is_code(codes.next(), *want) {
+            return Ok(false);
+        }
     }
     codes.rewind(&[1; 600])?;
-    assert!(rt; is_code(codes.next(), &[2, 1]));
-    codes.rewind(&[2, 2, 0])?;
-    assert!(rt; codes.next().is_none());
-    Ok(())
+    Ok(is_code(codes.next(), Some(&[2, 1])))
 }
 
 // Places, and the turns from each: `M` comes to a beginning of a code, `I` takes the code out that
@@ -123,16 +133,26 @@ fn turns_from(alloc: Global, query: &Query, place: &[u32]) -> Result<Vec<u8>, Me
     Ok(told)
 }
 
-fn is_code(found: Option<&[u32]>, want: &[u32]) -> bool {
-    match found {
-        Some(code) => code == want,
-        None => false,
+fn is_code(found: Option<&[u32]>, want: Option<&[u32]>) -> bool {
+    match (found, want) {
+        (Some(code), Some(other)) => code == other,
+        (None, None) => true,
+        _ => false,
     }
 }
 
-fn is_least(alloc: Global, query: &Query, front: &[u32], want: &[u32]) -> Result<bool, Memory> {
-    match least_code(alloc, query, front)? {
-        Some(code) => Ok(code.as_slice() == want),
-        None => Ok(false),
-    }
+fn is_least(
+    alloc: Global,
+    query: &Query,
+    front: &[u32],
+    want: Option<&[u32]>,
+) -> Result<bool, Memory> {
+    let found = least_code(alloc, query, front)?;
+    Ok(
+        match (found, want) {
+            (Some(code), Some(other)) => code.as_slice() == other,
+            (None, None) => true,
+            _ => false,
+        },
+    )
 }

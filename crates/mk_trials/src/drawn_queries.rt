@@ -1,8 +1,6 @@
 // Queries that are drawn. The shorthand is that of docs/TESTING.md, "Tables of tests".
-use mk_choice::code_within;
-use mk_expand::expand;
 use mk_fixtures::rgfile_of_sketches;
-use mk_model::{Graph, Query};
+use mk_model::Query;
 use mk_query::compile;
 use mk_rgfile::read_rgfile;
 use std::alloc::Global;
@@ -34,15 +32,4 @@ fn compiled(alloc: Global, text: &[u8]) -> Result<Query, Fail> {
         Ok(query) => Ok(query),
         Err(_) => Err(Fail::from("a query that fails a check")),
     }
-}
-
-/// The expansion of the query by a structural code.
-pub fn expansion_of(alloc: Global, query: &Query, code: &[u32]) -> Result<Graph, Fail> {
-    let Some(n) = code_within(query, code) else {
-        return Err(Fail::from("no structural code"));
-    };
-    if n != code.len() {
-        return Err(Fail::from("more than a structural code"));
-    }
-    Ok(expand(alloc, query, &code[..n])?)
 }

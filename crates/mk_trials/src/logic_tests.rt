@@ -1,5 +1,5 @@
 // Ranges as they are written, and the numbers that they hold.
-use mk_logic::{allowed, holds, read_range};
+use mk_logic::{holds, read_range};
 use mk_model::{Memory, Range};
 use std::alloc::Global;
 use std::test::Fail;
@@ -36,6 +36,11 @@ fn reads_ranges(rt: HostRuntime) -> Result<(), Fail> {
         let found = read_range(rt.alloc(), text.as_bytes())?;
         assert!(rt; is_range(found, want), "{name}");
     }
+    Ok(())
+}
+
+#[test]
+fn reads_no_others(rt: HostRuntime) -> Result<(), Fail> {
     for text in NO_RANGES {
         let found = read_range(rt.alloc(), text.as_bytes())?;
         assert!(rt; found.is_none(), "{text}");
@@ -85,7 +90,7 @@ const HELD: [(&str, u32, bool); 14] = [
 #[test]
 fn holds_numbers(rt: HostRuntime) -> Result<(), Fail> {
     for (text, n, want) in HELD {
-        assert_eq!(rt; is_held(rt.alloc(), text, n)?, want, "{n} in {text}");
+        assert!(rt; is_held(rt.alloc(), text, n)? == want, "{n} in {text}");
     }
     Ok(())
 }
