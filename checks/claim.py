@@ -115,7 +115,7 @@ class Claim:
         self.kinds = {1: (1, False), 2: (1, False), 3: (2, False), 4: (1, True)}
         self.root = self.drawn_root()
         used = {label for labels in self.root.sites.values() for label in labels}
-        for number in sorted(used):
+        for number in draw.sample(sorted(used), len(used)):
             self.groups[number] = [self.member(self.kinds[number][0], nests=True) for _ in range(draw.randint(1, 3))]
         if any(4 in labels for members in self.groups.values() for member in members for labels in member.sites.values()):
             self.groups[4] = [self.member(1, nests=False) for _ in range(draw.randint(1, 2))]

@@ -148,11 +148,9 @@ fn is_least(
     want: Option<&[u32]>,
 ) -> Result<bool, Memory> {
     let found = least_code(alloc, query, front)?;
-    Ok(
-        match (found, want) {
-            (Some(code), Some(other)) => code.as_slice() == other,
-            (None, None) => true,
-            _ => false,
-        },
-    )
+    Ok(match (found, want) {
+        (Some(code), Some(other)) => code.as_slice() == other,
+        (None, None) => true,
+        _ => false,
+    })
 }
