@@ -119,7 +119,7 @@ class Claim:
             self.groups[number] = [self.member(self.kinds[number][0], nests=True) for _ in range(draw.randint(1, 3))]
         if any(4 in labels for members in self.groups.values() for member in members for labels in member.sites.values()):
             self.groups[4] = [self.member(1, nests=False) for _ in range(draw.randint(1, 2))]
-        self.logic = {number: self.drawn_logic(number) for number in self.groups if draw.random() < 0.8}
+        self.logic = {number: self.drawn_logic(asks) for number in self.groups if draw.random() < 0.8}
         if asks:
             for table in (self.root, *itertools.chain(*self.groups.values())):
                 self.put_asks(table)
@@ -192,10 +192,11 @@ class Claim:
             self.put_link(member)
         return member
 
-    def drawn_logic(self, number):
-        least, most = self.draw.choice(((0, 1), (1, 1), (0, 2), (1, 2), (0, 9), (2, 2), (1, 999)))
+    def drawn_logic(self, asks):
+        """A THEN group, rest hydrogens and a range; where atoms ask, with more sites that stay open."""
+        least, most = self.draw.choice(((0, 1), (1, 1), (0, 2), (1, 2), (0, 9), (2, 2), (1, 999), *[(0, 9)] * 5 * asks))
         then = self.draw.choice([0, 0, 0, *self.groups])
-        return then, self.draw.random() < 0.5, f"{least}-{most}"
+        return then, self.draw.random() < (0.2 if asks else 0.5), f"{least}-{most}"
 
     def put_asks(self, table):
         draw = self.draw
