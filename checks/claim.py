@@ -167,7 +167,7 @@ class Claim:
             root.orders[atom] = self.draw.sample(root.near(atom), 2)
 
     def put_link(self, table):
-        """Makes an atom between two others a link, where its bonds to them are alike and what hangs on it holds no slot."""
+        """Makes an atom between two others a link, where its bonds to them are alike and what hangs on it holds no slot; some bear one more atom."""
         places = [atom for atom in range(len(table.atoms)) if atom not in table.sites and atom not in table.points and len(table.near(atom)) >= 2]
         if not places or self.draw.random() < 0.5:
             return
@@ -178,6 +178,8 @@ class Claim:
         alike = len({tuple(rest) for a, b, *rest in table.bonds if {a, b} in ({link, first}, {link, second})}) == 1
         if not alike or first in block or second in block or any(atom in table.sites or atom in table.points for atom in block):
             del table.links[link]
+        elif self.draw.random() < 0.4:
+            table.add(self.draw.choice("CNO"), link)
 
     def member(self, points, nests):
         draw, member = self.draw, Template()
