@@ -8,7 +8,6 @@ use Rattle.std.proofs.lemmas.List.Elements.{All-cons, All-contains, All-head, Al
 use Rattle.std.proofs.lemmas.List.Sums.{sum_by-cons}
 use Rattle.std.proofs.lemmas.Option.{slice_get_within}
 use Rattle.mk_text.specs.Items.{IsLeastFailing}
-use Rattle.mk_model.specs.declared.group.Group.{Group}
 use Rattle.mk_model.specs.declared.template.Slot.{Slot}
 use Rattle.mk_model.specs.Labels.{PutsIn, members_at}
 use Rattle.mk_model.specs.Queries.{QueryView, members_of, slots_of}
@@ -28,7 +27,7 @@ use Rattle.mk_query.specs.Laws.{FaultOrQuery}
 use Rattle.mk_query.specs.Recursion.{MembersWithin, comes_back, leads}
 use Rattle.mk_query.proofs.KnownCheckLemmas.{first_in_table}
 use Rattle.mk_query.proofs.KnownLemmas.{Known, known_all, known_as, known_both, known_equal, known_if, known_most, known_not, known_some, known_some_below, known_some_items, known_true, least_failing}
-use Rattle.mk_query.proofs.QueryLemmas.{count_of, labels_in, members_within}
+use Rattle.mk_query.proofs.QueryLemmas.{count_of, drafted, members_within}
 use Rattle.mk_query.proofs.QueryThereLemmas.{query_there}
 use Rattle.mk_query.proofs.RecursionLemmas.{HasGroups, all_within, chain_leads, has_groups, leads_chain, rank_of, ranked}
 use Rattle.mk_query.proofs.RootSizesLemmas.{one_size}
@@ -197,13 +196,10 @@ module _ (raw : RawQuery) (is : IsQueryInRange raw) (passed : PassEach raw) (que
   }
 
   has : HasGroups query
-  has = has_groups query.templates query.groups (labels_in raw is (pass_nested raw passed) query.templates of.templates)
-
-  within : All (λ (group : Group). All (λ (u : ℕ). u < length query.templates) group.members) query.groups
-  within = members_within raw is (pass_nested raw passed) query.templates of.templates query.groups of.groups
+  has = has_groups query (drafted raw is (pass_nested raw passed) query.templates of.templates)
 
   inside : MembersWithin query
-  inside = all_within query.templates query.groups within
+  inside = all_within query (members_within raw is (pass_nested raw passed) query.templates of.templates query.groups of.groups)
 
   known_small : ((t : ℕ) → IsNoCycle query t) → Known (IsSmall query)
   known_small none =
@@ -212,7 +208,7 @@ module _ (raw : RawQuery) (is : IsQueryInRange raw) (passed : PassEach raw) (que
       known_as (known_most (size_by_rank query rank 0) 512) (λ small. record { size = size_by_rank query rank; adds_up = sizing_of query rank ranks; small = small })
       (λ small.
       let some = count_of raw is (pass_nested raw passed) query.templates of.templates in
-      let same = one_size query.templates query.groups 32 (omega arith) has within rank ranks small.size small.adds_up (suc (rank 0)) 0 (omega arith) (omega (arith, some)) in
+      let same = one_size query has inside 32 (omega arith) rank ranks small.size small.adds_up (suc (rank 0)) 0 (omega arith) (omega (arith, some)) in
       omega (arith, same, small.small))
 
   across : PassAcross raw query ⊎ ((fault : FaultAt) × IsAcross raw query fault)

@@ -70,7 +70,7 @@ number_known g least most = record { least = omega (arith, ints, least); most = 
 -- ---- notes
 
 -- no bit is set
-no_bit : (g : ℕ) → has_group 0 g ≡ false
+pub no_bit : (g : ℕ) → has_group 0 g ≡ false
 no_bit g = rw (bit_at-zero (g - 1)) refl
 
 -- the note on an atom without labels

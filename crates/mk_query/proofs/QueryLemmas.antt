@@ -3,7 +3,7 @@
 --     fits_across        what the checks across tables ask for
 --     fits_query         the query keeps its twelve facts
 use Rattle.std.proofs.Common.{◌≡◌, ℕ, zero, suc, ◌+◌, ◌-◌, ◌<◌, ◌≤◌, List, [], ◌∷◌, Some, None, Option, refl, sym, subst, arith, length, get_or, All}
-use Rattle.std.specs.Prelude.{◌==◌, AllPairs, Contains, slice_get}
+use Rattle.std.specs.Prelude.{◌==◌, ◌^◌, AllPairs, Contains, slice_get}
 use Rattle.std.proofs.lemmas.List.Elements.{Contains-get_or}
 use Rattle.mk_model.specs.declared.group.Group.{Group}
 use Rattle.mk_model.specs.Queries.{QueryView, members_of}
@@ -16,10 +16,9 @@ use Rattle.mk_rgfile.specs.declared.raw_query.RawQuery.{RawQuery}
 use Rattle.mk_rgfile.specs.QueryFacts.{member_count}
 use Rattle.mk_query.specs.Compiled.{AreGroupsOf, AreTemplatesOf, IsTemplateOf, member_tables, members_from, query_tables}
 use Rattle.mk_query.specs.CompileFaults.{PassAcross}
+use Rattle.mk_query.specs.Draft.{IsDraft, IsDrafted}
 use Rattle.mk_query.specs.InRange.{IsQueryInRange, IsTableInRange}
-use Rattle.mk_query.specs.OwnSizes.{IsSized}
 use Rattle.mk_query.specs.Passed.{HasPassed}
-use Rattle.mk_query.specs.Recursion.{NamesGroups}
 use Rattle.mk_query.specs.TableWalk.{PassNested}
 use Rattle.mk_query.proofs.FitsLemmas.{blocks_closed, has_groups, in_range, is_sized, labels_rising, names_neighbours, pairs_once, points_free, sites_apart, slots_rising}
 use Rattle.mk_query.proofs.MemberLemmas.{member_between, members_rise, members_total, one_group}
@@ -56,17 +55,12 @@ module _ (raw : RawQuery) (is : IsQueryInRange raw) (passed : PassNested raw) (t
       (record { groups = raw.groups; is_root = (k == 0); passes = pass_each raw passed k table table_at })
       (are.each k table (get_or templates k d) table_at at)
 
-  pub labels_in : All (λ template. All NamesGroups template.slots) templates
-  labels_in = all_templates (λ template. All NamesGroups template.slots) (λ table template raw passed of. has_groups table template of)
+  pub drafted : All IsDrafted templates
+  drafted =
+      all_templates IsDrafted (λ table template raw passed of. record { labels = has_groups table template of; rising = slots_rising table template of; sized = is_sized table template raw passed of })
 
   labels_rise_in : All HasRisingLabels templates
   labels_rise_in = all_templates HasRisingLabels (λ table template raw passed of. labels_rising table template of)
-
-  pub slots_rise_in : All HasRisingSlots templates
-  slots_rise_in = all_templates HasRisingSlots (λ table template raw passed of. slots_rising table template of)
-
-  pub sized_in : All (λ template. IsSized template) templates
-  sized_in = all_templates (λ template. IsSized template) is_sized
 
   -- how many templates there are
   pub count_of : length templates ≡ 1 + member_count raw
@@ -88,6 +82,9 @@ module _ (raw : RawQuery) (is : IsQueryInRange raw) (passed : PassNested raw) (t
 
     pub members_within : All (λ group. All (λ u. u < length templates) group.members) groups
     members_within i d below k e inside = (between i (get_or groups i d) (at_place groups i d below) k e inside).1
+
+    pub is_draft : member_count raw + 1 < 2 ^ 32 → IsDraft whole
+    is_draft few = record { root = omega (arith, count_of); few = omega (arith, few, count_of); templates = drafted; all = are_groups.size; members = members_within }
 
     -- by number
     of_number : (g u : ℕ) → 1 ≤ g → Contains (members_of whole g) u → Contains (members_from 1 g raw.groups) u
@@ -120,7 +117,7 @@ module _ (raw : RawQuery) (is : IsQueryInRange raw) (passed : PassNested raw) (t
     fits_query across = record {
       in_range = record { templates = all_templates IsInRange in_range; members = λ i d below. between i (get_or groups i d) (at_place groups i d below) };
       pairs_once = all_templates HasPairsOnce (λ table template raw passed of. pairs_once table template passed of);
-      slots_rise = slots_rise_in;
+      slots_rise = all_templates HasRisingSlots (λ table template raw passed of. slots_rising table template of);
       neighbours = all_templates NamesNeighbours (λ table template raw passed of. names_neighbours table template passed of);
       points_free = all_templates HasFreePoints (λ table template raw passed of. points_free table template passed of);
       sites_apart = all_templates HasSitesApart (λ table template raw passed of. sites_apart table template passed of);

@@ -1,15 +1,15 @@
 -- Which groups lead to which, and the tables that use themselves.
 --     slots_at, members_at_place       a table's slots and a group's members, by their places
---     any_more                         none so far, and not the next
+--     also_more, label_more            the bits of groups for one slot or label more
 --     hold_more                        one more entry of a table of rows and columns
 --     chain_leads, leads_chain         a table leads on to another exactly where one of its sites leads to its group
 --     ranked                           where none uses itself, the groups to which a table leads rank it
-use Rattle.std.proofs.Common.{◌≡◌, ℕ, zero, suc, ◌+◌, ◌-◌, ◌<◌, ◌≤◌, Bool, true, false, cond, inl, inr, ◌⊎◌, ⊎_elim, Option, None, ◌||◌, List, [], ◌∷◌, ◌++◌, Some, refl, sym, ap, subst, ◌∙◌, arith, length, get_or, take, All}
-use Rattle.std.specs.Prelude.{◌==◌, count_by, Contains, slice_get}
+use Rattle.std.proofs.Common.{◌≡◌, ℕ, zero, suc, ◌+◌, ◌-◌, ◌*◌, ◌<◌, ◌≤◌, Bool, true, false, cond, inl, inr, ◌⊎◌, ⊎_elim, Option, None, ◌||◌, List, [], ◌∷◌, ◌++◌, Some, refl, sym, ap, subst, ◌∙◌, arith, length, get_or, take, All}
+use Rattle.std.specs.Prelude.{◌≢◌, ◌==◌, count_by, Contains, slice_get}
 use Rattle.std.specs.List.{list_any, range_with_len}
 use Rattle.std.proofs.lemmas.Bool.Decides.{nat_tests}
 use Rattle.std.proofs.lemmas.Bool.{cases_lt, true≢false}
-use Rattle.std.proofs.lemmas.List.{take_more}
+use Rattle.std.proofs.lemmas.List.{get_or_append_left, get_or_push, length-append, take_all, take_more}
 use Rattle.std.proofs.lemmas.List.Elements.{Contains-append_cases}
 use Rattle.std.proofs.lemmas.List.Folds.{list_any_at, list_any_more}
 use Rattle.std.proofs.lemmas.List.FromFn.{get_or-range_with_len, length-range_with_len}
@@ -23,19 +23,20 @@ use Rattle.mk_model.specs.Queries.{QueryView, members_of, slots_of}
 use Rattle.mk_model.specs.Templates.{TemplateView}
 use Rattle.mk_model.proofs.ForCallers.{IsOfLabel, IsRanked, all_at, at_place, is_joint, member_of_label, members_are, passes_some, some_passes}
 use Rattle.mk_query.specs.CompileFaults.{IsNoCycle}
-use Rattle.mk_query.specs.Recursion.{ComesBack, Holds, MembersWithin, NamesGroups, asks_for, comes_back, entry, leads, leads_on, of_templates}
+use Rattle.mk_query.specs.Draft.{IsDrafted}
+use Rattle.mk_query.specs.Marks.{has_group}
+use Rattle.mk_query.specs.Recursion.{ComesBack, HasAlso, HoldSoFar, Holds, MembersWithin, NamesGroups, asks_for, comes_back, entry, leads, leads_on}
 
 -- ---- by places
 
 -- the slots of the table at a place
-pub slots_at : (templates : List TemplateView) (u : ℕ) (x : TemplateView) → u < length templates → x ≡ get_or templates u x → slots_of (of_templates templates) u ≡ x.slots
-slots_at templates u x below is = (let at : slice_get templates u ≡ Some x = at_place templates u x below ∙ ap Some (sym is) in rw at refl)
+pub slots_at : (query : QueryView) (u : ℕ) (x : TemplateView) → u < length query.templates → x ≡ get_or query.templates u x → slots_of query u ≡ x.slots
+slots_at query u x below is = (let at : slice_get query.templates u ≡ Some x = at_place query.templates u x below ∙ ap Some (sym is) in rw at refl)
 
 -- the members of the group at a place
-pub members_at_place : (templates : List TemplateView) (groups : List Group) (a : ℕ) (x : Group) → a < length groups → x ≡ get_or groups a x
-    → members_of (record { templates = templates; groups = groups }) (a + 1) ≡ x.members
-members_at_place templates groups a x below is =
-    let at : slice_get groups a ≡ Some x = at_place groups a x below ∙ ap Some (sym is) in
+pub members_at_place : (query : QueryView) (a : ℕ) (x : Group) → a < length query.groups → x ≡ get_or query.groups a x → members_of query (a + 1) ≡ x.members
+members_at_place query a x below is =
+    let at : slice_get query.groups a ≡ Some x = at_place query.groups a x below ∙ ap Some (sym is) in
     let place : a + 1 - 1 ≡ a = omega arith in
     rw (place, at) refl
 
@@ -49,9 +50,76 @@ in_list p xs any =
 from_list : {X : Type 0} (p : X → Bool) (xs : List X) (x : X) → Contains xs x → p x ≡ true → list_any p xs ≡ true
 from_list p xs x at passes = list_any_at p xs at.0 x at.1 (ap p at.2 ∙ passes)
 
--- none so far, and not the next
-pub any_more : {X : Type 0} (p : X → Bool) (xs : List X) (i : ℕ) (d : X) → i < length xs → list_any p (take i xs) ≡ false → p (get_or xs i d) ≡ false → list_any p (take (i + 1) xs) ≡ false
-any_more p xs i d below before here = list_any_more p xs i d below ∙ rw (before, here) refl
+-- numbers by their test
+same_numbers : (n m : ℕ) → (n == m) ≡ true → n ≡ m
+same_numbers n m e = grind (arith, nat_tests)
+
+numbers_same : (n m : ℕ) → n ≡ m → (n == m) ≡ true
+numbers_same n m e = grind (arith, nat_tests)
+
+-- ---- tables of rows and columns
+
+-- the first a rows, and b entries of the next, are those of f
+pub record HoldTo (f : ℕ → ℕ → Bool) (list : List Bool) (a b : ℕ) : Type 0 where
+  pub row : a < 32
+  pub size : length list ≡ 32 * a + b
+  pub column : b ≤ 32
+  pub each : HoldSoFar f list
+
+-- one entry more
+pub hold_more : (f : ℕ → ℕ → Bool) (list : List Bool) (a b : ℕ) (x : Bool) (new : List Bool) → new ≡ list ++ x ∷ [] → b < 32 → x ≡ f (a + 1) (b + 1) → HoldTo f list a b
+    → HoldTo f new a (b + 1)
+hold_more f list a b x new pushed below is before =
+    let size : length new ≡ length list + 1 = ap (λ (l : List Bool). length l) pushed ∙ length-append list (x ∷ []) in
+    record {
+      row = before.row;
+      size = omega (arith, size, before.size);
+      column = omega (arith, below);
+      each = λ row column few within.
+          rw pushed
+          (⊎_elim
+          (λ earlier. get_or_append_left list (x ∷ []) false (32 * row + column) earlier ∙ before.each row column few earlier)
+          (λ last.
+          let same_row : row ≡ a = omega (arith, last, within, size, before.size, few, below) in
+          let same_column : column ≡ b = omega (arith, last, within, size, before.size, few, below) in
+          get_or_push list x false (32 * row + column) (omega (arith, last, within, size)) ∙ is ∙ rw (same_row, same_column) refl)
+          (cases_lt (32 * row + column) (length list)));
+    }
+
+-- ---- bits of groups
+
+or_false : (b : Bool) → b ≡ (b || false)
+or_false true = refl
+or_false false = refl
+
+or_both : (a b c : Bool) → ((a || b) || c) ≡ (a || (b || c))
+or_both true b c = refl
+or_both false b c = refl
+
+module _ {X : Type 0} (test : ℕ → X → Bool) (xs : List X) (first : ℕ) where
+  -- the bits of those so far, for which a test of numbers holds
+  abbrev pub HaveAlso : ℕ → ℕ → Type 0
+  HaveAlso i new = HasAlso new first (λ h. list_any (test h) (take i xs))
+
+  pub also_none : HaveAlso 0 first
+  also_none h some few = or_false (has_group first h)
+
+  -- one more
+  pub also_more : (i old new : ℕ) (d : X) → i < length xs → HasAlso new old (λ h. test h (get_or xs i d)) → HaveAlso i old → HaveAlso (i + 1) new
+  also_more i old new d below here before h some few =
+      here h some few ∙ rw (before h some few, list_any_more (test h) xs i d below) (or_both (has_group first h) (list_any (test h) (take i xs)) (test h (get_or xs i d)))
+
+  pub also_all : (i new : ℕ) → length xs ≤ i → HaveAlso i new → HasAlso new first (λ h. list_any (test h) xs)
+  also_all i new all have = subst (λ (l : List X). HasAlso new first (λ h. list_any (test h) l)) (take_all i xs all) have
+
+-- one label more
+pub label_more : (groups new g : ℕ) → 1 ≤ g → has_group new g ≡ true → ((h : ℕ) → 1 ≤ h → h ≢ g → has_group new h ≡ has_group groups h) → HasAlso new groups (λ h. g == h)
+label_more groups new g least set others h some few = by_test (g == h) refl
+  where
+    by_test : (b : Bool) → (g == h) ≡ b → has_group new h ≡ (has_group groups h || (g == h))
+    by_test true e = (let same : g ≡ h = same_numbers g h e in rw e (subst (λ (n : ℕ). has_group new n ≡ true) same set ∙ sym (or_right (has_group groups h) true refl)))
+    by_test false e =
+        rw e (others h some (λ same. true≢false (sym (numbers_same g h (sym same)) ∙ e)) ∙ or_false (has_group groups h))
 
 -- ---- ways from group to group
 
@@ -64,13 +132,6 @@ Asks query g (v ∷ via) h = (asks_for query g v ≡ true) × Asks query v via h
 joined : (query : QueryView) (g : ℕ) (via : List ℕ) (v : ℕ) (others : List ℕ) (h : ℕ) → Asks query g via v → Asks query v others h → Asks query g (via ++ v ∷ others) h
 joined query g [] v others h first second = (first, second)
 joined query g (w ∷ via) v others h first second = (first.0, joined query w via v others h first.1 second)
-
--- numbers by their test
-same_numbers : (n m : ℕ) → (n == m) ≡ true → n ≡ m
-same_numbers n m e = grind (arith, nat_tests)
-
-numbers_same : (n m : ℕ) → n ≡ m → (n == m) ≡ true
-numbers_same n m e = grind (arith, nat_tests)
 
 other_number : (n k : ℕ) → n ≤ suc k → (n == suc k) ≡ false → n ≤ k
 other_number n k most e = grind (arith, nat_tests)
@@ -272,10 +333,10 @@ member_more xs i x below at =
     alone y x (zero, below, is) = sym is
     alone y x (suc k, below, is) = absurd (omega (arith, below))
 
-module _ (templates : List TemplateView) (list : List Bool) (members : List ℕ) (g i : ℕ) where
+module _ (query : QueryView) (list : List Bool) (members : List ℕ) (g i : ℕ) where
   -- what no member so far that comes back is above
   abbrev pub IsLow : ℕ → ℕ → Type 0
-  IsLow n low = (u : ℕ) → ComesBack templates list (take n members) g u → low ≤ u
+  IsLow n low = (u : ℕ) → ComesBack query list (take n members) g u → low ≤ u
 
   -- the next member comes back, and is below
   pub low_here : i < length members → (low : ℕ) → get_or members i 0 < low → IsLow i low → IsLow (i + 1) (get_or members i 0)
@@ -288,7 +349,7 @@ module _ (templates : List TemplateView) (list : List Bool) (members : List ℕ)
       ⊎_elim (λ first. before u (record { member = first; back = back.back })) (λ last. omega (arith, most, last)) (member_more members i u below back.member)
 
   -- it doesn't come back
-  pub low_away : i < length members → (low : ℕ) → comes_back (entry list) g (slots_of (of_templates templates) (get_or members i 0)) ≡ false → IsLow i low → IsLow (i + 1) low
+  pub low_away : i < length members → (low : ℕ) → comes_back (entry list) g (slots_of query (get_or members i 0)) ≡ false → IsLow i low → IsLow (i + 1) low
   low_away below low away before u back =
       ⊎_elim (λ first. before u (record { member = first; back = back.back }))
       (λ last. absurd (true≢false (sym (rw last at back.back) ∙ away))) (member_more members i u below back.member)
@@ -331,71 +392,61 @@ entry_back query k list g t holds has some few =
 -- ---- tables without recursion
 
 -- the labels of all templates' sites are those of the tables
-pub has_groups : (templates : List TemplateView) (groups : List Group) → All (λ template. All NamesGroups template.slots) templates → HasGroups (record { templates = templates; groups = groups })
-has_groups templates groups labels t slot at = by_template (slice_get templates t) refl
+pub has_groups : (query : QueryView) → All IsDrafted query.templates → HasGroups query
+has_groups query drafted t slot at = by_template (slice_get query.templates t) refl
   where
-    by_template : (o : Option TemplateView) → slice_get templates t ≡ o → NamesGroups slot
+    by_template : (o : Option TemplateView) → slice_get query.templates t ≡ o → NamesGroups slot
     by_template None e = absurd (let none : Contains [] slot = rw e at at in (let below = none.1 in omega arith))
     by_template (Some template) e =
         let within : Contains template.slots slot = rw e at at in
-        let each = all_at (λ (template : TemplateView). All NamesGroups template.slots) templates t template labels e in
+        let each = (all_at IsDrafted query.templates t template drafted e).labels in
         subst NamesGroups within.2 (each within.0 slot within.1)
 
-module _ (templates : List TemplateView) (groups : List Group) (k : ℕ) (list : List Bool) where
-  abbrev whole : QueryView
-  whole = record { templates = templates; groups = groups }
+-- the members of groups are templates
+pub all_within : (query : QueryView) → All (λ (group : Group). All (λ (u : ℕ). u < length query.templates) group.members) query.groups → MembersWithin query
+all_within query within g t at = by_group (slice_get query.groups (g - 1)) refl
+  where
+    by_group : (o : Option Group) → slice_get query.groups (g - 1) ≡ o → t < length query.templates
+    by_group None e = absurd (let none : Contains [] t = rw e at at in (let below = none.1 in omega arith))
+    by_group (Some group) e =
+        let member : Contains group.members t = rw e at at in
+        let each = all_at (λ (group : Group). All (λ (u : ℕ). u < length query.templates) group.members) query.groups (g - 1) group within e in
+        subst (λ (u : ℕ). u < length query.templates) member.2 (each member.0 t member.1)
+
+module _ (query : QueryView) (k : ℕ) (list : List Bool) where
+  -- some member of a group comes back
+  abbrev pub IsBack : ℕ → Type 0
+  IsBack t = (g : ℕ) × (1 ≤ g) × (g ≤ 32) × ComesBack query list (members_of query g) g t
 
   -- a member that comes back uses itself
-  pub back_recurs : Holds (leads whole k) list → HasGroups whole → MembersWithin whole → (g t : ℕ) → 1 ≤ g → g ≤ 32 → ComesBack templates list (members_of whole g) g t → IsNoCycle whole t → ⊥
-  back_recurs holds has within g t some few back none =
-      let chain = leads_chain whole within k t g t back.member (sym (entry_back whole k list g t holds has some few) ∙ back.back) in
+  pub back_recurs : Holds (leads query k) list → HasGroups query → MembersWithin query → (t : ℕ) → IsBack t → IsNoCycle query t → ⊥
+  back_recurs holds has within t back none =
+      let chain = leads_chain query within k t back.0 t back.3.member (sym (entry_back query k list back.0 t holds has back.1 back.2) ∙ back.3.back) in
       none chain.0 chain.1
 
   -- and a table that uses itself is a member that comes back
-  pub recurs_back : 32 ≤ k → Holds (leads whole k) list → HasGroups whole → (t : ℕ) (via : List ℕ) → IsChain whole t via t
-      → (g : ℕ) × (1 ≤ g) × (g ≤ 32) × ComesBack templates list (members_of whole g) g t
+  pub recurs_back : 32 ≤ k → Holds (leads query k) list → HasGroups query → (t : ℕ) (via : List ℕ) → IsChain query t via t → IsBack t
   recurs_back enough holds has t via chain =
-      let back = chain_leads whole k enough has t via t chain in
-      (back.0, back.1, back.2, record { member = back.3; back = entry_back whole k list back.0 t holds has back.1 back.2 ∙ back.4 })
+      let back = chain_leads query k enough has t via t chain in
+      (back.0, back.1, back.2, record { member = back.3; back = entry_back query k list back.0 t holds has back.1 back.2 ∙ back.4 })
 
   -- no member of the groups up to g comes back and is lower
   abbrev pub AreLow : ℕ → ℕ → Type 0
-  AreLow g low = (h u : ℕ) → 1 ≤ h → h ≤ g → ComesBack templates list (members_of whole h) h u → low ≤ u
+  AreLow g low = (h u : ℕ) → 1 ≤ h → h ≤ g → ComesBack query list (members_of query h) h u → low ≤ u
 
   -- one group more
-  pub low_more : (g low new : ℕ) (members : List ℕ) → members_of whole (g + 1) ≡ members → new ≤ low
-      → ((u : ℕ) → ComesBack templates list members (g + 1) u → new ≤ u) → AreLow g low → AreLow (g + 1) new
-  low_more g low new members are most here before h u some few back =
+  pub low_more : (g low new : ℕ) → new ≤ low → ((u : ℕ) → ComesBack query list (members_of query (g + 1)) (g + 1) u → new ≤ u) → AreLow g low → AreLow (g + 1) new
+  low_more g low new most here before h u some few back =
       ⊎_elim (λ earlier. omega (arith, most, before h u some (omega (arith, earlier)) back))
-      (λ last. let same : h ≡ g + 1 = omega (arith, few, last) in here u (rw are at (rw same at back)))
+      (λ last. let same : h ≡ g + 1 = omega (arith, few, last) in here u (rw same at back))
       (cases_lt h (g + 1))
 
-  -- some member of a group comes back
-  abbrev pub IsBack : ℕ → Type 0
-  IsBack t = (g : ℕ) × (1 ≤ g) × (g ≤ 32) × ComesBack templates list (members_of whole g) g t
-
-  pub found_more : (g n low new : ℕ) (members : List ℕ) → g < 32 → members_of whole (g + 1) ≡ members → new ≤ low
-      → (new < low → ComesBack templates list members (g + 1) new) → (low < n → IsBack low) → new < n → IsBack new
-  found_more g n low new members below are most here before within =
-      ⊎_elim (λ lower. (g + 1, omega arith, omega (arith, below), rw (sym are) at (here lower)))
+  pub found_more : (g n low new : ℕ) → g < 32 → new ≤ low
+      → (new < low → ComesBack query list (members_of query (g + 1)) (g + 1) new) → (low < n → IsBack low) → new < n → IsBack new
+  found_more g n low new below most here before within =
+      ⊎_elim (λ lower. (g + 1, omega arith, omega (arith, below), here lower))
       (λ same. let is : low ≡ new = omega (arith, most, same) in subst IsBack is (before (omega (arith, within, is))))
       (cases_lt new low)
-
-  -- a member is a table
-  pub member_within : All (λ (group : Group). All (λ (u : ℕ). u < length templates) group.members) groups → (g t : ℕ) → Contains (members_of whole g) t → t < length templates
-  member_within within g t at = by_group (slice_get groups (g - 1)) refl
-    where
-      by_group : (o : Option Group) → slice_get groups (g - 1) ≡ o → t < length templates
-      by_group None e = absurd (let none : Contains [] t = rw e at at in (let below = none.1 in omega arith))
-      by_group (Some group) e =
-          let member : Contains group.members t = rw e at at in
-          let each = all_at (λ (group : Group). All (λ (u : ℕ). u < length templates) group.members) groups (g - 1) group within e in
-          subst (λ (u : ℕ). u < length templates) member.2 (each member.0 t member.1)
-
--- the members of groups are templates
-pub all_within : (templates : List TemplateView) (groups : List Group) → All (λ (group : Group). All (λ (u : ℕ). u < length templates) group.members) groups
-    → MembersWithin (record { templates = templates; groups = groups })
-all_within templates groups within g u at = member_within templates groups 32 [] within g u at
 
 -- ---- ranks
 

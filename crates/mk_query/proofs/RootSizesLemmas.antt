@@ -4,12 +4,10 @@
 --     size_is              the size by the lists is that of the template, capped
 --     greatest_next        the greatest sizes where chains may be longer by one
 --     is_small, small_is   the root is small exactly where its capped size is
-use Rattle.std.proofs.Common.{◌≡◌, ℕ, zero, suc, ◌+◌, ◌-◌, ◌<◌, ◌≤◌, Bool, true, false, cond, max, List, [], ◌∷◌, ◌++◌, Option, Some, None, refl, sym, ap, subst, ◌∙◌, arith, length, get_or, take, sum_by, All}
+use Rattle.std.proofs.Common.{◌≡◌, ℕ, zero, suc, ◌+◌, ◌-◌, ◌<◌, ◌≤◌, Bool, true, false, cond, max, List, [], ◌∷◌, ◌++◌, Option, Some, None, refl, sym, ap, subst, ◌∙◌, arith, length, get_or, take, sum_by}
 use Rattle.std.specs.Prelude.{◌==◌, count_by, replicate, Contains, slice_get, slice_index_or}
 use Rattle.std.proofs.lemmas.List.{get_or-replicate, length-replicate, take_more}
-use Rattle.std.proofs.lemmas.List.Elements.{All-replicate}
 use Rattle.std.proofs.lemmas.List.Sums.{sum_by-cons}
-use Rattle.mk_model.specs.declared.group.Group.{Group}
 use Rattle.mk_model.specs.declared.template.Slot.{Slot}
 use Rattle.mk_model.specs.declared.template.Slot.TheVariants.{Link, Site}
 use Rattle.mk_model.specs.Labels.{PutsIn}
@@ -22,7 +20,7 @@ use Rattle.mk_query.specs.CompileFaults.{IsNoCycle, IsSmall}
 use Rattle.mk_query.specs.Recursion.{MembersWithin, NamesGroups}
 use Rattle.mk_query.specs.RootSizes.{AreGreatest, AreOwnSizes, capped, greatest_at, link_size, of_group, own_size, site_size, sites_size, size_by_lists}
 use Rattle.mk_query.proofs.CapLemmas.{cap_both, cap_max, cap_site, cap_small, cap_whole, plus_none}
-use Rattle.mk_query.proofs.RecursionLemmas.{HasGroups, all_within, few_ranks, member_within, puts_leads, rank_of, ranked}
+use Rattle.mk_query.proofs.RecursionLemmas.{HasGroups, few_ranks, puts_leads, rank_of, ranked}
 
 -- ---- the greatest of some
 
@@ -98,91 +96,81 @@ slots_split query within size template (slot ∷ slots) =
 
 -- ---- one table
 
-module _ (templates : List TemplateView) (groups : List Group) where
-  abbrev whole : QueryView
-  whole = record { templates = templates; groups = groups }
-
-  pub size_is : (own list : List ℕ) (n u : ℕ) → AreOwnSizes templates own → AreGreatest whole n list → HasGroups whole → MembersWithin whole → u < length templates
-      → size_by_lists templates own list u ≡ capped (size_within (suc n) whole u)
-  size_is own list n u sizes are has within below = by_template (slice_get templates u) refl
+module _ (query : QueryView) (has : HasGroups query) (within : MembersWithin query) where
+  pub size_is : (own list : List ℕ) (n u : ℕ) → AreOwnSizes query.templates own → AreGreatest query n list → u < length query.templates
+      → size_by_lists query own list u ≡ capped (size_within (suc n) query u)
+  size_is own list n u sizes are below = by_template (slice_get query.templates u) refl
     where
-      by_template : (o : Option TemplateView) → slice_get templates u ≡ o → size_by_lists templates own list u ≡ capped (size_within (suc n) whole u)
-      by_template None e = absurd (let at = at_place templates u (get_or templates u (record { atoms = []; bonds = []; slots = []; points = [] })) below in let none = sym e ∙ at in cc)
+      by_template : (o : Option TemplateView) → slice_get query.templates u ≡ o → size_by_lists query own list u ≡ capped (size_within (suc n) query u)
+      by_template None e = absurd (let at = at_place query.templates u (get_or query.templates u (record { atoms = []; bonds = []; slots = []; points = [] })) below in let none = sym e ∙ at in cc)
       by_template (Some template) e =
-          let f : ℕ → ℕ = greatest_at whole n in
+          let f : ℕ → ℕ = greatest_at query n in
           let own_is : slice_index_or own u 0 ≡ capped (own_size template) = sizes.each u template e in
           let sites : capped (sites_size (of_group list) template.slots) ≡ capped (sites_size f template.slots) =
           sites_agree (of_group list) f template.slots (λ g some few. of_group_is g some few) (λ slot at. has u slot (rw e at)) in
           rw e (cap_whole (slice_index_or own u 0) (count_by (is_fixed template) (atom_numbers template)) (sum_by (link_size template) template.slots)
-          (sum_by (size_of_slot whole (size_within n whole) template) template.slots) (sites_size (of_group list) template.slots) (sites_size f template.slots)
-          own_is sites (slots_split whole within (size_within n whole) template template.slots))
+          (sum_by (size_of_slot query (size_within n query) template) template.slots) (sites_size (of_group list) template.slots) (sites_size f template.slots)
+          own_is sites (slots_split query within (size_within n query) template template.slots))
         where
-          of_group_is : (g : ℕ) → 1 ≤ g → g ≤ 32 → of_group list g ≡ capped (greatest_at whole n g)
+          of_group_is : (g : ℕ) → 1 ≤ g → g ≤ 32 → of_group list g ≡ capped (greatest_at query n g)
           of_group_is g some few = (let place : g - 1 + 1 ≡ g = omega arith in rw place at (are.each (g - 1) (omega arith)))
 
   -- ---- rounds
 
   -- before the first, all are 0
-  pub zeros_greatest : (list : List ℕ) → list ≡ replicate 32 0 → AreGreatest whole 0 list
+  pub zeros_greatest : (list : List ℕ) → list ≡ replicate 32 0 → AreGreatest query 0 list
   zeros_greatest list zeros = record {
     size = ap length zeros ∙ length-replicate {A = ℕ} 32 0;
-    each = λ g below. ap (λ (l : List ℕ). get_or l g 0) zeros ∙ get_or-replicate {A = ℕ} 32 g 0 0 below ∙ sym (none_first whole (g + 1));
+    each = λ g below. ap (λ (l : List ℕ). get_or l g 0) zeros ∙ get_or-replicate {A = ℕ} 32 g 0 0 below ∙ sym (none_first query (g + 1));
   }
 
-  pub zeros_few : (list : List ℕ) → list ≡ replicate 32 0 → All (λ (n : ℕ). n ≤ 513) list
-  zeros_few list zeros = subst (λ (l : List ℕ). All (λ (n : ℕ). n ≤ 513) l) (sym zeros) (All-replicate (λ (n : ℕ). n ≤ 513) 32 0 (omega arith))
-
   -- one round more
-
-  pub greatest_next : (own list next : List ℕ) (n : ℕ) → AreOwnSizes templates own → AreGreatest whole n list → HasGroups whole
-      → All (λ (group : Group). All (λ (u : ℕ). u < length templates) group.members) groups → length next ≡ 32
-      → ((g : ℕ) → g < 32 → slice_index_or next g 0 ≡ greatest (size_by_lists templates own list) (members_of whole (g + 1)))
-      → AreGreatest whole (n + 1) next
-  greatest_next own list next n sizes are has within size each = record {
+  pub greatest_next : (own list next : List ℕ) (n : ℕ) → AreOwnSizes query.templates own → AreGreatest query n list → length next ≡ 32
+      → ((g : ℕ) → g < 32 → slice_index_or next g 0 ≡ greatest (size_by_lists query own list) (members_of query (g + 1))) → AreGreatest query (n + 1) next
+  greatest_next own list next n sizes are size each = record {
     size = size;
     each = λ g below.
         let number : n + 1 ≡ suc n = omega arith in
-        rw number (each g below ∙ greatest_agree (size_by_lists templates own list) (size_within (suc n) whole) (members_of whole (g + 1))
-        (λ u at. size_is own list n u sizes are has (all_within templates groups within) (member_within templates groups 32 [] within (g + 1) u at)));
+        rw number (each g below ∙ greatest_agree (size_by_lists query own list) (size_within (suc n) query) (members_of query (g + 1))
+        (λ u at. size_is own list n u sizes are (within (g + 1) u at)));
   }
 
   -- ---- the root
 
   -- a sizing is the one by rank, on the tables
-  pub one_size : (k : ℕ) → 32 ≤ k → HasGroups whole → All (λ (group : Group). All (λ (u : ℕ). u < length templates) group.members) groups → (rank : ℕ → ℕ) → IsRanked whole rank
-      → (size : ℕ → ℕ) → IsSizing whole size → (n t : ℕ) → rank t < n → t < length templates → size t ≡ size_by_rank whole rank t
-  one_size k enough has within rank ranks size is zero t below inside = absurd (omega (arith, below))
-  one_size k enough has within rank ranks size is (suc n) t below inside =
-      by_template (slice_get templates t) refl
-      (λ u puts. one_size k enough has within rank ranks size is n u (omega (arith, below, ranks t u puts))
-      (let leads = puts_leads whole k enough has t u puts in member_within templates groups 32 [] within leads.group u leads.member))
+  pub one_size : (k : ℕ) → 32 ≤ k → (rank : ℕ → ℕ) → IsRanked query rank
+      → (size : ℕ → ℕ) → IsSizing query size → (n t : ℕ) → rank t < n → t < length query.templates → size t ≡ size_by_rank query rank t
+  one_size k enough rank ranks size is zero t below inside = absurd (omega (arith, below))
+  one_size k enough rank ranks size is (suc n) t below inside =
+      by_template (slice_get query.templates t) refl
+      (λ u puts. one_size k enough rank ranks size is n u (omega (arith, below, ranks t u puts))
+      (let leads = puts_leads query k enough has t u puts in within leads.group u leads.member))
     where
-      by_template : (o : Option TemplateView) → slice_get templates t ≡ o → ((u : ℕ) → PutsIn whole t u → size u ≡ size_by_rank whole rank u) → size t ≡ size_by_rank whole rank t
-      by_template None e same = absurd (let at = at_place templates t (record { atoms = []; bonds = []; slots = []; points = [] }) inside in let none = sym e ∙ at in cc)
+      by_template : (o : Option TemplateView) → slice_get query.templates t ≡ o → ((u : ℕ) → PutsIn query t u → size u ≡ size_by_rank query rank u) → size t ≡ size_by_rank query rank t
+      by_template None e same = absurd (let at = at_place query.templates t (record { atoms = []; bonds = []; slots = []; points = [] }) inside in let none = sym e ∙ at in cc)
       by_template (Some template) e same =
-          is t template e ∙ size_same whole size (size_by_rank whole rank) t template e same ∙ sym (sizing_of whole rank ranks t template e)
+          is t template e ∙ size_same query size (size_by_rank query rank) t template e same ∙ sym (sizing_of query rank ranks t template e)
 
-  module _ (k : ℕ) (enough : 32 ≤ k) (has : HasGroups whole) (within : All (λ (group : Group). All (λ (u : ℕ). u < length templates) group.members) groups)
-      (none : (t : ℕ) → IsNoCycle whole t) (own list : List ℕ) (n : ℕ) where
+  module _ (k : ℕ) (enough : 32 ≤ k) (none : (t : ℕ) → IsNoCycle query t) (own list : List ℕ) (n : ℕ) (rounds : 33 ≤ n) (some : 0 < length query.templates)
+      (sizes : AreOwnSizes query.templates own) (are : AreGreatest query n list) where
     -- the groups to which a table leads rank it
-    abbrev ranks : IsRanked whole (rank_of whole k)
-    ranks = ranked whole k enough has (all_within templates groups within) none
+    abbrev ranks : IsRanked query (rank_of query k)
+    ranks = ranked query k enough has within none
 
     -- the size by the lists is that by rank, capped
-    root_is : 33 ≤ n → 0 < length templates → AreOwnSizes templates own → AreGreatest whole n list → size_by_lists templates own list 0 ≡ capped (size_by_rank whole (rank_of whole k) 0)
-    root_is rounds some sizes are =
-        size_is own list n 0 sizes are has (all_within templates groups within) some
-        ∙ ap capped (within_same whole (rank_of whole k) ranks (suc n) (suc (rank_of whole k 0)) 0 (omega (arith, rounds, few_ranks whole k 0)) (omega arith))
+    root_is : size_by_lists query own list 0 ≡ capped (size_by_rank query (rank_of query k) 0)
+    root_is =
+        size_is own list n 0 sizes are some
+        ∙ ap capped (within_same query (rank_of query k) ranks (suc n) (suc (rank_of query k 0)) 0 (omega (arith, rounds, few_ranks query k 0)) (omega arith))
 
-    pub is_small : 33 ≤ n → 0 < length templates → AreOwnSizes templates own → AreGreatest whole n list → size_by_lists templates own list 0 ≤ 512 → IsSmall whole
-    is_small rounds some sizes are small = record {
-      size = size_by_rank whole (rank_of whole k);
-      adds_up = sizing_of whole (rank_of whole k) ranks;
-      small = cap_small (size_by_rank whole (rank_of whole k) 0) (omega (arith, root_is rounds some sizes are, small));
+    pub is_small : size_by_lists query own list 0 ≤ 512 → IsSmall query
+    is_small small = record {
+      size = size_by_rank query (rank_of query k);
+      adds_up = sizing_of query (rank_of query k) ranks;
+      small = cap_small (size_by_rank query (rank_of query k) 0) (omega (arith, root_is, small));
     }
 
-    pub small_is : 33 ≤ n → 0 < length templates
-        → AreOwnSizes templates own → AreGreatest whole n list → IsSmall whole → size_by_lists templates own list 0 ≤ 512
-    small_is rounds some sizes are is =
-        let same = one_size k enough has within (rank_of whole k) ranks is.size is.adds_up (suc (rank_of whole k 0)) 0 (omega arith) some in
-        omega (arith, root_is rounds some sizes are, same, is.small)
+    pub small_is : IsSmall query → size_by_lists query own list 0 ≤ 512
+    small_is is =
+        let same = one_size k enough (rank_of query k) ranks is.size is.adds_up (suc (rank_of query k 0)) 0 (omega arith) some in
+        omega (arith, root_is, same, is.small)

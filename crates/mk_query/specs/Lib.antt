@@ -3,6 +3,7 @@ pub mod BlockSearch
 pub mod Checks
 pub mod CompileFaults
 pub mod Compiled
+pub mod Draft
 pub mod Drawn
 pub mod FirstFault
 pub mod GroupMarks

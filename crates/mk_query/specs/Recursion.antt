@@ -1,20 +1,21 @@
 -- For code alone: which groups lead to which, as tables of 32 rows and columns.
 --     asks_for query g h         some member of group g has a site of group h
 --     leads query k g h          so, or by way of groups up to k
+--     HasAlso new old also       the bits of groups, with those of which a test holds
 --     cell list a b              the entry of a row and a column, which count from 0
 --     Holds f list               the entry of row g - 1 and column h - 1 is f g h
 --     NamesGroups slot           the labels of a site are the numbers of groups
 --     MembersWithin query        the members of groups are templates
 --     leads_on f g slot          a site of which a label is g, or leads to it
 --     comes_back f g slots       some of the slots is one
---     ComesBack templates list members g u     table u is a member of group g, and one of its sites
---                                              leads back
-use Rattle.std.specs.Prelude.{◌≡◌, ◌<◌, ◌≤◌, ◌+◌, ◌-◌, ◌*◌, ◌==◌, ◌&&◌, ◌||◌, ℕ, zero, suc, Bool, false, List, [], All, length, slice_index_or, Contains, IsTrue}
+--     ComesBack query list members g u    table u is a member of group g, and one of its sites
+--                                         leads back
+use Rattle.std.specs.Prelude.{◌≡◌, ◌<◌, ◌≤◌, ◌+◌, ◌-◌, ◌*◌, ◌==◌, ◌&&◌, ◌||◌, ℕ, zero, suc, Bool, false, List, All, length, slice_index_or, Contains, IsTrue}
 use Rattle.std.specs.List.{list_any}
 use Rattle.mk_model.specs.declared.template.Slot.{Slot}
 use Rattle.mk_model.specs.Labels.{bears_label, site_labels}
 use Rattle.mk_model.specs.Queries.{QueryView, members_of, slots_of}
-use Rattle.mk_model.specs.Templates.{TemplateView}
+use Rattle.mk_query.specs.Marks.{has_group}
 
 -- some member of group g has a site of group h
 abbrev pub asks_for : QueryView → ℕ → ℕ → Bool
@@ -25,6 +26,10 @@ asks_for query g h = list_any (λ u. list_any (λ slot. bears_label slot h) (slo
 abbrev pub leads : QueryView → ℕ → ℕ → ℕ → Bool
 leads query zero g h = asks_for query g h
 leads query (suc k) g h = leads query k g h || (leads query k g (suc k) && leads query k (suc k) h)
+
+-- the bits that are set are those that were, and those of the groups of which a test holds
+abbrev pub HasAlso : ℕ → ℕ → (ℕ → Bool) → Type 0
+HasAlso new old also = (h : ℕ) → 1 ≤ h → h ≤ 32 → has_group new h ≡ (has_group old h || also h)
 
 -- the entry of row a and column b
 abbrev pub cell : List Bool → ℕ → ℕ → Bool
@@ -63,11 +68,7 @@ comes_back f g slots = list_any (leads_on f g) slots
 abbrev pub entry : List Bool → ℕ → ℕ → Bool
 entry list g h = cell list (g - 1) (h - 1)
 
--- the query of these templates, as far as tables are asked for their slots
-abbrev pub of_templates : List TemplateView → QueryView
-of_templates templates = record { templates = templates; groups = [] }
-
 -- table u is among these members of group g, and a site of it leads back to the group
-pub record ComesBack (templates : List TemplateView) (list : List Bool) (members : List ℕ) (g u : ℕ) : Type 0 where
+pub record ComesBack (query : QueryView) (list : List Bool) (members : List ℕ) (g u : ℕ) : Type 0 where
   pub member : Contains members u
-  pub back : IsTrue (comes_back (entry list) g (slots_of (of_templates templates) u))
+  pub back : IsTrue (comes_back (entry list) g (slots_of query u))

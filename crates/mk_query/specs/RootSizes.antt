@@ -11,7 +11,6 @@ use Rattle.mk_model.specs.Queries.{QueryView, members_of, slots_of}
 use Rattle.mk_model.specs.Sizes.{atom_numbers, greatest, is_fixed}
 use Rattle.mk_model.specs.SizesWithin.{size_within}
 use Rattle.mk_model.specs.Templates.{TemplateView, is_in_block, neighbour_count}
-use Rattle.mk_query.specs.Recursion.{of_templates}
 
 -- n, or 513 where it is above 512
 abbrev pub capped : ℕ → ℕ
@@ -55,5 +54,5 @@ pub record AreOwnSizes (templates : List TemplateView) (list : List ℕ) : Type 
   pub each : (t : ℕ) (template : TemplateView) → slice_get templates t ≡ Some template → slice_index_or list t 0 ≡ capped (own_size template)
 
 -- the size of table u by these lists, capped
-abbrev pub size_by_lists : List TemplateView → List ℕ → List ℕ → ℕ → ℕ
-size_by_lists templates own greatest u = capped (slice_index_or own u 0 + capped (sites_size (of_group greatest) (slots_of (of_templates templates) u)))
+abbrev pub size_by_lists : QueryView → List ℕ → List ℕ → ℕ → ℕ
+size_by_lists query own greatest u = capped (slice_index_or own u 0 + capped (sites_size (of_group greatest) (slots_of query u)))

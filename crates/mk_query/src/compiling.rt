@@ -7,6 +7,7 @@ ghost use Rattle.mk_query.specs.CompileFaults.{IfFault, IsFirstCompileFault, Pas
 ghost use Rattle.mk_query.specs.InRange.{HaveFewProperties, IsQueryInRange};
 
 use crate::compile_fault::{CompileFault, FaultAt};
+use crate::draft::Draft;
 use crate::query_groups::groups_of;
 use crate::table_walk::{first_in_tables, templates_of};
 use crate::whole_checks::first_across;
@@ -36,11 +37,11 @@ pub fn compile(alloc: Global, raw: &RawQuery) -> Result<Query, CompileFault>
         return Err(named(fault));
     }
     let templates = templates_of(alloc, raw)?;
-    let groups = groups_of(alloc, raw)?;
-    if let Some(fault) = first_across(alloc, raw, &templates, &groups)? {
+    let draft = Draft::of(templates, groups_of(alloc, raw)?);
+    if let Some(fault) = first_across(alloc, raw, &draft)? {
         return Err(named(fault));
     }
-    Ok(Query::of(templates, groups))
+    Ok(draft.into_query())
 }
 
 fn named(fault: FaultAt) -> CompileFault

@@ -200,8 +200,8 @@ pub fn has_group(groups: u32, g: u32) -> bool
     (groups >> (g - 1)) & 1 == 1
 }
 
-// Sets the bit of group g.
-fn with_group(groups: u32, g: u32) -> u32
+/// Sets the bit of group g.
+pub fn with_group(groups: u32, g: u32) -> u32
     requires { (1 ≤ g) × (g ≤ 32) }
     ensures set { has_group result g ≡ true }
     ensures others { (h : ℕ) → 1 ≤ h → h ≢ g → has_group result h ≡ has_group groups h }

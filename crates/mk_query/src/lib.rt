@@ -30,6 +30,7 @@ mod bond_checks;
 mod checking;
 mod compile_fault;
 mod compiling;
+mod draft;
 mod drawn;
 mod drawn_bonds;
 mod element_kinds;

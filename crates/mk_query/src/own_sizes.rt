@@ -1,11 +1,13 @@
 // What each template adds to a size by itself: its fixed atoms, and its links with their blocks.
-ghost use Rattle.std.specs.Prelude.{◌≡◌, ◌≤◌, ◌<◌, ◌+◌, ◌*◌, ◌==◌, ◌||◌, false, All, IfOk, length, slice_index_or, if◌then◌else◌, ℕ};
+ghost use Rattle.std.specs.Prelude.{◌≡◌, ◌≤◌, ◌<◌, ◌+◌, ◌*◌, ◌==◌, ◌||◌, false, IfOk, length, slice_index_or, if◌then◌else◌, ℕ};
 ghost use Rattle.mk_model.specs.Edges.{AreBetween, rows_of};
 ghost use Rattle.mk_model.specs.Templates.{query_edges, slot_atom};
+ghost use Rattle.mk_query.specs.Draft.{IsDraft};
 ghost use Rattle.mk_query.specs.OwnSizes.{IsSized, Marks, is_taken, link_size_by, marked, takes};
 ghost use Rattle.mk_query.specs.RootSizes.{AreOwnSizes, capped, own_size};
 
 use crate::blocks::{LinkEnds, block_of};
+use crate::draft::Draft;
 use crate::drawn_bonds::edges_of;
 use crate::root_sizes::capped;
 use mk_model::{Neighbours, QueryBond, Slot, Template};
@@ -13,23 +15,22 @@ use mk_text::Memory;
 use std::alloc::Global;
 
 /// The own sizes of all templates, capped.
-pub fn own_sizes(alloc: Global, templates: &[Template]) -> Result<Vec<u32>, Memory>
-    requires sized { All (λ template. IsSized template) templates.now }
-    ensures own { IfOk result (λ own. AreOwnSizes templates.now own.items) }
-    ensures capped { IfOk result (λ own. All (λ n. n ≤ 513) own.items) }
+pub fn own_sizes(alloc: Global, draft: &Draft) -> Result<Vec<u32>, Memory>
+    ensures own { IfOk result (λ own. AreOwnSizes draft.now.templates own.items) }
+    ensures kept { IfOk result (λ _. IsDraft draft.now) }
 {
-    let mut own = Vec::with_capacity(alloc, templates.len())?;
-    for t in 0..templates.len() {
-        own.push(own_size(alloc, &templates[t])?)?;
+    let count = draft.count();
+    let mut own = Vec::with_capacity(alloc, count as usize)?;
+    for t in 0..count {
+        own.push(own_size(alloc, draft.template(t))?)?;
     }
     Ok(own)
 }
 
 // The own size of a template, capped.
 fn own_size(alloc: Global, template: &Template) -> Result<u32, Memory>
-    requires sized { IsSized template.now }
-    ensures own { IfOk result (λ own. own ≡ capped (own_size template.now)) }
-    ensures capped { IfOk result (λ own. own ≤ 513) }
+    requires { IsSized template.now }
+    ensures { IfOk result (λ own. own ≡ capped (own_size template.now)) }
 {
     let atoms = template.atoms().len() as u32;
     let edges = edges_of(alloc, template.bonds())?;

@@ -1,19 +1,14 @@
 // Sites whose members don't have as many attachment points as the site has neighbours. Whether all
 // members of a group have one point, and whether all have two, is found out once for each group.
-ghost use Rattle.std.specs.Prelude.{◌≡◌, ◌≤◌, ◌<◌, ◌+◌, ◌^◌, ◌↔◌, All, Contains, IfOk, IsTrue, length};
-ghost use Rattle.mk_model.specs.Queries.{members_of};
-ghost use Rattle.mk_model.specs.QueryFits.{FitsPoints, HasRisingSlots};
+ghost use Rattle.std.specs.Prelude.{◌≡◌, ◌<◌, ◌↔◌, All, IfOk, IsTrue, length};
 ghost use Rattle.mk_model.specs.Templates.{slot_atom};
-ghost use Rattle.mk_query.specs.CompileFaults.{FitsAt, FitsTable};
-ghost use Rattle.mk_query.specs.PointFits.{AllHavePoints, AreTold, FindsMisfit, FindsUnfit, HasPoints, all_told, told_fit};
-ghost use Rattle.mk_query.specs.Recursion.{NamesGroups};
+ghost use Rattle.mk_query.specs.PointFits.{AllHavePoints, AreTold, FindsMisfit, FindsUnfit, all_told, told_fit};
 
-use mk_model::{Group, Slot, Template};
+use crate::draft::{Draft, GROUPS};
+use crate::sites::site_mark;
+use mk_model::Slot;
 use mk_text::Memory;
 use std::alloc::Global;
-
-// How many groups there are.
-const GROUPS: usize = 32;
 
 /// A table and the atom of a site in it.
 #[derive(Clone, Copy, Debug, PartialEq, Eq)]
@@ -24,26 +19,14 @@ pub struct SitePlace {
 
 /// The first site whose members don't have as many points as it has neighbours: the first table,
 /// and in it the lowest atom.
-pub fn first_misfit(
-    alloc: Global,
-    templates: &[Template],
-    groups: &[Group],
-) -> Result<Option<SitePlace>, Memory>
-    requires all { length groups.now ≡ 32 }
-    requires few { length templates.now < 2 ^ 32 }
-    requires members { All (λ group. All (λ u. u < length templates.now) group.members) groups.now }
-    requires labels { All (λ template. All NamesGroups template.slots) templates.now }
-    requires rising { All HasRisingSlots templates.now }
-    ensures { IfOk result (FindsMisfit (record { templates = templates.now; groups = groups.now })) }
+pub fn first_misfit(alloc: Global, draft: &Draft) -> Result<Option<SitePlace>, Memory>
+    ensures { IfOk result (FindsMisfit draft.now) }
 {
-    let one = told(alloc, templates, groups, 1)?;
-    let two = told(alloc, templates, groups, 2)?;
-    for t in 0..templates.len() {
-        if let Some(atom) = first_unfit(templates[t].slots(), &one, &two) {
-            return Ok(Some(SitePlace {
-                table: t as u32,
-                atom,
-            }));
+    let one = told(alloc, draft, 1)?;
+    let two = told(alloc, draft, 2)?;
+    for t in 0..draft.count() {
+        if let Some(atom) = first_unfit(draft.template(t).slots(), &one, &two) {
+            return Ok(Some(SitePlace { table: t, atom }));
         }
     }
     Ok(None)
@@ -51,9 +34,6 @@ pub fn first_misfit(
 
 // The atom of the first slot that doesn't fit.
 fn first_unfit(slots: &[Slot], one: &[bool], two: &[bool]) -> Option<u32>
-    requires one { length one.now ≡ 32 }
-    requires two { length two.now ≡ 32 }
-    requires labels { All NamesGroups slots.now }
     ensures { FindsUnfit one.now two.now slots.now result }
 {
     for i in 0..slots.len() {
@@ -65,9 +45,6 @@ fn first_unfit(slots: &[Slot], one: &[bool], two: &[bool]) -> Option<u32>
 }
 
 fn told_fit(slot: &Slot, one: &[bool], two: &[bool]) -> bool
-    requires one { length one.now ≡ 32 }
-    requires two { length two.now ≡ 32 }
-    requires label { NamesGroups slot.now }
     ensures { result ≡ told_fit one.now two.now slot.now }
 {
     match slot {
@@ -84,12 +61,10 @@ fn told_fit(slot: &Slot, one: &[bool], two: &[bool]) -> bool
 
 // Of each of these groups the list tells that its members have so many points.
 fn all_told(list: &[bool], groups: &[u32]) -> bool
-    requires size { length list.now ≡ 32 }
-    requires groups { All (λ g. (1 ≤ g) × (g ≤ 32)) groups.now }
     ensures { result ≡ all_told list.now groups.now }
 {
     for i in 0..groups.len() {
-        if !list[groups[i] as usize - 1] {
+        if !site_mark(list, groups[i]) {
             return false;
         }
     }
@@ -106,29 +81,22 @@ fn slot_atom(slot: &Slot) -> u32
 }
 
 // For each group, whether its members have so many points.
-fn told(
-    alloc: Global,
-    templates: &[Template],
-    groups: &[Group],
-    n: usize,
-) -> Result<Vec<bool>, Memory>
-    requires all { length groups.now ≡ 32 }
-    requires members { All (λ group. All (λ u. u < length templates.now) group.members) groups.now }
-    ensures { IfOk result (λ list. AreTold (record { templates = templates.now; groups = groups.now }) n list.items) }
+fn told(alloc: Global, draft: &Draft, n: usize) -> Result<Vec<bool>, Memory>
+    ensures { IfOk result (λ list. AreTold draft.now n list.items) }
 {
-    let mut list = Vec::with_capacity(alloc, GROUPS)?;
+    let mut list = Vec::with_capacity(alloc, GROUPS as usize)?;
     for g in 0..GROUPS {
-        list.push(all_have_points(templates, groups[g].members.as_slice(), n))?;
+        list.push(all_have_points(draft, draft.members(g), n))?;
     }
     Ok(list)
 }
 
-fn all_have_points(templates: &[Template], members: &[u32], n: usize) -> bool
-    requires { All (λ u. u < length templates.now) members.now }
-    ensures { IsTrue result ↔ AllHavePoints templates.now n members.now }
+fn all_have_points(draft: &Draft, members: &[u32], n: usize) -> bool
+    requires { All (λ u. u < length draft.now.templates) members.now }
+    ensures { IsTrue result ↔ AllHavePoints draft.now.templates n members.now }
 {
     for i in 0..members.len() {
-        if templates[members[i] as usize].points().len() != n {
+        if draft.template(members[i]).points().len() != n {
             return false;
         }
     }

@@ -8,6 +8,7 @@ ghost use Rattle.mk_query.specs.GroupMarks.{HasKnownLogic, IsKnownLogic, logic_b
 ghost use Rattle.mk_query.specs.LogicSearch.{names_group};
 ghost use Rattle.mk_query.specs.Passed.{HasPassed};
 
+use crate::draft::GROUPS;
 use mk_ctab::natural;
 use mk_logic::read_range;
 use mk_model::Group;
@@ -15,9 +16,6 @@ use mk_props::{LogicLine, Property};
 use mk_rgfile::{RawGroup, RawQuery};
 use mk_text::{Memory, Numbers};
 use std::alloc::Global;
-
-// How many groups there are.
-const GROUPS: u32 = 32;
 
 /// The 32 groups, each with the members of all parts of its number and with what the root says of
 /// it.

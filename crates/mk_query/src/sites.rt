@@ -6,16 +6,15 @@ ghost use Rattle.mk_query.specs.Drawn.{is_site};
 ghost use Rattle.mk_query.specs.Marks.{are_apart, AreAllServed, AreServed, HasKnownLabels, IsKnownLabel, IsLabels, has_group, is_served, site_mark};
 ghost use Rattle.mk_query.specs.SiteChecks.{HasLabel, HasSitePlace, IsLabelled};
 
+use crate::draft::GROUPS;
 use crate::drawn::{Labels, Near, has_group, is_site, labels_of, neighbours_of, sites_of};
 use mk_ctab::{RawAtom, RawTable};
 use mk_rgfile::RawGroup;
 use mk_text::Memory;
 use std::alloc::Global;
 
-// How many numbers a byte tells, and how many groups there are.
+// How many numbers a byte tells.
 const NUMBERS: usize = 256;
-
-const GROUPS: u32 = 32;
 
 /// For each number whether a group that bears it has a member.
 pub fn served_numbers(alloc: Global, groups: &[RawGroup]) -> Result<Vec<bool>, Memory>
@@ -126,7 +125,7 @@ fn are_apart(sites: &[bool], near: Near) -> bool
     }
 }
 
-/// What is noted of atom x in a list of sites.
+/// What is noted of atom x, or of group x, in a list that counts from 1.
 pub fn site_mark(sites: &[bool], x: u32) -> bool
     ensures { result ≡ site_mark sites.now x }
 {

@@ -4,6 +4,7 @@ ghost use Rattle.mk_query.specs.Compiled.{slots_in, table_slots};
 ghost use Rattle.mk_query.specs.Passed.{HasPassed};
 ghost use Rattle.mk_query.specs.SlotMarks.{groups_in, slot_by};
 
+use crate::draft::GROUPS;
 use crate::drawn::{has_group, labels_of, sites_of};
 use crate::linked_atoms::{Linked, linked_atoms};
 use crate::site_orders::{SiteEnds, ordered_ends};
@@ -11,9 +12,6 @@ use mk_ctab::{RawTable, natural};
 use mk_model::Slot;
 use mk_text::{Memory, Numbers};
 use std::alloc::Global;
-
-// How many groups there are.
-const GROUPS: u32 = 32;
 
 /// The sites and links of a table, by rising atom.
 pub fn table_slots(alloc: Global, table: &RawTable) -> Result<Vec<Slot>, Memory>

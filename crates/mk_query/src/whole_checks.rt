@@ -1,60 +1,43 @@
 // The checks across the tables of a raw query.
-ghost use Rattle.std.specs.Prelude.{◌≡◌, ◌≤◌, ◌<◌, ◌+◌, ◌^◌, All, IfOk, length, if◌then◌else◌};
+ghost use Rattle.std.specs.Prelude.{◌≡◌, ◌≤◌, ◌<◌, IfOk, if◌then◌else◌};
 ghost use Rattle.mk_text.specs.Items.{FindsLeast};
-ghost use Rattle.mk_model.specs.QueryFits.{HasRisingSlots};
-ghost use Rattle.mk_rgfile.specs.QueryFacts.{member_count, members_in};
+ghost use Rattle.mk_rgfile.specs.QueryFacts.{members_in};
 ghost use Rattle.mk_query.specs.CompileFaults.{IsWhole, groups_of_number};
 ghost use Rattle.mk_query.specs.InRange.{IsQueryInRange};
-ghost use Rattle.mk_query.specs.OwnSizes.{IsSized};
-ghost use Rattle.mk_query.specs.Recursion.{NamesGroups};
 ghost use Rattle.mk_query.specs.TableWalk.{FindsAcross};
 
 use crate::compile_fault::FaultAt;
+use crate::draft::{Draft, GROUPS};
 use crate::point_fits::first_misfit;
 use crate::recursion::first_recursive;
 use crate::root_sizes::is_small;
-use mk_model::{Group, Template};
 use mk_rgfile::{RawGroup, RawQuery};
 use mk_text::Memory;
 use std::alloc::Global;
 
-// How many groups there are, and how many members there may be.
-const GROUPS: u32 = 32;
-
+// How many members there may be.
 const MOST_MEMBERS: usize = 4096;
 
 /// The first of the checks across tables that fails.
-pub fn first_across(
-    alloc: Global,
-    raw: &RawQuery,
-    templates: &[Template],
-    groups: &[Group],
-) -> Result<Option<FaultAt>, Memory>
-    requires in_range { IsQueryInRange raw.now }
-    requires some { 0 < length templates.now }
-    requires few { length templates.now < 2 ^ 32 }
-    requires all { length groups.now ≡ 32 }
-    requires members { All (λ group. All (λ u. u < length templates.now) group.members) groups.now }
-    requires labels { All (λ template. All NamesGroups template.slots) templates.now }
-    requires rising { All HasRisingSlots templates.now }
-    requires sized { All (λ template. IsSized template) templates.now }
-    ensures { IfOk result (FindsAcross raw.now (record { templates = templates.now; groups = groups.now })) }
+pub fn first_across(alloc: Global, raw: &RawQuery, draft: &Draft) -> Result<Option<FaultAt>, Memory>
+    requires { IsQueryInRange raw.now }
+    ensures { IfOk result (FindsAcross raw.now draft.now) }
 {
-    if let Some(table) = first_recursive(alloc, templates, groups)? {
+    if let Some(table) = first_recursive(alloc, draft)? {
         return Ok(Some(FaultAt {
             check: 11,
             table,
             item: 0,
         }));
     }
-    if let Some(place) = first_misfit(alloc, templates, groups)? {
+    if let Some(place) = first_misfit(alloc, draft)? {
         return Ok(Some(FaultAt {
             check: 12,
             table: place.table,
             item: place.atom,
         }));
     }
-    let small = is_small(alloc, templates, groups)?;
+    let small = is_small(alloc, draft)?;
     if !small {
         return Ok(Some(FaultAt {
             check: 13,

@@ -11,7 +11,7 @@ use Rattle.mk_query.proofs.own_sizes.own_size.Goals as goal
 pub of-requires-clause-few : goal.of-requires-clause-few
 of-requires-clause-few c =
     let are = c.deref.ensures.value ∙ c.in_ok-edges.ensures ∙ ap (λ (l : List QueryBond). query_edges l) c.bonds.ensures in
-    omega (arith, ap length are, length-map c.args.template.now.bonds query_edge, c.requires.sized.few_bonds)
+    omega (arith, ap length are, length-map c.args.template.now.bonds query_edge, c.requires.few_bonds)
 
 pub loop-i-preserved : goal.loop-i-preserved
 loop-i-preserved c =
@@ -36,8 +36,8 @@ loop-i-preserved c =
       few = omega (arith, c.capped-links.ensures);
     }
 
-pub returns-clause-own : goal.returns-clause-own
-returns-clause-own c =
+pub returns : goal.returns
+returns c =
     let template = c.args.template.now in
     let all = rw c.slots-slots.ensures at c.loop-i-test.false in
     let number = rw (c.deref-2.ensures.value, c.atoms.ensures) at c.marked.ensures.count in

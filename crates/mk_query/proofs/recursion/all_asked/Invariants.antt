@@ -1,19 +1,14 @@
-use Rattle.std.proofs.Common.{◌≡◌, ◌<◌, ◌+◌, ◌*◌, ◌≤◌, length}
+use Rattle.std.proofs.Common.{◌≡◌, ◌*◌, length}
 use Rattle.mk_query.specs.Recursion.{HoldSoFar, asks_for}
+use Rattle.mk_query.proofs.RecursionLemmas.{HoldTo}
 use Rattle.mk_query.proofs.recursion.all_asked.Given as goal
 
 abbrev pub invariant-loop-a : goal.invariant-loop-a
 invariant-loop-a l =
     record {
       size : length l.list.items ≡ 32 * l.a;
-      each : HoldSoFar (asks_for (record { templates = l.templates; groups = l.groups })) l.list.items;
+      each : HoldSoFar (asks_for l.draft) l.list.items;
     }
 
 abbrev pub invariant-loop-b : goal.invariant-loop-b
-invariant-loop-b l =
-    record {
-      row : l.a < 32;
-      size : length l.list.items ≡ 32 * l.a + l.b;
-      column : l.b ≤ 32;
-      each : HoldSoFar (asks_for (record { templates = l.templates; groups = l.groups })) l.list.items;
-    }
+invariant-loop-b l = HoldTo (asks_for l.draft) l.list.items l.a l.b

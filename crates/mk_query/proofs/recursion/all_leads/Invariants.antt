@@ -6,5 +6,5 @@ abbrev pub invariant-loop-k : goal.invariant-loop-k
 invariant-loop-k l =
     record {
       most : l.k ≤ 32;
-      holds : Holds (leads (record { templates = l.templates; groups = l.groups }) l.k) l.list.items;
+      holds : Holds (leads l.draft l.k) l.list.items;
     }

@@ -1,5 +1,6 @@
-use Rattle.std.proofs.Common.{◌≡◌, ◌<◌, ◌+◌, ◌*◌, ◌≤◌, ◌&&◌, ◌||◌, length}
+use Rattle.std.proofs.Common.{◌≡◌, ◌+◌, ◌*◌, ◌&&◌, ◌||◌, length}
 use Rattle.mk_query.specs.Recursion.{HoldSoFar, entry}
+use Rattle.mk_query.proofs.RecursionLemmas.{HoldTo}
 use Rattle.mk_query.proofs.recursion.by_way_of.Given as goal
 
 abbrev pub invariant-loop-a : goal.invariant-loop-a
@@ -10,10 +11,4 @@ invariant-loop-a l =
     }
 
 abbrev pub invariant-loop-b : goal.invariant-loop-b
-invariant-loop-b l =
-    record {
-      row : l.a < 32;
-      size : length l.new.items ≡ 32 * l.a + l.b;
-      column : l.b ≤ 32;
-      each : HoldSoFar (λ g h. entry l.list g h || (entry l.list g (l.k + 1) && entry l.list (l.k + 1) h)) l.new.items;
-    }
+invariant-loop-b l = HoldTo (λ g h. entry l.list g h || (entry l.list g (l.k + 1) && entry l.list (l.k + 1) h)) l.new.items l.a l.b

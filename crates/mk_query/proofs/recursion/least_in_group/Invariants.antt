@@ -1,11 +1,12 @@
-use Rattle.std.proofs.Common.{◌<◌, ◌≤◌, ℕ, take}
+use Rattle.std.proofs.Common.{◌<◌, ◌≤◌, ◌+◌}
 use Rattle.mk_query.specs.Recursion.{ComesBack}
+use Rattle.mk_query.proofs.RecursionLemmas.{IsLow}
 use Rattle.mk_query.proofs.recursion.least_in_group.Given as goal
 
 abbrev pub invariant-loop-i : goal.invariant-loop-i
 invariant-loop-i l =
     record {
       most : l.least ≤ l.bound;
-      found : l.least < l.bound → ComesBack l.templates l.leads l.members l.g l.least;
-      lowest : (u : ℕ) → ComesBack l.templates l.leads (take l.i l.members) l.g u → l.least ≤ u;
+      found : l.least < l.bound → ComesBack l.draft l.leads l.members (l.g + 1) l.least;
+      lowest : IsLow l.draft l.leads l.members (l.g + 1) l.i l.i l.least;
     }

@@ -1,4 +1,4 @@
-use Rattle.std.proofs.Common.{◌≡◌, ◌≤◌, ◌<◌, ◌+◌, ℕ, All, length}
+use Rattle.std.proofs.Common.{◌≡◌, ◌≤◌, ◌<◌, ◌+◌, ℕ, length}
 use Rattle.std.specs.Prelude.{slice_index_or}
 use Rattle.mk_model.specs.Queries.{members_of}
 use Rattle.mk_model.specs.Sizes.{greatest}
@@ -10,6 +10,5 @@ invariant-loop-g l =
     record {
       size : length l.next.items ≡ l.g;
       few : l.g ≤ 32;
-      each : (g : ℕ) → g < l.g → slice_index_or l.next.items g 0 ≡ greatest (size_by_lists l.templates l.own l.of_groups) (members_of (record { templates = l.templates; groups = l.groups }) (g + 1));
-      capped : All (λ (n : ℕ). n ≤ 513) l.next.items;
+      each : (g : ℕ) → g < l.g → slice_index_or l.next.items g 0 ≡ greatest (size_by_lists l.draft l.own l.of_groups) (members_of l.draft (g + 1));
     }
