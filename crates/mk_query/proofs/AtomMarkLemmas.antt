@@ -1,5 +1,4 @@
 -- What the code knows of the atoms of a table, as the definitions tell it.
---     place_of      the atoms of the table have their places
 --     site_is, bears_is, link_none, link_some     what is asked of an atom
 use Rattle.std.proofs.Common.{◌≡◌, ◌≤◌, ◌+◌, ◌-◌, ℕ, false, List, [], refl, ap, ◌∙◌, length, get_or, arith}
 use Rattle.std.specs.Prelude.{pos}
@@ -9,19 +8,11 @@ use Rattle.mk_ctab.specs.Charges.{last_or, values_for}
 use Rattle.mk_query.specs.declared.atom_marks.Standing.{Standing}
 use Rattle.mk_query.specs.declared.linked_atoms.Linked.{Linked}
 use Rattle.mk_query.specs.declared.linked_atoms.Linked.TheVariants as linked
-use Rattle.mk_query.specs.AtomMarks.{AreStanding, HasPlace, bears, is_link, is_marked_site}
+use Rattle.mk_query.specs.AtomMarks.{AreStanding, bears, is_link, is_marked_site}
 use Rattle.mk_query.specs.Drawn.{bears_point, gives_point, is_site_at, links_at, links_for, pairs_by, point_pairs}
 use Rattle.mk_query.specs.LinkMarks.{IsLinked, is_named}
 use Rattle.mk_query.proofs.MarkLemmas.{marks-at}
 use Rattle.mk_query.proofs.SiteLemmas.{site_noted}
-
-pub place_of : (table : RawTable) (standing : Standing) (x : ℕ) → AreStanding table standing → 1 ≤ x → x ≤ length table.atoms → HasPlace standing x
-place_of table standing x are least most = record {
-  least = least;
-  of_sites = omega (arith, are.sites_size);
-  of_points = omega (arith, are.points_size);
-  of_links = omega (arith, are.links_size);
-}
 
 pub site_is : (table : RawTable) (standing : Standing) (x : ℕ) → AreStanding table standing → is_marked_site standing x ≡ is_site_at table x
 site_is table standing x are = site_noted table standing.sites.items x are.sites_are

@@ -1,21 +1,24 @@
 // What stands at the atoms of a table: how it is gathered, and what is asked of one atom.
 ghost use Rattle.std.specs.Prelude.{◌≡◌, ◌≤◌, ◌-◌, pos, IfOk, length, slice_index_or};
 ghost use Rattle.mk_query.specs.declared.linked_atoms.Linked.TheVariants.{Nothing};
-ghost use Rattle.mk_query.specs.AtomMarks.{AreStanding, HasPlace, bears, is_link, is_marked_site};
+ghost use Rattle.mk_query.specs.AtomMarks.{AreStanding, bears, is_link, is_marked_site};
 ghost use Rattle.mk_query.specs.Drawn.{gives_point};
 
-use crate::drawn::sites_of;
+use crate::drawn::{Labels, Near, labels_of, neighbours_of, sites_of};
 use crate::linked_atoms::{Linked, linked_atoms};
+use crate::sites::site_mark;
 use crate::values::{ValueKind, last_values};
 use mk_ctab::{RawTable, natural};
 use mk_text::Memory;
 use std::alloc::Global;
 
-/// For each atom, whether it is a site, the value of its attachment points, and the links that name
-/// it.
+/// For each atom, whether it is a site, its neighbours, its labels, the value of its attachment
+/// points, and the links that name it.
 #[derive(Debug, Drop)]
 pub struct Standing {
     pub sites: Vec<bool>,
+    pub near: Vec<Near>,
+    pub labels: Vec<Labels>,
     pub points: Vec<i32>,
     pub links: Vec<Linked>,
 }
@@ -25,12 +28,17 @@ pub fn standing_of(alloc: Global, table: &RawTable) -> Result<Standing, Memory>
     ensures { IfOk result (AreStanding table.now) }
 {
     let atoms = table.atoms.as_slice();
+    let count = atoms.len() as u32;
     let props = table.props.as_slice();
     let sites = sites_of(alloc, atoms)?;
-    let points = last_values(alloc, atoms.len() as u32, props, ValueKind::Points)?;
-    let links = linked_atoms(alloc, atoms.len() as u32, props)?;
+    let near = neighbours_of(alloc, count, table.bonds.as_slice())?;
+    let labels = labels_of(alloc, count, props)?;
+    let points = last_values(alloc, count, props, ValueKind::Points)?;
+    let links = linked_atoms(alloc, count, props)?;
     Ok(Standing {
         sites,
+        near,
+        labels,
         points,
         links,
     })
@@ -38,23 +46,25 @@ pub fn standing_of(alloc: Global, table: &RawTable) -> Result<Standing, Memory>
 
 /// Whether atom x is a site.
 pub fn is_marked_site(standing: &Standing, x: u32) -> bool
-    requires { HasPlace standing.now x }
     ensures { result ≡ is_marked_site standing.now x }
 {
-    standing.sites[x as usize - 1]
+    site_mark(standing.sites.as_slice(), x)
 }
 
 /// The links that name atom x.
 pub fn links_at(standing: &Standing, x: u32) -> Linked
-    requires { HasPlace standing.now x }
     ensures { result ≡ slice_index_or standing.now.links.items (x - 1) Nothing }
 {
-    standing.links[x as usize - 1]
+    standing
+        .links
+        .as_slice()
+        .get((x as usize).saturating_sub(1))
+        .copied()
+        .unwrap_or(Linked::Nothing)
 }
 
 /// Whether some link names atom x.
 pub fn is_link(standing: &Standing, x: u32) -> bool
-    requires { HasPlace standing.now x }
     ensures { result ≡ is_link standing.now x }
 {
     match links_at(standing, x) {
@@ -65,10 +75,19 @@ pub fn is_link(standing: &Standing, x: u32) -> bool
 
 /// Whether atom x bears point p.
 pub fn bears(standing: &Standing, p: u32, x: u32) -> bool
-    requires { HasPlace standing.now x }
     ensures { result ≡ bears standing.now p x }
 {
-    gives_point(standing.points[x as usize - 1], p)
+    gives_point(value_of(standing.points.as_slice(), x), p)
+}
+
+// The value of atom x, and 0 where there is none.
+fn value_of(values: &[i32], x: u32) -> i32
+    ensures { result ≡ slice_index_or values.now (x - 1) (pos 0) }
+{
+    values
+        .get((x as usize).saturating_sub(1))
+        .copied()
+        .unwrap_or(0)
 }
 
 pub fn gives_point(value: i32, p: u32) -> bool

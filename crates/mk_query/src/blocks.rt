@@ -4,14 +4,15 @@
 // The search goes from the link over the other bonds, and stops at the first atom that a block may
 // not hold. So the blocks that are searched whole have no atom in common.
 ghost use Rattle.std.specs.Prelude.{◌≡◌, ◌≤◌, ◌<◌, ◌+◌, ◌-◌, ◌↔◌, ◌||◌, false, true, IfOk, IsTrue, OnOk, length, slice_index, slice_index_or};
-ghost use Rattle.mk_model.specs.Edges.{AreBetween, rows_of};
+ghost use Rattle.mk_model.specs.Edges.{AreBetween};
 ghost use Rattle.mk_model.specs.Templates.{hang_together, joins, query_edges};
-ghost use Rattle.mk_query.specs.AtomMarks.{HasEachPlace, HasPlace, bears, is_link, is_marked_site};
+ghost use Rattle.mk_query.specs.AtomMarks.{bears, is_link, is_marked_site};
 ghost use Rattle.mk_query.specs.BlockSearch.{AreNumbersOf, HasPlainBlock, IsBlock, IsLonger, IsReached, KeepReached, LeadsOn, MayHold, is_own, is_reached, others, unreached};
 
 use crate::atom_marks::{Standing, bears, is_link, is_marked_site};
+use crate::bonded::Bonded;
 use crate::drawn_bonds::joins;
-use mk_model::{Neighbours, QueryBond};
+use mk_model::QueryBond;
 use mk_text::Memory;
 use std::alloc::Global;
 
@@ -26,22 +27,15 @@ pub struct LinkEnds {
 /// Whether the block of the link holds nothing that it may not hold.
 pub fn has_plain_block(
     alloc: Global,
-    atoms: u32,
-    near: &Neighbours,
-    bonds: &[QueryBond],
+    bonded: &Bonded<'_>,
     standing: &Standing,
     link: LinkEnds,
 ) -> Result<bool, Memory>
-    requires few { atoms ≤ 999 }
-    requires size { length near.now ≡ atoms }
-    requires ends { AreBetween atoms (query_edges bonds.now) }
-    requires rows { near.now ≡ rows_of atoms (query_edges bonds.now) }
-    requires places { HasEachPlace standing.now atoms }
     requires least { 1 ≤ link.atom }
-    requires most { link.atom ≤ atoms }
-    ensures { IfOk result (λ plain. IsTrue plain ↔ HasPlainBlock bonds.now standing.now link) }
+    requires most { link.atom ≤ bonded.now.atoms }
+    ensures { IfOk result (λ plain. IsTrue plain ↔ HasPlainBlock bonded.now.bonds.now standing.now link) }
 {
-    let mut reached = vec![in alloc; false; atoms as usize + 1]?;
+    let mut reached = vec![in alloc; false; bonded.atoms as usize + 1]?;
     let mut queue = Vec::with_capacity(alloc, 1)?;
     reached[link.atom as usize] = true;
     queue.push(link.atom)?;
@@ -54,8 +48,8 @@ pub fn has_plain_block(
         follow(
             &mut reached,
             &mut queue,
-            numbers_of(near, bonds, y),
-            bonds,
+            bonded.numbers_of(y),
+            bonded.bonds,
             link,
             y,
         )?;
@@ -65,23 +59,13 @@ pub fn has_plain_block(
 }
 
 /// For each atom whether it is in the block of the link; place 0 stands for none.
-pub fn block_of(
-    alloc: Global,
-    atoms: u32,
-    near: &Neighbours,
-    bonds: &[QueryBond],
-    link: LinkEnds,
-) -> Result<Vec<bool>, Memory>
-    requires few { atoms ≤ 999 }
-    requires size { length near.now ≡ atoms }
-    requires ends { AreBetween atoms (query_edges bonds.now) }
-    requires rows { near.now ≡ rows_of atoms (query_edges bonds.now) }
+pub fn block_of(alloc: Global, bonded: &Bonded<'_>, link: LinkEnds) -> Result<Vec<bool>, Memory>
     requires least { 1 ≤ link.atom }
-    requires most { link.atom ≤ atoms }
-    ensures size { IfOk result (λ block. length block.items ≡ atoms + 1) }
-    ensures block { IfOk result (λ block. IsBlock bonds.now link block.items) }
+    requires most { link.atom ≤ bonded.now.atoms }
+    ensures size { IfOk result (λ block. length block.items ≡ bonded.now.atoms + 1) }
+    ensures block { IfOk result (λ block. IsBlock bonded.now.bonds.now link block.items) }
 {
-    let mut reached = vec![in alloc; false; atoms as usize + 1]?;
+    let mut reached = vec![in alloc; false; bonded.atoms as usize + 1]?;
     let mut queue = Vec::with_capacity(alloc, 1)?;
     reached[link.atom as usize] = true;
     queue.push(link.atom)?;
@@ -91,8 +75,8 @@ pub fn block_of(
         follow(
             &mut reached,
             &mut queue,
-            numbers_of(near, bonds, y),
-            bonds,
+            bonded.numbers_of(y),
+            bonded.bonds,
             link,
             y,
         )?;
@@ -101,19 +85,8 @@ pub fn block_of(
     Ok(reached)
 }
 
-/// The numbers of the bonds of atom y.
-pub fn numbers_of<'a>(near: &'a Neighbours, bonds: &[QueryBond], y: u32) -> &'a [u32]
-    requires rows { near.now ≡ rows_of (length near.now) (query_edges bonds.now) }
-    requires least { 1 ≤ y }
-    requires most { y ≤ length near.now }
-    ensures { AreNumbersOf bonds.now y result.now }
-{
-    near.at(y)
-}
-
 // Whether the block of the link may hold the atom.
 fn may_hold(standing: &Standing, link: LinkEnds, y: u32) -> bool
-    requires { HasPlace standing.now y }
     ensures { IsTrue result ↔ MayHold standing.now link y }
 {
     y != link.from
@@ -125,7 +98,6 @@ fn may_hold(standing: &Standing, link: LinkEnds, y: u32) -> bool
 }
 
 fn is_no_other_link(standing: &Standing, link: LinkEnds, y: u32) -> bool
-    requires { HasPlace standing.now y }
     ensures { result ≡ true ↔ (¬ (y ≡ link.atom) → is_link standing.now y ≡ false) }
 {
     y == link.atom || !is_link(standing, y)

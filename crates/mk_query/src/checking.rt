@@ -10,6 +10,7 @@ use crate::bond_checks::first_unknown_bond;
 use crate::links::first_unknown_link;
 use crate::lists::first_unlisted_atom;
 use crate::logic_lines::first_unknown_logic;
+use crate::notes::Notes;
 use crate::orders::first_disordered_site;
 use crate::points::first_misplaced_point;
 use crate::property_checks::first_unknown_property;
@@ -38,13 +39,27 @@ pub fn fault_by(
     requires few_properties { length table.now.props < 2 ^ 32 }
     ensures { IfOk result (λ found. (groups : List RawGroup) → AreServed groups served.now → FindsFirst groups is_root table.now found) }
 {
-    if let Some(fault) = fault_of_lines(alloc, table)? {
+    let notes = Notes::of(alloc, table)?;
+    fault_of_table(alloc, served, is_root, &notes)
+}
+
+fn fault_of_table(
+    alloc: Global,
+    served: &[bool],
+    is_root: bool,
+    notes: &Notes<'_>,
+) -> Result<Option<Fault>, Memory>
+    requires few_bonds { length notes.now.table.now.bonds ≤ 999 }
+    requires few_properties { length notes.now.table.now.props < 2 ^ 32 }
+    ensures { IfOk result (λ found. (groups : List RawGroup) → AreServed groups served.now → FindsFirst groups is_root notes.now.table.now found) }
+{
+    if let Some(fault) = fault_of_lines(alloc, notes.table)? {
         return Ok(Some(fault));
     }
-    if let Some(fault) = fault_of_sites(alloc, served, table)? {
+    if let Some(fault) = fault_of_sites(alloc, served, notes)? {
         return Ok(Some(fault));
     }
-    fault_of_slots(alloc, is_root, table)
+    fault_of_slots(alloc, is_root, notes)
 }
 
 // The first of the checks of lines alone, Q1 to Q3.
@@ -70,43 +85,45 @@ fn fault_of_lines(alloc: Global, table: &RawTable) -> Result<Option<Fault>, Memo
 }
 
 // The first of the checks of lists, labels and sites, Q4 to Q7.
-fn fault_of_sites(alloc: Global, served: &[bool], table: &RawTable) -> Result<Option<Fault>, Memory>
-    requires few_atoms { length table.now.atoms ≤ 999 }
-    requires few_properties { length table.now.props < 2 ^ 32 }
-    requires labels { All HasKnownLabels table.now.props }
+fn fault_of_sites(
+    alloc: Global,
+    served: &[bool],
+    notes: &Notes<'_>,
+) -> Result<Option<Fault>, Memory>
+    requires few_properties { length notes.now.table.now.props < 2 ^ 32 }
+    requires labels { All HasKnownLabels notes.now.table.now.props }
     ensures { IfOk result (λ found. (groups : List RawGroup) (is_root : Bool) → AreServed groups served.now
-        → PassesBelow groups is_root table.now 4 → FindsBelow groups is_root table.now 8 found) }
+        → PassesBelow groups is_root notes.now.table.now 4 → FindsBelow groups is_root notes.now.table.now 8 found) }
 {
-    if let Some(item) = first_unlisted_atom(alloc, table)? {
+    if let Some(item) = first_unlisted_atom(alloc, notes.table)? {
         return Ok(Some(Fault { check: 4, item }));
     }
-    if let Some(item) = first_unlabelled_atom(alloc, served, table)? {
+    if let Some(item) = first_unlabelled_atom(served, notes) {
         return Ok(Some(Fault { check: 5, item }));
     }
-    if let Some(item) = first_misplaced_site(alloc, table)? {
+    if let Some(item) = first_misplaced_site(notes) {
         return Ok(Some(Fault { check: 6, item }));
     }
-    if let Some(item) = first_disordered_site(alloc, table)? {
+    if let Some(item) = first_disordered_site(alloc, notes)? {
         return Ok(Some(Fault { check: 7, item }));
     }
     Ok(None)
 }
 
 // The first of the checks of points, links and logic, Q8 to Q10.
-fn fault_of_slots(alloc: Global, is_root: bool, table: &RawTable) -> Result<Option<Fault>, Memory>
-    requires few_atoms { length table.now.atoms ≤ 999 }
-    requires few_bonds { length table.now.bonds ≤ 999 }
-    requires few_properties { length table.now.props < 2 ^ 32 }
-    requires bonds { (item : ℕ) → IsQueryBond (length table.now.atoms) table.now.bonds item }
-    ensures { IfOk result (λ found. (groups : List RawGroup) → PassesBelow groups is_root table.now 8 → FindsFirst groups is_root table.now found) }
+fn fault_of_slots(alloc: Global, is_root: bool, notes: &Notes<'_>) -> Result<Option<Fault>, Memory>
+    requires few_bonds { length notes.now.table.now.bonds ≤ 999 }
+    requires few_properties { length notes.now.table.now.props < 2 ^ 32 }
+    requires bonds { (item : ℕ) → IsQueryBond (length notes.now.table.now.atoms) notes.now.table.now.bonds item }
+    ensures { IfOk result (λ found. (groups : List RawGroup) → PassesBelow groups is_root notes.now.table.now 8 → FindsFirst groups is_root notes.now.table.now found) }
 {
-    if let Some(item) = first_misplaced_point(alloc, is_root, table)? {
+    if let Some(item) = first_misplaced_point(is_root, notes) {
         return Ok(Some(Fault { check: 8, item }));
     }
-    if let Some(item) = first_unknown_link(alloc, table)? {
+    if let Some(item) = first_unknown_link(alloc, notes)? {
         return Ok(Some(Fault { check: 9, item }));
     }
-    if let Some(item) = first_unknown_logic(alloc, is_root, table.props.as_slice())? {
+    if let Some(item) = first_unknown_logic(alloc, is_root, notes.table.props.as_slice())? {
         return Ok(Some(Fault { check: 10, item }));
     }
     Ok(None)

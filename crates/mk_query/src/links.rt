@@ -1,39 +1,36 @@
 // What is demanded of links.
 ghost use Rattle.std.specs.Prelude.{◌≡◌, ◌≢◌, ◌≤◌, ◌≤ℤ◌, ◌↔◌, ℕ, pos, IfOk, IsTrue, length};
 ghost use Rattle.mk_text.specs.Items.{FindsLeast};
-ghost use Rattle.mk_model.specs.Edges.{AreBetween, rows_of};
-ghost use Rattle.mk_model.specs.Templates.{joins, query_edges};
+ghost use Rattle.mk_model.specs.Templates.{joins};
 ghost use Rattle.mk_ctab.specs.Numbers.{IsAtom, natural};
-ghost use Rattle.mk_query.specs.AtomMarks.{HasEachPlace, HasPlace};
 ghost use Rattle.mk_query.specs.BlockSearch.{AreNumbersOf};
 ghost use Rattle.mk_query.specs.Checks.{IsQueryBond};
 ghost use Rattle.mk_query.specs.LinkChecks.{HasLink};
 ghost use Rattle.mk_query.specs.LinkSearch.{AreAlikeBonds, AreRightBy, HasLike, IsLike, IsLinkable, IsRightLink};
 
-use crate::atom_marks::{Standing, is_marked_site, links_at, standing_of};
-use crate::blocks::{LinkEnds, has_plain_block, numbers_of};
-use crate::drawn_bonds::{edges_of, joins, query_bonds_of};
+use crate::atom_marks::{Standing, is_marked_site, links_at};
+use crate::blocks::{LinkEnds, has_plain_block};
+use crate::bonded::Bonded;
+use crate::drawn_bonds::{joins, query_bonds_of};
 use crate::linked_atoms::Linked;
-use mk_ctab::{RawTable, is_atom, natural};
-use mk_model::{Neighbours, QueryBond};
+use crate::notes::Notes;
+use mk_ctab::{is_atom, natural};
+use mk_model::QueryBond;
 use mk_props::LinkEntry;
 use mk_text::Memory;
 use std::alloc::Global;
 
 /// The first atom that two links name, or whose link can't stand there.
-pub fn first_unknown_link(alloc: Global, table: &RawTable) -> Result<Option<u32>, Memory>
-    requires few_atoms { length table.now.atoms ≤ 999 }
-    requires few_bonds { length table.now.bonds ≤ 999 }
-    requires bonds { (item : ℕ) → IsQueryBond (length table.now.atoms) table.now.bonds item }
-    ensures { IfOk result (FindsLeast (HasLink table.now)) }
+pub fn first_unknown_link(alloc: Global, notes: &Notes<'_>) -> Result<Option<u32>, Memory>
+    requires few_bonds { length notes.now.table.now.bonds ≤ 999 }
+    requires bonds { (item : ℕ) → IsQueryBond (length notes.now.table.now.atoms) notes.now.table.now.bonds item }
+    ensures { IfOk result (FindsLeast (HasLink notes.now.table.now)) }
 {
-    let atoms = table.atoms.as_slice().len() as u32;
-    let standing = standing_of(alloc, table)?;
-    let bonds = query_bonds_of(alloc, table.bonds.as_slice())?;
-    let edges = edges_of(alloc, &bonds)?;
-    let near = Neighbours::of(alloc, atoms, &edges)?;
+    let atoms = notes.table.atoms.as_slice().len() as u32;
+    let bonds = query_bonds_of(alloc, notes.table.bonds.as_slice())?;
+    let bonded = Bonded::of(alloc, atoms, &bonds)?;
     for i in 0..atoms {
-        let right = are_right(alloc, atoms, &near, &bonds, &standing, i + 1)?;
+        let right = are_right(alloc, &bonded, &notes.standing, i + 1)?;
         if !right {
             return Ok(Some(i + 1));
         }
@@ -44,24 +41,17 @@ pub fn first_unknown_link(alloc: Global, table: &RawTable) -> Result<Option<u32>
 // Whether no link names atom x, or one that can stand there.
 fn are_right(
     alloc: Global,
-    atoms: u32,
-    near: &Neighbours,
-    bonds: &[QueryBond],
+    bonded: &Bonded<'_>,
     standing: &Standing,
     x: u32,
 ) -> Result<bool, Memory>
-    requires few { atoms ≤ 999 }
-    requires size { length near.now ≡ atoms }
-    requires ends { AreBetween atoms (query_edges bonds.now) }
-    requires rows { near.now ≡ rows_of atoms (query_edges bonds.now) }
-    requires places { HasEachPlace standing.now atoms }
     requires least { 1 ≤ x }
-    requires most { x ≤ atoms }
-    ensures { IfOk result (λ right. IsTrue right ↔ AreRightBy atoms bonds.now standing.now x) }
+    requires most { x ≤ bonded.now.atoms }
+    ensures { IfOk result (λ right. IsTrue right ↔ AreRightBy bonded.now.atoms bonded.now.bonds.now standing.now x) }
 {
     match links_at(standing, x) {
         Linked::Nothing => Ok(true),
-        Linked::One(link) => is_right_link(alloc, atoms, near, bonds, standing, x, &link),
+        Linked::One(link) => is_right_link(alloc, bonded, standing, x, &link),
         Linked::More => Ok(false),
     }
 }
@@ -69,32 +59,25 @@ fn are_right(
 // Whether the link can stand at atom x.
 fn is_right_link(
     alloc: Global,
-    atoms: u32,
-    near: &Neighbours,
-    bonds: &[QueryBond],
+    bonded: &Bonded<'_>,
     standing: &Standing,
     x: u32,
     link: &LinkEntry,
 ) -> Result<bool, Memory>
-    requires few { atoms ≤ 999 }
-    requires size { length near.now ≡ atoms }
-    requires ends { AreBetween atoms (query_edges bonds.now) }
-    requires rows { near.now ≡ rows_of atoms (query_edges bonds.now) }
-    requires places { HasEachPlace standing.now atoms }
     requires least { 1 ≤ x }
-    requires most { x ≤ atoms }
-    ensures { IfOk result (λ right. IsTrue right ↔ IsRightLink atoms bonds.now standing.now x link.now) }
+    requires most { x ≤ bonded.now.atoms }
+    ensures { IfOk result (λ right. IsTrue right ↔ IsRightLink bonded.now.atoms bonded.now.bonds.now standing.now x link.now) }
 {
-    let linkable = is_linkable(atoms, standing, x, link);
+    let linkable = is_linkable(bonded.atoms, standing, x, link);
     if !linkable {
         return Ok(false);
     }
     let ends = ends_of(x, link);
-    let alike = are_alike(bonds, numbers_of(near, bonds, x), ends);
+    let alike = are_alike(bonded.bonds, bonded.numbers_of(x), ends);
     if !alike {
         return Ok(false);
     }
-    has_plain_block(alloc, atoms, near, bonds, standing, ends)
+    has_plain_block(alloc, bonded, standing, ends)
 }
 
 fn ends_of(x: u32, link: &LinkEntry) -> LinkEnds
@@ -109,7 +92,6 @@ fn ends_of(x: u32, link: &LinkEntry) -> LinkEnds
 
 // Whether the atom is no site, and the numbers of the link are such as there are.
 fn is_linkable(atoms: u32, standing: &Standing, x: u32, link: &LinkEntry) -> bool
-    requires { HasPlace standing.now x }
     ensures { IsTrue result ↔ IsLinkable atoms standing.now x link.now }
 {
     !is_marked_site(standing, x)

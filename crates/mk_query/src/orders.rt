@@ -1,33 +1,38 @@
 // What is demanded of the orders of sites' neighbours.
-ghost use Rattle.std.specs.Prelude.{◌≡◌, ◌≤◌, ◌<◌, ◌+◌, ◌^◌, ◌==◌, ◌||◌, ◌↔◌, ℕ, pos, false, Some, IfOk, IsTrue, length, slice_index_or, if◌then◌else◌};
+ghost use Rattle.std.specs.Prelude.{◌≡◌, ◌≤◌, ◌<◌, ◌+◌, ◌-◌, ◌^◌, ◌==◌, ◌||◌, ◌↔◌, ℕ, pos, false, Some, IfOk, IsTrue, length, slice_index_or, if◌then◌else◌};
 ghost use Rattle.mk_text.specs.Items.{FindsLeast};
 ghost use Rattle.mk_ctab.specs.Numbers.{IsAtom, natural};
+ghost use Rattle.mk_query.specs.declared.drawn.Near.TheVariants.{Nothing};
 ghost use Rattle.mk_query.specs.OrderSearch.{Gives, IsOrderBy, IsOrderedBy, IsSeen, Names, OrdersNear};
 ghost use Rattle.mk_query.specs.SiteChecks.{HasSiteOrder, HasSitePlace};
 
-use crate::drawn::{Near, neighbours_of, sites_of};
-use mk_ctab::{RawTable, is_atom, natural};
+use crate::drawn::Near;
+use crate::notes::Notes;
+use crate::sites::site_mark;
+use mk_ctab::{is_atom, natural};
 use mk_props::{Pair, Property, SiteOrder};
 use mk_text::Memory;
 use std::alloc::Global;
 
 /// The first `M  AAL` that isn't of a site, that a later one of the site supersedes, or that
 /// doesn't order the site's neighbours.
-pub fn first_disordered_site(alloc: Global, table: &RawTable) -> Result<Option<u32>, Memory>
-    requires few_atoms { length table.now.atoms ≤ 999 }
-    requires few_properties { length table.now.props < 2 ^ 32 }
-    requires placed { (item : ℕ) → HasSitePlace table.now item }
-    ensures { IfOk result (FindsLeast (HasSiteOrder table.now)) }
+pub fn first_disordered_site(alloc: Global, notes: &Notes<'_>) -> Result<Option<u32>, Memory>
+    requires few_properties { length notes.now.table.now.props < 2 ^ 32 }
+    requires placed { (item : ℕ) → HasSitePlace notes.now.table.now item }
+    ensures { IfOk result (FindsLeast (HasSiteOrder notes.now.table.now)) }
 {
-    let atoms = table.atoms.as_slice();
-    let sites = sites_of(alloc, atoms)?;
-    let near = neighbours_of(alloc, atoms.len() as u32, table.bonds.as_slice())?;
+    let atoms = notes.table.atoms.as_slice();
     let mut seen = vec![in alloc; false; atoms.len()]?;
-    let props = table.props.as_slice();
+    let props = notes.table.props.as_slice();
     let mut found = None;
     // from behind, so that the later ones of a site are known
     for i in (0..props.len()).rev() {
-        let right = is_ordered(&sites, &near, &seen, &props[i]);
+        let right = is_ordered(
+            &notes.standing.sites,
+            &notes.standing.near,
+            &seen,
+            &props[i],
+        );
         found = found_or(right, i as u32 + 1, found);
         mark_property(&mut seen, &props[i]);
     }
@@ -42,9 +47,7 @@ fn found_or(right: bool, item: u32, found: Option<u32>) -> Option<u32>
 }
 
 fn is_ordered(sites: &[bool], near: &[Near], seen: &[bool], property: &Property) -> bool
-    requires few { length sites.now ≤ 999 }
-    requires near { length near.now ≡ length sites.now }
-    requires seen { length seen.now ≡ length sites.now }
+    requires { length sites.now ≤ 999 }
     ensures { IsTrue result ↔ IsOrderedBy sites.now near.now seen.now property.now }
 {
     match property {
@@ -54,16 +57,23 @@ fn is_ordered(sites: &[bool], near: &[Near], seen: &[bool], property: &Property)
 }
 
 fn is_site_order(sites: &[bool], near: &[Near], seen: &[bool], order: &SiteOrder) -> bool
-    requires few { length sites.now ≤ 999 }
-    requires near { length near.now ≡ length sites.now }
-    requires seen { length seen.now ≡ length sites.now }
+    requires { length sites.now ≤ 999 }
     ensures { IsTrue result ↔ IsOrderBy sites.now near.now seen.now order.now }
 {
     if !names_atom(sites.len() as u32, order) {
         return false;
     }
-    let place = atom_of(order) as usize - 1;
-    sites[place] && !seen[place] && orders(order.entries.as_slice(), near[place])
+    let x = atom_of(order);
+    site_mark(sites, x) && !site_mark(seen, x) && orders(order.entries.as_slice(), near_at(near, x))
+}
+
+// The neighbours that are noted of atom x.
+fn near_at(near: &[Near], x: u32) -> Near
+    ensures { result ≡ slice_index_or near.now (x - 1) Nothing }
+{
+    near.get((x as usize).saturating_sub(1))
+        .copied()
+        .unwrap_or(Near::Nothing)
 }
 
 fn names_atom(atoms: u32, order: &SiteOrder) -> bool

@@ -1,16 +1,15 @@
 // What each template adds to a size by itself: its fixed atoms, and its links with their blocks.
 ghost use Rattle.std.specs.Prelude.{◌≡◌, ◌≤◌, ◌<◌, ◌+◌, ◌*◌, ◌==◌, ◌||◌, false, IfOk, length, slice_index_or, if◌then◌else◌, ℕ};
-ghost use Rattle.mk_model.specs.Edges.{AreBetween, rows_of};
-ghost use Rattle.mk_model.specs.Templates.{query_edges, slot_atom};
+ghost use Rattle.mk_model.specs.Templates.{slot_atom};
 ghost use Rattle.mk_query.specs.Draft.{IsDraft};
 ghost use Rattle.mk_query.specs.OwnSizes.{IsSized, Marks, is_taken, link_size_by, marked, takes};
 ghost use Rattle.mk_query.specs.RootSizes.{AreOwnSizes, capped, own_size};
 
 use crate::blocks::{LinkEnds, block_of};
+use crate::bonded::Bonded;
 use crate::draft::Draft;
-use crate::drawn_bonds::edges_of;
 use crate::root_sizes::capped;
-use mk_model::{Neighbours, QueryBond, Slot, Template};
+use mk_model::{Slot, Template};
 use mk_text::Memory;
 use std::alloc::Global;
 
@@ -33,13 +32,12 @@ fn own_size(alloc: Global, template: &Template) -> Result<u32, Memory>
     ensures { IfOk result (λ own. own ≡ capped (own_size template.now)) }
 {
     let atoms = template.atoms().len() as u32;
-    let edges = edges_of(alloc, template.bonds())?;
-    let near = Neighbours::of(alloc, atoms, &edges)?;
+    let bonded = Bonded::of(alloc, atoms, template.bonds())?;
     let slots = template.slots();
     let mut taken = vec![in alloc; false; atoms as usize + 1]?;
     let mut links = 0;
     for i in 0..slots.len() {
-        let by = taken_by(alloc, atoms, &near, template.bonds(), &slots[i])?;
+        let by = taken_by(alloc, &bonded, &slots[i])?;
         links = capped(links + link_size_by(atoms, &slots[i], &by));
         put(&mut taken, &by);
     }
@@ -47,20 +45,10 @@ fn own_size(alloc: Global, template: &Template) -> Result<u32, Memory>
 }
 
 // The atoms that a slot takes.
-fn taken_by(
-    alloc: Global,
-    atoms: u32,
-    near: &Neighbours,
-    bonds: &[QueryBond],
-    slot: &Slot,
-) -> Result<Vec<bool>, Memory>
-    requires few { atoms ≤ 999 }
-    requires size { length near.now ≡ atoms }
-    requires ends { AreBetween atoms (query_edges bonds.now) }
-    requires rows { near.now ≡ rows_of atoms (query_edges bonds.now) }
+fn taken_by(alloc: Global, bonded: &Bonded<'_>, slot: &Slot) -> Result<Vec<bool>, Memory>
     requires least { 1 ≤ slot_atom slot.now }
-    requires most { slot_atom slot.now ≤ atoms }
-    ensures { IfOk result (λ by. Marks atoms (takes bonds.now slot.now) by.items) }
+    requires most { slot_atom slot.now ≤ bonded.now.atoms }
+    ensures { IfOk result (λ by. Marks bonded.now.atoms (takes bonded.now.bonds.now slot.now) by.items) }
 {
     match slot {
         Slot::Link { atom, from, to, .. } => {
@@ -69,10 +57,10 @@ fn taken_by(
                 from: *from,
                 to: *to,
             };
-            let block = block_of(alloc, atoms, near, bonds, ends)?;
+            let block = block_of(alloc, bonded, ends)?;
             Ok(block)
         }
-        Slot::Site { atom, .. } => only(alloc, atoms, *atom),
+        Slot::Site { atom, .. } => only(alloc, bonded.atoms, *atom),
     }
 }
 

@@ -1,41 +1,32 @@
 // What is demanded of attachment points.
-ghost use Rattle.std.specs.Prelude.{◌≡◌, ◌≢◌, ◌≤◌, ◌↔◌, false, true, IfOk, IsTrue, length};
+ghost use Rattle.std.specs.Prelude.{◌≡◌, ◌≢◌, ◌↔◌, false, true, IsTrue};
 ghost use Rattle.mk_text.specs.Items.{FindsLeast};
-ghost use Rattle.mk_query.specs.AtomMarks.{HasEachPlace, HasPlace, bears, is_link, is_marked_site};
+ghost use Rattle.mk_query.specs.AtomMarks.{bears, is_link, is_marked_site};
 ghost use Rattle.mk_query.specs.LinkChecks.{HasPoint};
 ghost use Rattle.mk_query.specs.PointSearch.{IsFirstBearer, IsPointedBy};
 
-use crate::atom_marks::{Standing, bears, is_link, is_marked_site, standing_of};
-use mk_ctab::RawTable;
-use mk_text::Memory;
-use std::alloc::Global;
+use crate::atom_marks::{Standing, bears, is_link, is_marked_site};
+use crate::notes::Notes;
 
 /// The first atom that bears a point where there may be none, a point that a lower atom bears, or
 /// point 2 alone.
-pub fn first_misplaced_point(
-    alloc: Global,
-    is_root: bool,
-    table: &RawTable,
-) -> Result<Option<u32>, Memory>
-    requires { length table.now.atoms ≤ 999 }
-    ensures { IfOk result (FindsLeast (HasPoint is_root table.now)) }
+pub fn first_misplaced_point(is_root: bool, notes: &Notes<'_>) -> Option<u32>
+    ensures { FindsLeast (HasPoint is_root notes.now.table.now) result }
 {
-    let standing = standing_of(alloc, table)?;
-    let atoms = table.atoms.as_slice();
-    let first = first_bearer(&standing, 1, atoms.len() as u32);
-    let second = first_bearer(&standing, 2, atoms.len() as u32);
+    let standing = &notes.standing;
+    let atoms = notes.table.atoms.as_slice();
+    let first = first_bearer(standing, 1, atoms.len() as u32);
+    let second = first_bearer(standing, 2, atoms.len() as u32);
     for i in 0..atoms.len() {
-        if !is_pointed(is_root, &standing, first, second, i as u32 + 1) {
-            return Ok(Some(i as u32 + 1));
+        if !is_pointed(is_root, standing, first, second, i as u32 + 1) {
+            return Some(i as u32 + 1);
         }
     }
-    Ok(None)
+    None
 }
 
 // The lowest of so many atoms that bears point p, and 0 where none does.
 fn first_bearer(standing: &Standing, p: u32, atoms: u32) -> u32
-    requires few { atoms ≤ 999 }
-    requires places { HasEachPlace standing.now atoms }
     ensures { IsFirstBearer standing.now p atoms result }
 {
     for i in 0..atoms {
@@ -49,7 +40,6 @@ fn first_bearer(standing: &Standing, p: u32, atoms: u32) -> u32
 // Whether atom x may bear what it bears, where the lowest atoms that bear point 1 and point 2 are
 // these.
 fn is_pointed(is_root: bool, standing: &Standing, first: u32, second: u32, x: u32) -> bool
-    requires { HasPlace standing.now x }
     ensures { IsTrue result ↔ IsPointedBy is_root standing.now first second x }
 {
     let one = bears(standing, 1, x);

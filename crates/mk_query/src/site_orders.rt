@@ -1,12 +1,13 @@
-// The neighbours of sites in their order, in one pass over the bonds and one over the properties.
-ghost use Rattle.std.specs.Prelude.{◌≡◌, ◌≤◌, ◌<◌, ◌∷◌, [], pos, IfOk, length, map, slice_index_or};
+// The neighbours of sites in their order, in one pass over the properties.
+ghost use Rattle.std.specs.Prelude.{◌≡◌, ◌<◌, ◌∷◌, [], pos, IfOk, length, map, slice_index_or};
 ghost use Rattle.std.specs.Ordering.{int_eq};
 ghost use Rattle.mk_ctab.specs.Numbers.{natural};
 ghost use Rattle.mk_query.specs.Compiled.{atom_placed};
 ghost use Rattle.mk_query.specs.SlotMarks.{AreOrdered, HaveEnds, IsPutAt, ends_near, ends_placed};
 
-use crate::drawn::{Near, neighbours_of};
-use mk_ctab::{RawTable, natural};
+use crate::drawn::Near;
+use crate::notes::Notes;
+use mk_ctab::natural;
 use mk_props::{Pair, Property, SiteOrder};
 use mk_text::Memory;
 use std::alloc::Global;
@@ -19,15 +20,12 @@ pub struct SiteEnds {
 }
 
 /// For each atom its neighbours in the order that a site there gives them, where it has one or two.
-pub fn ordered_ends(alloc: Global, table: &RawTable) -> Result<Vec<SiteEnds>, Memory>
-    requires { length table.now.atoms ≤ 999 }
-    ensures size { IfOk result (λ ends. length ends.items ≡ length table.now.atoms) }
-    ensures ordered { IfOk result (λ ends. HaveEnds table.now ends.items) }
+pub fn ordered_ends(alloc: Global, notes: &Notes<'_>) -> Result<Vec<SiteEnds>, Memory>
+    ensures size { IfOk result (λ ends. length ends.items ≡ length notes.now.table.now.atoms) }
+    ensures ordered { IfOk result (λ ends. HaveEnds notes.now.table.now ends.items) }
 {
-    let atoms = table.atoms.as_slice().len() as u32;
-    let near = neighbours_of(alloc, atoms, table.bonds.as_slice())?;
-    let mut ends = ends_of(alloc, &near)?;
-    put_orders(&mut ends, table.props.as_slice());
+    let mut ends = ends_of(alloc, &notes.standing.near)?;
+    put_orders(&mut ends, notes.table.props.as_slice());
     Ok(ends)
 }
 

@@ -7,8 +7,9 @@ ghost use Rattle.mk_query.specs.Marks.{are_apart, AreAllServed, AreServed, HasKn
 ghost use Rattle.mk_query.specs.SiteChecks.{HasLabel, HasSitePlace, IsLabelled};
 
 use crate::draft::GROUPS;
-use crate::drawn::{Labels, Near, has_group, is_site, labels_of, neighbours_of, sites_of};
-use mk_ctab::{RawAtom, RawTable};
+use crate::drawn::{Labels, Near, has_group, is_site};
+use crate::notes::Notes;
+use mk_ctab::RawAtom;
 use mk_rgfile::RawGroup;
 use mk_text::Memory;
 use std::alloc::Global;
@@ -32,23 +33,17 @@ pub fn served_numbers(alloc: Global, groups: &[RawGroup]) -> Result<Vec<bool>, M
 
 /// The first atom that is a site without a label, has a label and is none, has a label twice, or
 /// one that names no members.
-pub fn first_unlabelled_atom(
-    alloc: Global,
-    served: &[bool],
-    table: &RawTable,
-) -> Result<Option<u32>, Memory>
-    requires few { length table.now.atoms ≤ 999 }
-    requires known { All HasKnownLabels table.now.props }
-    ensures { IfOk result (λ found. (groups : List RawGroup) → AreServed groups served.now → FindsLeast (HasLabel groups table.now) found) }
+pub fn first_unlabelled_atom(served: &[bool], notes: &Notes<'_>) -> Option<u32>
+    requires { All HasKnownLabels notes.now.table.now.props }
+    ensures { (groups : List RawGroup) → AreServed groups served.now → FindsLeast (HasLabel groups notes.now.table.now) result }
 {
-    let atoms = table.atoms.as_slice();
-    let labels = labels_of(alloc, atoms.len() as u32, table.props.as_slice())?;
+    let atoms = notes.table.atoms.as_slice();
     for (i, atom) in atoms.iter().enumerate() {
-        if !is_labelled(served, atom, labels[i]) {
-            return Ok(Some(i as u32 + 1));
+        if !is_labelled(served, atom, notes.standing.labels[i]) {
+            return Some(i as u32 + 1);
         }
     }
-    Ok(None)
+    None
 }
 
 fn is_labelled(served: &[bool], atom: &RawAtom, labels: Labels) -> bool
@@ -92,19 +87,16 @@ fn serves(served: &[bool], groups: u32, g: u32) -> bool
 }
 
 /// The first site that hasn't one or two neighbours, or has one that is a site.
-pub fn first_misplaced_site(alloc: Global, table: &RawTable) -> Result<Option<u32>, Memory>
-    requires { length table.now.atoms ≤ 999 }
-    ensures { IfOk result (FindsLeast (HasSitePlace table.now)) }
+pub fn first_misplaced_site(notes: &Notes<'_>) -> Option<u32>
+    ensures { FindsLeast (HasSitePlace notes.now.table.now) result }
 {
-    let atoms = table.atoms.as_slice();
-    let sites = sites_of(alloc, atoms)?;
-    let near = neighbours_of(alloc, atoms.len() as u32, table.bonds.as_slice())?;
+    let atoms = notes.table.atoms.as_slice();
     for (i, atom) in atoms.iter().enumerate() {
-        if !is_placed(&sites, atom, near[i]) {
-            return Ok(Some(i as u32 + 1));
+        if !is_placed(&notes.standing.sites, atom, notes.standing.near[i]) {
+            return Some(i as u32 + 1);
         }
     }
-    Ok(None)
+    None
 }
 
 fn is_placed(sites: &[bool], atom: &RawAtom, near: Near) -> bool

@@ -4,21 +4,18 @@ ghost use Rattle.mk_query.specs.Compiled.{points_of};
 ghost use Rattle.mk_query.specs.TemplateMarks.{bearers, bears_by};
 
 use crate::atom_marks::gives_point;
-use crate::values::{ValueKind, last_values};
-use mk_ctab::RawTable;
+use crate::notes::Notes;
 use mk_text::{Memory, Numbers};
 use std::alloc::Global;
 
 /// The atoms with attachment point 1 and with point 2.
-pub fn points_of(alloc: Global, table: &RawTable) -> Result<Numbers, Memory>
-    requires { length table.now.atoms ≤ 999 }
-    ensures { IfOk result (λ points. points ≡ points_of table.now) }
+pub fn points_of(alloc: Global, notes: &Notes<'_>) -> Result<Numbers, Memory>
+    ensures { IfOk result (λ points. points ≡ points_of notes.now.table.now) }
 {
-    let atoms = table.atoms.as_slice().len() as u32;
-    let values = last_values(alloc, atoms, table.props.as_slice(), ValueKind::Points)?;
+    let values = &notes.standing.points;
     let mut points = Vec::with_capacity(alloc, 2)?;
-    put_bearers(&mut points, &values, 1)?;
-    put_bearers(&mut points, &values, 2)?;
+    put_bearers(&mut points, values, 1)?;
+    put_bearers(&mut points, values, 2)?;
     Ok(Numbers::of(points))
 }
 

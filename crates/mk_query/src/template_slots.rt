@@ -1,35 +1,32 @@
 // The slots of a template, in one pass over the atoms.
-ghost use Rattle.std.specs.Prelude.{◌≡◌, ◌≤◌, ◌++◌, IfOk, OnOk, length};
+ghost use Rattle.std.specs.Prelude.{◌≡◌, ◌++◌, IfOk, OnOk};
 ghost use Rattle.mk_query.specs.Compiled.{slots_in, table_slots};
 ghost use Rattle.mk_query.specs.Passed.{HasPassed};
 ghost use Rattle.mk_query.specs.SlotMarks.{groups_in, slot_by};
 
 use crate::draft::GROUPS;
-use crate::drawn::{has_group, labels_of, sites_of};
-use crate::linked_atoms::{Linked, linked_atoms};
+use crate::drawn::has_group;
+use crate::linked_atoms::Linked;
+use crate::notes::Notes;
 use crate::site_orders::{SiteEnds, ordered_ends};
-use mk_ctab::{RawTable, natural};
+use mk_ctab::natural;
 use mk_model::Slot;
 use mk_text::{Memory, Numbers};
 use std::alloc::Global;
 
 /// The sites and links of a table, by rising atom.
-pub fn table_slots(alloc: Global, table: &RawTable) -> Result<Vec<Slot>, Memory>
-    requires few { length table.now.atoms ≤ 999 }
-    requires passed { HasPassed table.now }
-    ensures { IfOk result (λ slots. slots.items ≡ table_slots table.now) }
+pub fn table_slots(alloc: Global, notes: &Notes<'_>) -> Result<Vec<Slot>, Memory>
+    requires { HasPassed notes.now.table.now }
+    ensures { IfOk result (λ slots. slots.items ≡ table_slots notes.now.table.now) }
 {
-    let lines = table.atoms.as_slice();
-    let atoms = lines.len() as u32;
-    let props = table.props.as_slice();
-    let links = linked_atoms(alloc, atoms, props)?;
-    let sites = sites_of(alloc, lines)?;
-    let labels = labels_of(alloc, atoms, props)?;
-    let ends = ordered_ends(alloc, table)?;
+    let lines = notes.table.atoms.as_slice();
+    let noted = &notes.standing;
+    let ends = ordered_ends(alloc, notes)?;
     let mut slots = Vec::new(alloc);
     for i in 0..lines.len() {
         let x = i as u32 + 1;
-        let slot = slot_by(alloc, x, links[i], sites[i], labels[i].groups, ends[i])?;
+        let groups = noted.labels[i].groups;
+        let slot = slot_by(alloc, x, noted.links[i], noted.sites[i], groups, ends[i])?;
         put_slot(&mut slots, slot)?;
     }
     Ok(slots)

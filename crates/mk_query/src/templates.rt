@@ -5,6 +5,7 @@ ghost use Rattle.mk_query.specs.Passed.{HasPassed};
 
 use crate::atom_tests::tests_of;
 use crate::drawn_bonds::query_bonds_of;
+use crate::notes::Notes;
 use crate::template_points::points_of;
 use crate::template_slots::table_slots;
 use mk_ctab::RawTable;
@@ -18,9 +19,10 @@ pub fn template_of(alloc: Global, table: &RawTable) -> Result<Template, Memory>
     requires passed { HasPassed table.now }
     ensures { IfOk result (IsTemplateOf table.now) }
 {
+    let notes = Notes::of(alloc, table)?;
     let atoms = tests_of(alloc, table)?;
     let bonds = query_bonds_of(alloc, table.bonds.as_slice())?;
-    let slots = table_slots(alloc, table)?;
-    let points = points_of(alloc, table)?;
+    let slots = table_slots(alloc, &notes)?;
+    let points = points_of(alloc, &notes)?;
     Ok(Template::of(atoms, bonds, slots, points))
 }

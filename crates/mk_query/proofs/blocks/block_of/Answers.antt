@@ -15,29 +15,29 @@ pub loop-i-init : goal.loop-i-init
 loop-i-init c =
     let nothing = c.in_ok-reached.ensures.items_if_clones_equal (λ y e. e) in
     let one : c.push.new.self.items ≡ c.args.link.atom ∷ [] = c.in_ok-push.ensures.items ∙ ap (λ l. l ++ c.args.link.atom ∷ []) c.in_ok-queue.ensures.items in
-    let are : IsReached c.args.bonds.now c.args.link (set c.in_ok-reached.reached.items c.args.link.atom true) c.push.new.self.items =
-    rw one (reached-first c.args.bonds.now c.args.link c.args.atoms c.in_ok-reached.reached.items nothing c.requires.least c.requires.most) in
+    let are : IsReached c.args.bonded.now.bonds.now c.args.link (set c.in_ok-reached.reached.items c.args.link.atom true) c.push.new.self.items =
+    rw one (reached-first c.args.bonded.now.bonds.now c.args.link c.args.bonded.now.atoms c.in_ok-reached.reached.items nothing c.requires.least c.requires.most) in
     record {
-      size = length-set c.in_ok-reached.reached.items c.args.link.atom true ∙ ap length nothing ∙ length-replicate (c.args.atoms + 1) false;
+      size = length-set c.in_ok-reached.reached.items c.args.link.atom true ∙ ap length nothing ∙ length-replicate (c.args.bonded.now.atoms + 1) false;
       are = are;
       within = omega arith;
-      followed = followed-none c.args.bonds.now c.args.link _ c.push.new.self.items;
+      followed = followed-none c.args.bonded.now.bonds.now c.args.link _ c.push.new.self.items;
     }
 
 pub loop-i-preserved : goal.loop-i-preserved
 loop-i-preserved c =
     let at = there (goal.at.loop-i-preserved c).After-index-y in
-    let leads = subst (LeadsOn c.args.bonds.now c.args.link c.follow.new.reached.items) at.1 c.in_ok-follow.ensures.leads in
+    let leads = subst (LeadsOn c.args.bonded.now.bonds.now c.args.link c.follow.new.reached.items) at.1 c.in_ok-follow.ensures.leads in
     record {
       size = c.follow.ensures.size ∙ c.loop-i.invariant.size;
       are = c.in_ok-follow.ensures.reached;
       within = omega (arith, at.0, c.in_ok-follow.ensures.longer.size);
-      followed = followed-more c.args.bonds.now c.args.link c.loop-i.reached.items c.follow.new.reached.items c.loop-i.queue.items c.follow.new.queue.items c.loop-i.i at.0
+      followed = followed-more c.args.bonded.now.bonds.now c.args.link c.loop-i.reached.items c.follow.new.reached.items c.loop-i.queue.items c.follow.new.queue.items c.loop-i.i at.0
           c.in_ok-follow.ensures.kept c.in_ok-follow.ensures.longer leads c.loop-i.invariant.followed;
     }
 
 pub returns-clause-block : goal.returns-clause-block
 returns-clause-block c =
-    whole_block c.args.bonds.now c.args.link c.loop-i.reached.items c.loop-i.queue.items c.loop-i.i
+    whole_block c.args.bonded.now.bonds.now c.args.link c.loop-i.reached.items c.loop-i.queue.items c.loop-i.i
     (omega (arith, c.loop-i-test.false, c.len.ensures, c.loop-i.queue.ok.0)) c.loop-i.invariant.are
     c.loop-i.invariant.followed

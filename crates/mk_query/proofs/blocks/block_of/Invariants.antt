@@ -5,10 +5,10 @@ use Rattle.mk_query.proofs.blocks.block_of.Given as goal
 
 abbrev pub invariant-loop-i : goal.invariant-loop-i
 invariant-loop-i l = record {
-  size : length l.reached.items ≡ l.atoms + 1;
-  are : IsReached l.bonds l.link l.reached.items l.queue.items;
+  size : length l.reached.items ≡ l.bonded.atoms + 1;
+  are : IsReached l.bonded.bonds.now l.link l.reached.items l.queue.items;
   within : l.i ≤ length l.queue.items;
-  followed : AreFollowed l.bonds l.link l.reached.items l.queue.items l.i;
+  followed : AreFollowed l.bonded.bonds.now l.link l.reached.items l.queue.items l.i;
 }
 
 abbrev pub decreases-loop-i : goal.decreases-loop-i

@@ -5,10 +5,10 @@ use Rattle.mk_query.proofs.blocks.has_plain_block.Given as goal
 
 abbrev pub invariant-loop-i : goal.invariant-loop-i
 invariant-loop-i l = record {
-  size : length l.reached.items ≡ l.atoms + 1;
-  are : IsReached l.bonds l.link l.reached.items l.queue.items;
+  size : length l.reached.items ≡ l.bonded.atoms + 1;
+  are : IsReached l.bonded.bonds.now l.link l.reached.items l.queue.items;
   within : l.i ≤ length l.queue.items;
-  done : AreDone l.bonds l.standing l.link l.reached.items l.queue.items l.i;
+  done : AreDone l.bonded.bonds.now l.standing l.link l.reached.items l.queue.items l.i;
 }
 
 abbrev pub decreases-loop-i : goal.decreases-loop-i

@@ -1,33 +1,32 @@
-use Rattle.std.proofs.Common.{◌∙◌, ap, length, map, false}
+use Rattle.std.proofs.Common.{◌∙◌, ap, length, false}
 use Rattle.std.proofs.lemmas.List.{length-replicate}
-use Rattle.mk_query.specs.Drawn.{is_site}
 use Rattle.mk_query.proofs.OrderLemmas.{AreKnown, order_step, orders-all, orders-none, seen-none, seen_step}
 use Rattle.mk_query.proofs.orders.first_disordered_site.Goals as goal
 
 pub loop-i-init : goal.loop-i-init
 loop-i-init c = record {
   size = ap length (c.in_ok-seen.ensures.items_if_clones_equal (λ y e. e)) ∙ length-replicate _ false ∙ ap length c.as_slice-atoms.ensures;
-  seen = rw c.as_slice-props.ensures (seen-none c.args.table.now.props _ c.in_ok-seen.seen.items (c.in_ok-seen.ensures.items_if_clones_equal (λ y e. e)));
-  found = rw c.as_slice-props.ensures (orders-none c.args.table.now);
+  seen = rw c.as_slice-props.ensures (seen-none c.args.notes.now.table.now.props _ c.in_ok-seen.seen.items (c.in_ok-seen.ensures.items_if_clones_equal (λ y e. e)));
+  found = rw c.as_slice-props.ensures (orders-none c.args.notes.now.table.now);
 }
 
 pub loop-i-preserved : goal.loop-i-preserved
 loop-i-preserved c =
-    let known : AreKnown c.args.table.now c.loop-i.i c.in_ok-sites.sites.items c.in_ok-near.near.items c.loop-i.seen.items = record {
-      sites = c.in_ok-sites.ensures ∙ ap (map is_site) c.as_slice-atoms.ensures;
-      near_size = c.in_ok-near.ensures.size ∙ ap length c.as_slice-atoms.ensures;
-      near = rw c.as_slice.ensures at c.in_ok-near.ensures.near;
+    let known : AreKnown c.args.notes.now.table.now c.loop-i.i c.args.notes.now.standing.sites.items c.args.notes.now.standing.near.items c.loop-i.seen.items = record {
+      sites = c.args.notes.now.are.sites_are;
+      near_size = c.args.notes.now.are.near_size;
+      near = c.args.notes.now.are.near_are;
       seen_size = c.loop-i.invariant.size;
       seen = c.loop-i.invariant.seen;
       placed = c.requires.placed;
     } in
     record {
       size = c.mark_property.ensures.size ∙ c.loop-i.invariant.size;
-      seen = seen_step c.args.table.now.props c.loop-i.i c.index-props-i-in-loop-i.result c.loop-i.seen.items
+      seen = seen_step c.args.notes.now.table.now.props c.loop-i.i c.index-props-i-in-loop-i.result c.loop-i.seen.items
           c.mark_property.new.seen.items c.loop-i-test.true (rw c.as_slice-props.ensures at c.loop-i.auto.i)
           (rw c.as_slice-props.ensures at c.index-props-i-in-loop-i.is) c.mark_property.ensures c.loop-i.invariant.seen;
-      found = order_step c.args.table.now c.loop-i.i c.index-props-i.result c.in_ok-sites.sites.items
-          c.in_ok-near.near.items c.loop-i.seen.items c.is_ordered-right.result c.loop-i.found c.found_or-found.result
+      found = order_step c.args.notes.now.table.now c.loop-i.i c.index-props-i.result c.args.notes.now.standing.sites.items
+          c.args.notes.now.standing.near.items c.loop-i.seen.items c.is_ordered-right.result c.loop-i.found c.found_or-found.result
           c.loop-i-test.true (rw c.as_slice-props.ensures at c.loop-i.auto.i)
           (rw c.as_slice-props.ensures at c.index-props-i.is) known
           (rw (c.deref.ensures.value, c.deref-in-loop-i.ensures.value, c.deref-in-loop-i-2.ensures.value)
@@ -35,4 +34,4 @@ loop-i-preserved c =
     }
 
 pub returns : goal.returns
-returns c = orders-all c.args.table.now c.loop-i.i c.loop-i.found c.loop-i-test.false c.loop-i.invariant.found
+returns c = orders-all c.args.notes.now.table.now c.loop-i.i c.loop-i.found c.loop-i-test.false c.loop-i.invariant.found

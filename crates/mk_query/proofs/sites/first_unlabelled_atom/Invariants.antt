@@ -5,4 +5,4 @@ use Rattle.mk_query.specs.SiteChecks.{HasLabel}
 use Rattle.mk_query.proofs.sites.first_unlabelled_atom.Given as goal
 
 abbrev pub invariant-loop-i : goal.invariant-loop-i
-invariant-loop-i l = (groups : List RawGroup) → AreServed groups l.served → (j : ℕ) → j < l.i + 1 → HasLabel groups l.table j
+invariant-loop-i l = (groups : List RawGroup) → AreServed groups l.served → (j : ℕ) → j < l.i + 1 → HasLabel groups l.notes.table.now j
