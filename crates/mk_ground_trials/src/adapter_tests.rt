@@ -203,34 +203,45 @@ fn long_text(alloc: Global) -> Result<Vec<u8>, AllocError> {
     Ok(text)
 }
 
+// Whether the file of 40,000 bytes is read up to its length, and not up to one byte less.
+fn is_read_to_its_limit<F: Files>(files: &mut F, alloc: Global, text: &[u8]) -> bool {
+    let mut out = Vec::new(alloc);
+    let whole = files.read(alloc, "read_me", 40_000, &mut out);
+    let is_whole = whole == Ok(ReadEnd::Whole) && out.as_slice() == text;
+    let long = files.read(alloc, "read_me", 39_999, &mut out);
+    is_whole && long == Ok(ReadEnd::TooLong) && out.is_empty()
+}
+
+// Whether a name that isn't there and a folder can't be read.
+fn others_fail<F: Files>(files: &mut F, alloc: Global) -> bool {
+    let mut out = Vec::new(alloc);
+    let absent = files.read(alloc, "read_me", 12, &mut out);
+    let folder = files.read(alloc, ".", 12, &mut out);
+    absent == Err(FileFail::Failed) && folder == Err(FileFail::Failed)
+}
+
 #[test]
 fn files_of_the_system_are_read(rt: HostRuntime) -> Result<(), Fail> {
     let alloc = rt.alloc();
     let text = long_text(alloc)?;
     fs::write(&rt, "read_me", text.as_slice())?;
     let mut files = DiskFiles::new(rt);
-    let mut out = Vec::new(alloc);
-    let whole = files.read(alloc, "read_me", 40_000, &mut out);
-    assert!(rt; whole == Ok(ReadEnd::Whole) && out == text);
-    let long = files.read(alloc, "read_me", 39_999, &mut out);
-    assert!(rt; long == Ok(ReadEnd::TooLong) && out.is_empty());
+    let there = is_read_to_its_limit(&mut files, alloc, text.as_slice());
     fs::remove_file(&rt, "read_me")?;
-    let absent = files.read(alloc, "read_me", 12, &mut out);
-    assert!(rt; absent == Err(FileFail::Failed));
-    let folder = files.read(alloc, ".", 12, &mut out);
-    assert!(rt; folder == Err(FileFail::Failed));
+    assert!(rt; there && others_fail(&mut files, alloc));
     Ok(())
 }
 
 #[test]
 fn real_streams_are_used(rt: HostRuntime) -> Result<(), Fail> {
     let mut output = StdSink::new(&rt);
-    assert!(rt; output.put(b"a piece\n").is_ok());
+    let put = output.put(b"a piece\n").is_ok();
     let mut input = StdSource::new(&rt);
-    assert!(rt; input.read(&mut []) == Ok(0));
+    let nothing = input.read(&mut []) == Ok(0);
     fs::write(&rt, "read_me_too", b"abc".as_slice())?;
     let mut file = StdSource::over(File::open(&rt, "read_me_too")?);
-    assert!(rt; file.read(&mut [0; 5]) == Ok(3));
+    let all = file.read(&mut [0; 5]) == Ok(3);
     fs::remove_file(&rt, "read_me_too")?;
+    assert!(rt; put && nothing && all);
     Ok(())
 }

@@ -139,24 +139,28 @@ fn kept<K: Keeper>(keeper: &mut K, alloc: Global, batch: &[u8; 6]) -> Result<Vec
     }
 }
 
-fn kept_in_memory(alloc: Global, rows: &[u8; 6], batch: &[u8; 6]) -> Result<Vec<u8>, AllocError> {
+// Whether both keepers keep this after the batch.
+fn both_keep(
+    alloc: Global,
+    rows: &[u8; 6],
+    batch: &[u8; 6],
+    want: &[u8],
+) -> Result<bool, AllocError> {
     let none = CallNumbers::new(alloc);
     let mut keeper = MemKeeper::new(tables_of(alloc, rows)?, none, CallNumbers::new(alloc));
-    kept(&mut keeper, alloc, batch)
-}
-
-fn kept_surely(alloc: Global, rows: &[u8; 6], batch: &[u8; 6]) -> Result<Vec<u8>, AllocError> {
-    let mut keeper = SureKeeper::new(tables_of(alloc, rows)?);
-    kept(&mut keeper, alloc, batch)
+    let mut sure = SureKeeper::new(tables_of(alloc, rows)?);
+    let in_memory = kept(&mut keeper, alloc, batch)?;
+    let surely = kept(&mut sure, alloc, batch)?;
+    Ok(in_memory.as_slice() == want && surely.as_slice() == want)
 }
 
 #[test]
 fn batches_are_made_on_tables_in_any_order(rt: HostRuntime) -> Result<(), Fail> {
     for (name, rows, batch, want) in BATCHES.iter() {
-        let shown = kept_in_memory(rt.alloc(), rows, batch)?;
-        assert!(rt; shown.as_slice() == want.as_bytes(), "{name}");
-        let shown = kept_surely(rt.alloc(), rows, batch)?;
-        assert!(rt; shown.as_slice() == want.as_bytes(), "sure: {name}");
+        assert!(rt;
+            both_keep(rt.alloc(), rows, batch, want.as_bytes())?,
+            "{name}"
+        );
     }
     Ok(())
 }

@@ -155,34 +155,43 @@ static READS: [(&str, usize, &str, &str); 4] = [
     ("", 0, "x", "."),
 ];
 
-#[test]
-fn files_in_memory_give_the_first_row(rt: HostRuntime) -> Result<(), Fail> {
-    let alloc = rt.alloc();
+// Whether this is read under a name, up to so many bytes, by files of the one kind and of the other.
+fn are_read(
+    alloc: Global,
+    name: &str,
+    most: usize,
+    want: &str,
+    surely: &str,
+) -> Result<bool, AllocError> {
     let mut files = MemFiles::new(rows(alloc)?, CallNumbers::new(alloc));
     let mut sure = SureFiles::new(rows(alloc)?);
+    let shown = read_shown(&mut files, alloc, name, most)?;
+    let other = read_shown(&mut sure, alloc, name, most)?;
+    Ok(shown.as_slice() == want.as_bytes() && other.as_slice() == surely.as_bytes())
+}
+
+#[test]
+fn files_in_memory_give_the_first_row(rt: HostRuntime) -> Result<(), Fail> {
     for (name, most, want, surely) in READS.iter() {
-        let shown = read_shown(&mut files, alloc, name, *most)?;
-        assert!(rt; shown.as_slice() == want.as_bytes(), "{name} up to {most}");
-        let shown = read_shown(&mut sure, alloc, name, *most)?;
-        assert!(rt;
-            shown.as_slice() == surely.as_bytes(),
-            "sure, {name} up to {most}"
-        );
+        assert!(rt; are_read(rt.alloc(), name, *most, want, surely)?, "{name}");
     }
     Ok(())
 }
 
-#[test]
-fn sinks_in_memory_append(rt: HostRuntime) -> Result<(), Fail> {
-    let alloc = rt.alloc();
+// Whether pieces stand behind what is there, but for the one whose put fails.
+fn are_appended(alloc: Global) -> Result<bool, AllocError> {
     let mut sink = MemSink::new(bytes(alloc, b"a")?, numbers(alloc, [2, 2])?);
+    let mut sure = SureSink::new(bytes(alloc, b"a")?);
     let _ = sink.put(b"b");
     let _ = sink.put(b"c");
     let _ = sink.put(b"d");
-    assert!(rt; sink.bytes() == b"abd".as_slice());
-    let mut sure = SureSink::new(bytes(alloc, b"a")?);
     let _ = sure.put(b"b");
-    assert!(rt; sure.bytes() == b"ab".as_slice());
+    Ok(sink.bytes() == b"abd".as_slice() && sure.bytes() == b"ab".as_slice())
+}
+
+#[test]
+fn sinks_in_memory_append(rt: HostRuntime) -> Result<(), Fail> {
+    assert!(rt; are_appended(rt.alloc())?);
     Ok(())
 }
 
@@ -213,26 +222,20 @@ fn gives<S: Source>(
     Ok(all.as_slice() == b"abcde".as_slice())
 }
 
-fn gives_in_memory(alloc: Global, piece: usize, counts: [usize; 6]) -> Result<bool, AllocError> {
+// Whether a source of the one kind does, and one of the other.
+fn both_give(alloc: Global, piece: usize, counts: [usize; 6]) -> Result<bool, AllocError> {
     let mut source = MemSource::new(bytes(alloc, b"abcde")?, CallNumbers::new(alloc));
-    gives(&mut source, alloc, piece, counts)
-}
-
-fn gives_surely(alloc: Global, piece: usize, counts: [usize; 6]) -> Result<bool, AllocError> {
-    let mut source = SureSource::new(bytes(alloc, b"abcde")?);
-    gives(&mut source, alloc, piece, counts)
+    let mut sure = SureSource::new(bytes(alloc, b"abcde")?);
+    let in_memory = gives(&mut source, alloc, piece, counts)?;
+    Ok(in_memory && gives(&mut sure, alloc, piece, counts)?)
 }
 
 #[test]
 fn sources_in_memory_give_their_bytes_by_pieces(rt: HostRuntime) -> Result<(), Fail> {
     for (piece, counts) in PIECES.iter() {
         assert!(rt;
-            gives_in_memory(rt.alloc(), *piece, *counts)?,
+            both_give(rt.alloc(), *piece, *counts)?,
             "pieces of {piece}"
-        );
-        assert!(rt;
-            gives_surely(rt.alloc(), *piece, *counts)?,
-            "sure, pieces of {piece}"
         );
     }
     Ok(())

@@ -2,8 +2,7 @@
 ghost use Rattle.mk_model.specs.Tests.{IsTestInRange};
 
 use mk_model::{
-    Atom, AtomTest, Elements, Graph, GraphAtom, GraphBond, Interval, Kind, Mol, Numbers, QueryBond,
-    Range, Slot, Template, put_in_order,
+    Atom, AtomTest, Elements, Graph, GraphAtom, GraphBond, Interval, Kind, Mol, Range, put_in_order,
 };
 use std::test::Fail;
 
@@ -28,15 +27,6 @@ fn keeps_a_graph(rt: HostRuntime) -> Result<(), Fail> {
     let graph = Graph::of(rt.alloc(), atoms, Vec::new(rt.alloc()))?;
     let atoms = graph.atom_count() == 2 && graph.atoms().len() == 2;
     assert!(rt; atoms && graph.bonds().is_empty() && graph.bonds_at(2).is_empty());
-    Ok(())
-}
-
-#[test]
-fn lists_elements(rt: HostRuntime) -> Result<(), Fail> {
-    let mut list = Elements::new(rt.alloc());
-    list.push(6)?;
-    list.push(8)?;
-    assert!(rt; list.as_slice() == [6u8, 8].as_slice());
     Ok(())
 }
 
@@ -79,46 +69,6 @@ fn named(kind: &Kind) -> &[u8] {
     match kind {
         Kind::NoneOf(list) => list.as_slice(),
         _ => &[],
-    }
-}
-
-// A carbon chain with a link in the middle, and a site of two labels behind it.
-#[test]
-fn keeps_a_template(rt: HostRuntime) -> Result<(), Fail> {
-    let link = Slot::Link {
-        atom: 1,
-        most: 3,
-        from: 2,
-        to: 3,
-    };
-    let site = Slot::Site {
-        atom: 3,
-        groups: Numbers::of(vec![in rt.alloc(); 7u32, 9]?),
-        first: 1,
-        second: 0,
-    };
-    let bond = QueryBond {
-        first: 1,
-        second: 2,
-        kind: 5,
-        topology: 2,
-    };
-    let atoms = vec![in rt.alloc(); any_atom().test, any_atom().test, any_atom().test]?;
-    let bonds = vec![in rt.alloc(); bond]?;
-    let slots = vec![in rt.alloc(); link, site]?;
-    let points = Numbers::of(vec![in rt.alloc(); 2u32]?);
-    let template = Template::of(atoms, bonds, slots, points);
-    let drawn = template.atoms().len() == 3 && template.bonds() == [bond].as_slice();
-    let points = template.points() == [2u32].as_slice();
-    assert!(rt; drawn && points && has_labels(template.slots()));
-    Ok(())
-}
-
-// Whether the first of two slots has no label, and the second has 7 and 9.
-fn has_labels(slots: &[Slot]) -> bool {
-    match slots {
-        [link, site] => link.labels().is_empty() && site.labels() == [7u32, 9].as_slice(),
-        _ => false,
     }
 }
 

@@ -1,6 +1,0 @@
-use Rattle.std.proofs.Common.{All, take}
-use Rattle.mk_ctab.specs.TableSpelling.{LinkFits}
-use Rattle.mk_file_trials.proofs.writing_checks.links_fit.Given as goal
-
-abbrev pub invariant-loop-link : goal.invariant-loop-link
-invariant-loop-link l = All LinkFits (take l.link-index l.links)

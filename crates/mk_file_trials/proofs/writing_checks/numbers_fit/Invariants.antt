@@ -1,6 +1,0 @@
-use Rattle.std.proofs.Common.{All, take}
-use Rattle.mk_ctab.specs.TableSpelling.{FitsThree}
-use Rattle.mk_file_trials.proofs.writing_checks.numbers_fit.Given as goal
-
-abbrev pub invariant-loop-number : goal.invariant-loop-number
-invariant-loop-number l = All FitsThree (take l.number-index l.numbers)

@@ -1,6 +1,0 @@
-use Rattle.std.proofs.Common.{All, take}
-use Rattle.mk_ctab.specs.TableSpelling.{PairFits}
-use Rattle.mk_file_trials.proofs.writing_checks.pairs_fit.Given as goal
-
-abbrev pub invariant-loop-pair : goal.invariant-loop-pair
-invariant-loop-pair l = All PairFits (take l.pair-index l.pairs)

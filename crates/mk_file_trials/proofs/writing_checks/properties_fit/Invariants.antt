@@ -1,6 +1,0 @@
-use Rattle.std.proofs.Common.{take}
-use Rattle.mk_ctab.proofs.GraphicLemmas.{AllFit}
-use Rattle.mk_file_trials.proofs.writing_checks.properties_fit.Given as goal
-
-abbrev pub invariant-loop-property : goal.invariant-loop-property
-invariant-loop-property l = AllFit (take l.property-index l.properties)
