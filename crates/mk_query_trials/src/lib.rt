@@ -1,27 +1,18 @@
-//! Tests of queries: raw queries that fail a check, by the check, the table and the item that are
-//! named, what those that pass become, and the structures that they stand for. It serves tests
-//! alone, and nothing stands on it.
+//! Tests of what no run of the program shows: queries over a group without a member, screens and
+//! postings, molecules as they are held; and a call of each that may want memory. It serves tests
+//! alone, and nothing stands on it. What runs show of queries and records are rows of checks/rows.
 //!
-//! What is promised is proved in mk_query and mk_enum, whose READMEs name the tests. They go by `compile`
-//! alone: a table that is tested by itself is the root of a query, or its first member. They stand
-//! here since a crate with tests is proved twice.
+//! What is promised is proved in mk_query, mk_enum, mk_screen, mk_index, mk_mol and mk_library, whose
+//! READMEs name the tests. They stand here since a crate with tests is proved twice.
 #![tactic(auto)]
 
 #[cfg(test)]
 mod compile_tests;
 #[cfg(test)]
-mod files;
+mod library_tests;
 #[cfg(test)]
-mod large_tests;
+mod molecule_tests;
 #[cfg(test)]
-mod link_tests;
+mod screen_tests;
 #[cfg(test)]
-mod site_tests;
-#[cfg(test)]
-mod size_tests;
-#[cfg(test)]
-mod structure_tests;
-#[cfg(test)]
-mod table_tests;
-#[cfg(test)]
-mod template_tests;
+mod shelf_tests;

@@ -18,20 +18,24 @@ const RING: &str = "C C C C C C | 1=2 2-3 3=4 4-5 5=6 1-6";
 // it is taken out there is none, and the postings have the numbers of the others.
 #[test]
 fn a_ring_among_three(rt: HostRuntime) -> Result<(), Fail> {
-    let alloc = rt.alloc();
+    assert!(rt; is_ring_found(rt.alloc())?);
+    Ok(())
+}
+
+fn is_ring_found(alloc: Global) -> Result<bool, Fail> {
     let mut shelf = Shelf::new(alloc);
     let need = need_of(&graph_of_sketch(alloc, RING)?);
-    assert!(rt; next(&shelf, &need, 1) == None);
+    let empty = next(&shelf, &need, 1) == None;
     put(alloc, &mut shelf, 1, "C |")?;
     put(alloc, &mut shelf, 2, RING)?;
     put(alloc, &mut shelf, 3, "C |")?;
-    let found = next(&shelf, &need, 1) == Some(2) && next(&shelf, &need, 2) == Some(2);
-    assert!(rt; found && next(&shelf, &need, 3) == None);
-    assert!(rt; is_posted(alloc, &shelf, 137, &[1, 2, 3])? && is_posted(alloc, &shelf, 298, &[2])?);
+    let from = next(&shelf, &need, 1) == Some(2) && next(&shelf, &need, 2) == Some(2);
+    let found = from && next(&shelf, &need, 3) == None;
+    let held = is_posted(alloc, &shelf, 137, &[1, 2, 3])? && is_posted(alloc, &shelf, 298, &[2])?;
     let _ = shelf.remove(2);
-    assert!(rt; next(&shelf, &need, 1) == None);
-    assert!(rt; is_posted(alloc, &shelf, 137, &[1, 3])? && is_posted(alloc, &shelf, 298, &[])?);
-    Ok(())
+    let gone = next(&shelf, &need, 1) == None;
+    let left = is_posted(alloc, &shelf, 137, &[1, 3])? && is_posted(alloc, &shelf, 298, &[])?;
+    Ok(empty && found && held && gone && left)
 }
 
 // Whether these are the numbers of the rows that have the bit.
@@ -45,21 +49,26 @@ fn is_posted(alloc: Global, shelf: &Shelf, bit: u32, numbers: &[u32]) -> Result<
 // these; and a need of many carbons is met by 15 alone.
 #[test]
 fn needs_of_little_and_of_much(rt: HostRuntime) -> Result<(), Fail> {
-    let alloc = rt.alloc();
-    let fifteen = "C C C C C C C C C C C C C C C |";
-    let sixteen = "C C C C C C C C C C C C C C C C |";
+    assert!(rt; are_needs_met(rt.alloc())?);
+    Ok(())
+}
+
+const FIFTEEN: &str = "C C C C C C C C C C C C C C C |";
+
+const SIXTEEN: &str = "C C C C C C C C C C C C C C C C |";
+
+fn are_needs_met(alloc: Global) -> Result<bool, Fail> {
     let mut shelf = Shelf::new(alloc);
     put(alloc, &mut shelf, 4, "H H | 1-2")?;
     put(alloc, &mut shelf, 7, "C C C |")?;
-    put(alloc, &mut shelf, 9, fifteen)?;
+    put(alloc, &mut shelf, 9, FIFTEEN)?;
     let free = need_of(&graph_of_sketch(alloc, "A * | 1-2")?);
-    let found = next(&shelf, &free, 1) == Some(4) && next(&shelf, &free, 5) == Some(7);
-    assert!(rt; found && next(&shelf, &free, 10) == None);
     let carbon = need_of(&graph_of_sketch(alloc, "C |")?);
-    assert!(rt; next(&shelf, &carbon, 1) == Some(7));
-    let many = need_of(&graph_of_sketch(alloc, sixteen)?);
-    assert!(rt; next(&shelf, &many, 1) == Some(9) && shelf.last_row() == Some(9));
-    Ok(())
+    let many = need_of(&graph_of_sketch(alloc, SIXTEEN)?);
+    let any = next(&shelf, &free, 1) == Some(4) && next(&shelf, &free, 5) == Some(7);
+    let none = next(&shelf, &free, 10) == None;
+    let some = next(&shelf, &carbon, 1) == Some(7) && next(&shelf, &many, 1) == Some(9);
+    Ok(any && none && some && shelf.last_row() == Some(9))
 }
 
 // The molecules that are put under the numbers 1 to 200.
@@ -69,7 +78,30 @@ static DRAWN: [&str; 4] = ["C |", "O |", "C O | 1-2", "N C O | 1-2 2-3"];
 // replaced: postings and candidates are those of the screens of what is held.
 #[test]
 fn postings_after_edits(rt: HostRuntime) -> Result<(), Fail> {
-    let alloc = rt.alloc();
+    assert!(rt; is_as_plain(rt.alloc())?);
+    Ok(())
+}
+
+fn is_as_plain(alloc: Global) -> Result<bool, Fail> {
+    let shelf = edited(alloc)?;
+    for bit in [137u32, 138, 139, 140, 300, 48, 511] {
+        let want = numbers_with(alloc, &shelf, bit)?;
+        if shelf.posting(alloc, bit % 512)?.as_slice() != want.as_slice() {
+            return Ok(false);
+        }
+    }
+    for sketch in ["C O | 1-2", "N |", "F |", "S |"] {
+        let need = need_of(&graph_of_sketch(alloc, sketch)?);
+        for from in 1..=201u32 {
+            if next(&shelf, &need, from) != plain_next(&shelf, &need, from) {
+                return Ok(false);
+            }
+        }
+    }
+    Ok(true)
+}
+
+fn edited(alloc: Global) -> Result<Shelf, Fail> {
     let mut shelf = Shelf::new(alloc);
     for k in 0..200u32 {
         let number = k * 73 % 200 + 1;
@@ -81,20 +113,7 @@ fn postings_after_edits(rt: HostRuntime) -> Result<(), Fail> {
     for k in 1..=28u32 {
         put_over(alloc, &mut shelf, k * 7, "F |")?;
     }
-    for bit in [137u32, 138, 139, 140, 300, 48, 511] {
-        let want = numbers_with(alloc, &shelf, bit)?;
-        assert_eq!(rt;
-            shelf.posting(alloc, bit % 512)?.as_slice(),
-            want.as_slice()
-        );
-    }
-    for sketch in ["C O | 1-2", "N |", "F |", "S |"] {
-        let need = need_of(&graph_of_sketch(alloc, sketch)?);
-        for from in 1..=201u32 {
-            assert!(rt; next(&shelf, &need, from) == plain_next(&shelf, &need, from));
-        }
-    }
-    Ok(())
+    Ok(shelf)
 }
 
 // The numbers whose molecules' screens have the bit, looked at one by one.

@@ -68,12 +68,16 @@ static ROWS: [(&str, &str, &[u32]); 11] = [
 #[test]
 fn bits_of_paths(rt: HostRuntime) -> Result<(), Fail> {
     for (name, sketch, want) in ROWS.iter() {
-        let held = screen_of(&mol_of_sketch(rt.alloc(), sketch)?);
-        assert_eq!(rt; bits_set(rt.alloc(), &held)?.as_slice(), *want, "{name}");
-        let need = need_of(&graph_of_sketch(rt.alloc(), sketch)?);
-        assert_eq!(rt; need, held, "{name}");
+        assert!(rt; has_bits(rt.alloc(), sketch, want)?, "{name}");
     }
     Ok(())
+}
+
+// Whether these are the bits of the molecule, and its graph needs what it has.
+fn has_bits(alloc: Global, sketch: &str, want: &[u32]) -> Result<bool, Fail> {
+    let held = screen_of(&mol_of_sketch(alloc, sketch)?);
+    let need = need_of(&graph_of_sketch(alloc, sketch)?);
+    Ok(need == held && bits_set(alloc, &held)?.as_slice() == want)
 }
 
 // The bits that are set, rising.
@@ -87,15 +91,23 @@ fn bits_set(alloc: Global, screen: &Screen) -> Result<Vec<u32>, Memory> {
     Ok(bits)
 }
 
+const ALL: &str = "B C N O F Na Mg Si P S Cl K As Se Br I Fe H C |";
+
+const COUNTS: [u8; 16] = [1, 2, 1, 1, 1, 1, 1, 1, 1, 1, 1, 1, 1, 1, 1, 1];
+
 #[test]
 fn counts_of_elements(rt: HostRuntime) -> Result<(), Fail> {
-    let all = "B C N O F Na Mg Si P S Cl K As Se Br I Fe H C |";
-    let held = screen_of(&mol_of_sketch(rt.alloc(), all)?);
-    let want = [1u8, 2, 1, 1, 1, 1, 1, 1, 1, 1, 1, 1, 1, 1, 1, 1];
-    assert_eq!(rt; held.counts.as_slice(), want.as_slice());
-    assert!(rt; screen_of(&mol_of_sketch(rt.alloc(), FIFTEEN)?).counts[1] == 15);
-    assert!(rt; screen_of(&mol_of_sketch(rt.alloc(), SIXTEEN)?).counts[1] == 15);
+    assert!(rt; has_counts(rt.alloc())?);
     Ok(())
+}
+
+// Whether each element is counted, and sixteen carbons are as many as fifteen.
+fn has_counts(alloc: Global) -> Result<bool, Fail> {
+    let all = screen_of(&mol_of_sketch(alloc, ALL)?);
+    let fifteen = screen_of(&mol_of_sketch(alloc, FIFTEEN)?);
+    let sixteen = screen_of(&mol_of_sketch(alloc, SIXTEEN)?);
+    let most = fifteen.counts[1] == 15 && sixteen.counts[1] == 15;
+    Ok(most && all.counts.as_slice() == COUNTS.as_slice())
 }
 
 // A molecule, what is needed, and whether it is met.
@@ -109,19 +121,32 @@ static COVERED: [(&str, &str, bool); 7] = [
     ("H H | 1-2", "C |", false),
 ];
 
-// A need of many carbons, which is met by 15; needs of a list of one element and of no single
-// element, which anything meets; and bits or counts that are missing.
+// A need of many carbons, which is met by 15; needs of no single element, which anything meets; and
+// bits or counts that are missing.
 #[test]
 fn covered_needs(rt: HostRuntime) -> Result<(), Fail> {
-    let alloc = rt.alloc();
     for (held, needed, want) in COVERED.iter() {
-        let held = screen_of(&mol_of_sketch(alloc, held)?);
-        let need = need_of(&graph_of_sketch(alloc, needed)?);
-        assert!(rt; is_covered(&held, &need) == *want, "{needed}");
+        assert!(rt; is_met(rt.alloc(), held, needed)? == *want, "{needed}");
     }
-    let hydrogens = screen_of(&mol_of_sketch(alloc, "H H | 1-2")?);
-    assert!(rt; is_covered(&hydrogens, &need_of(&one_carbon_in_a_list(alloc)?)));
     Ok(())
+}
+
+// Whether a molecule covers what a graph needs.
+fn is_met(alloc: Global, held: &str, needed: &str) -> Result<bool, Fail> {
+    let held = screen_of(&mol_of_sketch(alloc, held)?);
+    Ok(is_covered(&held, &need_of(&graph_of_sketch(alloc, needed)?)))
+}
+
+// A need of a list of one element, which anything meets.
+#[test]
+fn a_list_is_no_need(rt: HostRuntime) -> Result<(), Fail> {
+    assert!(rt; is_list_met(rt.alloc())?);
+    Ok(())
+}
+
+fn is_list_met(alloc: Global) -> Result<bool, Fail> {
+    let hydrogens = screen_of(&mol_of_sketch(alloc, "H H | 1-2")?);
+    Ok(is_covered(&hydrogens, &need_of(&one_carbon_in_a_list(alloc)?)))
 }
 
 // A graph of one atom, whose list has carbon alone.

@@ -1,4 +1,4 @@
-use Rattle.mk_record_trials.proofs.shelf_tests.next.Given as goal
+use Rattle.mk_query_trials.proofs.shelf_tests.next.Given as goal
 
 abbrev pub ghosts-next_on : goal.ghosts-next_on
 ghosts-next_on a = record { name = a.blank.name; parts = a.blank.parts }
