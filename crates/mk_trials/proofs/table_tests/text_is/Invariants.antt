@@ -1,4 +1,4 @@
-use Rattle.mk_search_trials.proofs.table_tests.text_is.Given as goal
+use Rattle.mk_trials.proofs.table_tests.text_is.Given as goal
 
 abbrev pub ghosts-rows_of : goal.ghosts-rows_of
 ghosts-rows_of a = record { name = a.blank.name; parts = a.blank.parts }

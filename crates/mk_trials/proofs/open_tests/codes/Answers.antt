@@ -8,7 +8,7 @@ use Rattle.mk_model.specs.Queries.{slots_of}
 use Rattle.mk_model.proofs.FitsOnLiterals.{query, root}
 use Rattle.mk_model.proofs.OnLiterals.{group, plain_group, single}
 use Rattle.mk_open.specs.Alone.{root_slot}
-use Rattle.mk_search_trials.proofs.open_tests.codes.Goals as goal
+use Rattle.mk_trials.proofs.open_tests.codes.Goals as goal
 
 -- the link stands twice, and the site is vacant
 code_is : IsCode query 0 (2 ∷ 4 ∷ [])

@@ -4,7 +4,7 @@ use Rattle.mk_model.proofs.FitsOnLiterals.{query, root}
 use Rattle.mk_model.proofs.OnLiterals.{group, plain_group, single}
 use Rattle.mk_open.specs.OpenCodes.{IsOpenCode}
 use Rattle.mk_open.specs.OpenCodes.OpenChoice.{fills, no_more, repeats, undecided}
-use Rattle.mk_search_trials.proofs.open_tests.graphs.Goals as goal
+use Rattle.mk_trials.proofs.open_tests.graphs.Goals as goal
 
 -- the codes are open codes of this query
 open_link : IsOpenCode query 0 (0 ∷ 2 ∷ [])
