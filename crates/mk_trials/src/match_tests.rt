@@ -162,14 +162,14 @@ fn turns_from<L: Ledger>(
 }
 
 // A graph, a molecule, the turns that a search may take, and whether the molecule may hold the graph.
-// Of the oxygens each atom of C-O-C is passed in a turn, and the fourth finds none left.
-static HELD: [(&str, &str, u32, bool); 11] = [
+// The look ahead before the first atom finds that two oxygens have no place in C-O-C, and the first
+// turn says so.
+static HELD: [(&str, &str, u32, bool); 10] = [
     (CO, COC, 0, true),
     (CO, COC, 1, true),
     (CO, COC, 100, true),
     ("O O | 1-2", COC, 0, true),
-    ("O O | 1-2", COC, 3, true),
-    ("O O | 1-2", COC, 4, false),
+    ("O O | 1-2", COC, 1, false),
     ("O O | 1-2", COC, 100, false),
     ("C |", "|", 0, true),
     ("C |", "|", 1, false),
