@@ -31,7 +31,6 @@ use Rattle.mk_query.proofs.QueryLemmas.{count_of, drafted, members_within}
 use Rattle.mk_query.proofs.QueryThereLemmas.{query_there}
 use Rattle.mk_query.proofs.RecursionLemmas.{HasGroups, all_within, chain_leads, has_groups, leads_chain, rank_of, ranked}
 use Rattle.mk_query.proofs.RootSizesLemmas.{one_size}
-use Rattle.mk_query.proofs.TableWalkLemmas.{pass_nested}
 
 -- ---- in the tables
 
@@ -196,10 +195,10 @@ module _ (raw : RawQuery) (is : IsQueryInRange raw) (passed : PassEach raw) (que
   }
 
   has : HasGroups query
-  has = has_groups query (drafted raw is (pass_nested raw passed) query.templates of.templates)
+  has = has_groups query (drafted raw is passed query.templates of.templates)
 
   inside : MembersWithin query
-  inside = all_within query (members_within raw is (pass_nested raw passed) query.templates of.templates query.groups of.groups)
+  inside = all_within query (members_within raw is passed query.templates of.templates query.groups of.groups)
 
   known_small : ((t : ℕ) → IsNoCycle query t) → Known (IsSmall query)
   known_small none =
@@ -207,7 +206,7 @@ module _ (raw : RawQuery) (is : IsQueryInRange raw) (passed : PassEach raw) (que
       let ranks = ranked query 32 (omega arith) has inside none in
       known_as (known_most (size_by_rank query rank 0) 512) (λ small. record { size = size_by_rank query rank; adds_up = sizing_of query rank ranks; small = small })
       (λ small.
-      let some = count_of raw is (pass_nested raw passed) query.templates of.templates in
+      let some = count_of raw is passed query.templates of.templates in
       let same = one_size query has inside 32 (omega arith) rank ranks small.size small.adds_up (suc (rank 0)) 0 (omega arith) (omega (arith, some)) in
       omega (arith, same, small.small))
 

@@ -15,14 +15,13 @@ use Rattle.mk_ctab.specs.declared.raw.RawTable.{RawTable}
 use Rattle.mk_rgfile.specs.declared.raw_query.RawQuery.{RawQuery}
 use Rattle.mk_rgfile.specs.QueryFacts.{member_count}
 use Rattle.mk_query.specs.Compiled.{AreGroupsOf, AreTemplatesOf, IsTemplateOf, member_tables, members_from, query_tables}
-use Rattle.mk_query.specs.CompileFaults.{PassAcross}
+use Rattle.mk_query.specs.CompileFaults.{PassAcross, PassEach}
 use Rattle.mk_query.specs.Draft.{IsDraft, IsDrafted}
 use Rattle.mk_query.specs.InRange.{IsQueryInRange, IsTableInRange}
 use Rattle.mk_query.specs.Passed.{HasPassed}
-use Rattle.mk_query.specs.TableWalk.{PassNested}
 use Rattle.mk_query.proofs.FitsLemmas.{blocks_closed, has_groups, in_range, is_sized, labels_rising, names_neighbours, pairs_once, points_free, sites_apart, slots_rising}
 use Rattle.mk_query.proofs.MemberLemmas.{member_between, members_rise, members_total, one_group}
-use Rattle.mk_query.proofs.TableWalkLemmas.{all_members, members_count, pass_each}
+use Rattle.mk_query.proofs.TableWalkLemmas.{all_members, members_count}
 
 -- a template of nothing
 no_template : TemplateView
@@ -43,7 +42,7 @@ each_in_range raw is zero table at = (let same : raw.root ≡ table = cc in subs
 each_in_range raw is (suc t) table at =
     all_at IsTableInRange (member_tables raw.groups) t table (all_members IsTableInRange raw.groups (λ k d below. (is.groups k d below).members)) at
 
-module _ (raw : RawQuery) (is : IsQueryInRange raw) (passed : PassNested raw) (templates : List TemplateView) (are : AreTemplatesOf (query_tables raw) templates) where
+module _ (raw : RawQuery) (is : IsQueryInRange raw) (passed : PassEach raw) (templates : List TemplateView) (are : AreTemplatesOf (query_tables raw) templates) where
   -- what holds of the template of each table that passes
   pub all_templates : (P : TemplateView → Type 0) → ((table : RawTable) (template : TemplateView) → IsTableInRange table → HasPassed table → IsTemplateOf table template → P template) → All P templates
   all_templates P each k d below =
@@ -52,7 +51,7 @@ module _ (raw : RawQuery) (is : IsQueryInRange raw) (passed : PassNested raw) (t
       let table = get_or (query_tables raw) k raw.root in
       let table_at = at_place (query_tables raw) k raw.root inside in
       each table (get_or templates k d) (each_in_range raw is k table table_at)
-      (record { groups = raw.groups; is_root = (k == 0); passes = pass_each raw passed k table table_at })
+      (record { groups = raw.groups; is_root = (k == 0); passes = passed k table table_at })
       (are.each k table (get_or templates k d) table_at at)
 
   pub drafted : All IsDrafted templates

@@ -1,18 +1,18 @@
 -- The tables of a raw query, one after the other.
 --     member_split        the members of a group, among those of all
---     walked              a group more that passes
---     walk_fault          the first fault of a group's members is that of all tables
---     pass_each, pass_nested      what passes group by group passes table by table, and the other way round
---     templates_more, templates_group     a template more, and those of a group
-use Rattle.std.proofs.Common.{◌≡◌, ℕ, zero, suc, ◌+◌, ◌-◌, ◌<◌, ◌≤◌, false, true, List, [], ◌∷◌, ◌++◌, Some, refl, sym, ap, subst, ◌∙◌, ⊎_elim, arith, length, get_or, take, All}
+--     pass_nested         what passes table by table passes group by group
+--     templates_more      a template more
+--     next_fault, walked_more     the next table fails or passes
+--     next_among, first_in_tables     a fault among the first tables is that of all
+use Rattle.std.proofs.Common.{◌≡◌, ℕ, zero, suc, ◌+◌, ◌<◌, ◌≤◌, false, true, List, [], ◌∷◌, ◌++◌, Some, refl, sym, ap, subst, ◌∙◌, ⊎_elim, arith, length, get_or, drop, take, All}
 use Rattle.std.specs.Prelude.{◌==◌, slice_get}
 use Rattle.std.proofs.lemmas.Bool.{cases_lt}
 use Rattle.std.proofs.lemmas.Bool.Decides.{nat_tests}
-use Rattle.std.proofs.lemmas.List.{append-nil, append_assoc, get_or-take, length-append, length-take-le}
+use Rattle.std.proofs.lemmas.List.{append-nil, append_assoc, length-append, take-append-drop, take_more}
 use Rattle.std.proofs.lemmas.List.Elements.{All-append}
-use Rattle.std.proofs.lemmas.Option.{slice_get_within, get_or_from_slice_get}
+use Rattle.std.proofs.lemmas.Option.{slice_get_within}
 use Rattle.mk_model.specs.Templates.{TemplateView}
-use Rattle.mk_model.proofs.ForCallers.{all_at, at_place}
+use Rattle.mk_model.proofs.ForCallers.{at_place}
 use Rattle.mk_ctab.specs.declared.raw.RawTable.{RawTable}
 use Rattle.mk_rgfile.specs.declared.raw_query.RawGroup.{RawGroup}
 use Rattle.mk_rgfile.specs.declared.raw_query.RawQuery.{RawQuery}
@@ -22,7 +22,7 @@ use Rattle.mk_query.specs.declared.compile_fault.FaultAt.{FaultAt}
 use Rattle.mk_query.specs.Compiled.{AreTemplatesOf, IsTemplateOf, member_tables, query_tables}
 use Rattle.mk_query.specs.CompileFaults.{IsFirstInTables, PassEach}
 use Rattle.mk_query.specs.FirstFault.{IsFirstFault, PassesAll}
-use Rattle.mk_query.specs.TableWalk.{IsFirstInMembers, PassNested}
+use Rattle.mk_query.specs.TableWalk.{IsNextFault, IsWalked}
 
 -- ---- items of joined lists
 
@@ -82,13 +82,12 @@ all_members P (group ∷ groups) each =
 no_root : (t : ℕ) → (suc t == 0) ≡ false
 no_root t = grind (arith, nat_tests)
 
-pub pass_each : (raw : RawQuery) → PassNested raw → PassEach raw
-pass_each raw passed zero table at = (let same : raw.root ≡ table = cc in subst (PassesAll raw.groups true) same passed.root)
-pass_each raw passed (suc t) table at =
-    let all = all_members (PassesAll raw.groups false) raw.groups passed.members in
-    rw (no_root t) (all_at (PassesAll raw.groups false) (member_tables raw.groups) t table all at)
+-- the root and each member of each group pass their checks
+pub record PassNested (raw : RawQuery) : Type 0 where
+  pub root : PassesAll raw.groups true raw.root
+  pub members : All (λ group. All (PassesAll raw.groups false) group.members) raw.groups
 
--- and the other way round
+-- what passes table by table passes group by group
 pub pass_nested : (raw : RawQuery) → PassEach raw → PassNested raw
 pass_nested raw passed = record {
   root = passed 0 raw.root refl;
@@ -101,67 +100,6 @@ pass_nested raw passed = record {
       rw split.1 (in_second front (group.members ++ split.0) k ∙ in_first group.members split.0 k inside ∙ at_place group.members k e inside) in
       rw (no_root (length front + k)) at (passed (suc (length front + k)) member there);
 }
-
--- the root's first fault is that of all tables
-pub root_fault : (raw : RawQuery) (fault : Fault) → IsFirstFault raw.groups true raw.root fault → IsFirstInTables raw (record { check = fault.check; table = 0; item = fault.item })
-root_fault raw fault here = record { table = raw.root; at = refl; before = λ t earlier below at. absurd (omega (arith, below)); here = here }
-
--- the first member that fails, where those before it pass
-pub in_members : (groups : List RawGroup) (members : List RawTable) (t k : ℕ) (table : RawTable) (fault : Fault) → k < length members → table ≡ get_or members k table
-    → All (PassesAll groups false) (take k members) → IsFirstFault groups false table fault
-    → IsFirstInMembers groups members t (record { check = fault.check; table = t + k; item = fault.item })
-in_members groups members t k table fault below is passed here = record {
-  place = k;
-  table = table;
-  at = at_place members k table below ∙ ap Some (sym is);
-  numbered = refl;
-  before = λ j earlier lower at.
-      let inside = slice_get_within members j earlier at in
-      let same : get_or (take k members) j earlier ≡ earlier = get_or-take k members j earlier lower ∙ get_or_from_slice_get members j earlier earlier at in
-      subst (PassesAll groups false) same (passed j earlier (omega (arith, lower, inside, below, length-take-le k members (omega (arith, below)))));
-  here = here;
-}
-
--- the first fault of a group's members, where the root and the groups before pass
-pub walk_fault : (raw : RawQuery) (i : ℕ) (group : RawGroup) (t : ℕ) (fault : FaultAt) → slice_get raw.groups i ≡ Some group → PassesAll raw.groups true raw.root
-    → All (λ (group : RawGroup). All (PassesAll raw.groups false) group.members) (take i raw.groups) → t ≡ 1 + length (member_tables (take i raw.groups))
-    → IsFirstInMembers raw.groups group.members t fault → IsFirstInTables raw fault
-walk_fault raw i group t fault at root passed number found =
-    let split = member_split raw.groups i group at in
-    let front = member_tables (take i raw.groups) in
-    let below = slice_get_within group.members found.place found.table found.at in
-    let place : fault.table ≡ suc (length front + found.place) = omega (arith, found.numbered, number) in
-    let there : slice_get (member_tables raw.groups) (length front + found.place) ≡ Some found.table =
-    rw split.1 (in_second front (group.members ++ split.0) found.place ∙ in_first group.members split.0 found.place below ∙ found.at) in
-    record {
-      table = found.table;
-      at = rw place there;
-      before = before split.0 split.1 place;
-      here = rw (place, no_root (length front + found.place)) found.here;
-    }
-  where
-    before : (rest : List RawTable) → member_tables raw.groups ≡ member_tables (take i raw.groups) ++
-        (group.members ++ rest) → fault.table ≡ suc (length (member_tables (take i raw.groups)) + found.place)
-        → (s : ℕ) (earlier : RawTable) → s < fault.table → slice_get (query_tables raw) s ≡ Some earlier → PassesAll raw.groups (s == 0) earlier
-    before rest split place zero earlier below at = (let same : raw.root ≡ earlier = cc in subst (PassesAll raw.groups true) same root)
-    before rest split place (suc s) earlier below at = rw (no_root s) (⊎_elim in_front in_group (cases_lt s (length (member_tables (take i raw.groups)))))
-      where
-        inside : slice_get (member_tables (take i raw.groups) ++ (group.members ++ rest)) s ≡ Some earlier
-        inside = rw split at at
-
-        in_front : s < length (member_tables (take i raw.groups)) → PassesAll raw.groups false earlier
-        in_front first =
-            all_at (PassesAll raw.groups false) (member_tables (take i raw.groups)) s earlier (all_members (PassesAll raw.groups false) (take i raw.groups) passed)
-            (sym (in_first (member_tables (take i raw.groups)) (group.members ++ rest) s first) ∙ inside)
-
-        in_group : length (member_tables (take i raw.groups)) ≤ s → PassesAll raw.groups false earlier
-        in_group behind =
-            let n = length (member_tables (take i raw.groups)) in
-            let sum : s ≡ n + (s - n) = omega (arith, behind) in
-            let lower : s - n < found.place = omega (arith, below, place, behind) in
-            let within = slice_get_within group.members found.place found.table found.at in
-            found.before (s - n) earlier lower
-            (sym (in_first group.members rest (s - n) (omega (arith, lower, within))) ∙ sym (in_second (member_tables (take i raw.groups)) (group.members ++ rest) (s - n)) ∙ rw sum at inside)
 
 -- ---- templates
 
@@ -188,3 +126,80 @@ templates_more tables templates table template is are = record {
         let same : table ≡ x = cc in
         let same' : template ≡ y = cc in
         subst (λ (v : TemplateView). IsTemplateOf x v) same' (subst (λ (v : RawTable). IsTemplateOf v template) same is)
+
+-- ---- the walk
+
+-- before the root
+pub none_walked : (groups : List RawGroup) (templates : List TemplateView) → templates ≡ [] → IsWalked groups [] templates
+none_walked groups templates none = record {
+  passed = λ t table at. absurd cc;
+  are = record { size = ap length none; each = λ t table template at got. absurd cc };
+}
+
+module _ (groups : List RawGroup) (done : List RawTable) (templates : List TemplateView) (table : RawTable) where
+  -- the next table is the root where there is no template yet
+  root_by : (n : ℕ) → n ≡ length templates → IsWalked groups done templates → n ≡ length done
+  root_by n is walked = is ∙ walked.are.size
+
+  -- it fails
+  pub next_fault : (n : ℕ) (fault : Fault) → n ≡ length templates → IsWalked groups done templates → IsFirstFault groups (n == 0) table fault
+      → IsNextFault groups (done ++ table ∷ []) (record { check = fault.check; table = n; item = fault.item })
+  next_fault n fault is walked here = record { front = done; table = table; rest = []; split = refl; passed = walked.passed; numbered = root_by n is walked; here = here }
+
+  -- or passes
+  pub walked_more : (template : TemplateView) (n : ℕ) → n ≡ length templates → IsWalked groups done templates → PassesAll groups (n == 0) table → IsTemplateOf table template
+      → IsWalked groups (done ++ table ∷ []) (templates ++ template ∷ [])
+  walked_more template n is walked passes of = record {
+    passed = λ t earlier at.
+        ⊎_elim
+        (λ first. walked.passed t earlier (sym (in_first done (table ∷ []) t first) ∙ at))
+        (λ last.
+        let within = slice_get_within (done ++ table ∷ []) t earlier at in
+        let place : t ≡ length done + 0 = omega (arith, last, within, length-append done (table ∷ [])) in
+        let number : n ≡ t = omega (arith, place, root_by n is walked) in
+        let both : Some table ≡ Some earlier = sym (in_second done (table ∷ []) 0) ∙ rw place at at in
+        let same : table ≡ earlier = cc in
+        subst (λ (m : ℕ). PassesAll groups (m == 0) earlier) number (subst (λ (x : RawTable). PassesAll groups (n == 0) x) same passes))
+        (cases_lt t (length done));
+    are = templates_more done templates table template of walked.are;
+  }
+
+-- a fault among the first tables is that of all
+pub next_among : (groups : List RawGroup) (done tables : List RawTable) {whole : List RawTable} (fault : FaultAt) → (rest : List RawTable) × (whole ≡ (done ++ tables) ++ rest)
+    → IsNextFault groups (done ++ tables) fault → IsNextFault groups whole fault
+next_among groups done tables fault among found = record {
+  front = found.front;
+  table = found.table;
+  rest = found.rest ++ among.0;
+  split = among.1 ∙ ap (λ (l : List RawTable). l ++ among.0) found.split ∙ append_assoc found.front (found.table ∷ found.rest) among.0;
+  passed = found.passed;
+  numbered = found.numbered;
+  here = found.here;
+}
+
+-- a member more, and what stands behind it
+pub take_next : (done members : List RawTable) (k : ℕ) (table : RawTable) → k < length members → table ≡ get_or members k table
+    → (done ++ take k members) ++ table ∷ [] ≡ done ++ take (k + 1) members
+take_next done members k table below is =
+    append_assoc done (take k members) (table ∷ []) ∙ ap (λ (l : List RawTable). done ++ l) (sym (take_more members k table below ∙ ap (λ (t : RawTable). take k members ++ t ∷ []) (sym is)))
+
+pub take_split : (done members : List RawTable) (k : ℕ) (table : RawTable) → k < length members → table ≡ get_or members k table
+    → (rest : List RawTable) × (done ++ members ≡ ((done ++ take k members) ++ table ∷ []) ++ rest)
+take_split done members k table below is = (
+  drop (k + 1) members,
+  ap (λ (l : List RawTable). done ++ l) (sym (take-append-drop (k + 1) members)) ∙ sym (append_assoc done (take (k + 1) members) (drop (k + 1) members))
+      ∙ ap (λ (l : List RawTable). l ++ drop (k + 1) members) (sym (take_next done members k table below is)),
+)
+
+-- the first of all tables to fail
+pub first_in_tables : (raw : RawQuery) (fault : FaultAt) → IsNextFault raw.groups (query_tables raw) fault → IsFirstInTables raw fault
+first_in_tables raw fault found =
+    let place : fault.table ≡ length found.front + 0 = omega (arith, found.numbered) in
+    record {
+      table = found.table;
+      at = ap (λ (l : List RawTable). slice_get l fault.table) found.split ∙ ap (λ (n : ℕ). slice_get (found.front ++ found.table ∷ found.rest) n) place
+          ∙ in_second found.front (found.table ∷ found.rest) 0;
+      before = λ t earlier below at.
+          found.passed t earlier (sym (in_first found.front (found.table ∷ found.rest) t (omega (arith, below, found.numbered))) ∙ ap (λ (l : List RawTable). slice_get l t) (sym found.split) ∙ at);
+      here = found.here;
+    }

@@ -1,47 +1,48 @@
 -- For code alone: the checks of the tables of a raw query, one after the other.
---     PassNested raw                     the root and each member pass their checks
---     FindsInMembers groups members t found    the first fault of some members, which count from t
---                                              on
---     FindsInRoot raw found              the first fault of the root
---     FindsInTables raw found            the first fault of the tables
---     FindsAcross raw query found        the first fault of the whole
-use Rattle.std.specs.Prelude.{◌≡◌, ◌<◌, ◌+◌, ℕ, false, true, List, Option, Some, None, All, slice_get}
+--     ArePassed groups done                  each of these tables passes its checks
+--     IsWalked groups done templates         so it is, and these are their templates
+--     FindsNext groups done tables new found     the first fault of some tables behind those, or the
+--                                                templates of all
+--     FindsInTables raw new found            so it is of all tables
+--     FindsAcross raw query found            the first fault of the whole
+use Rattle.std.specs.Prelude.{◌≡◌, ◌==◌, ◌++◌, ◌∷◌, [], ℕ, List, Option, Some, None, length, slice_get}
 use Rattle.mk_model.specs.Queries.{QueryView}
+use Rattle.mk_model.specs.Templates.{TemplateView}
 use Rattle.mk_ctab.specs.declared.raw.RawTable.{RawTable}
 use Rattle.mk_rgfile.specs.declared.raw_query.RawGroup.{RawGroup}
 use Rattle.mk_rgfile.specs.declared.raw_query.RawQuery.{RawQuery}
 use Rattle.mk_query.specs.declared.compile_fault.FaultAt.{FaultAt}
-use Rattle.mk_query.specs.CompileFaults.{IsAcross, IsFirstInTables, PassAcross}
+use Rattle.mk_query.specs.Compiled.{AreTemplatesOf, query_tables}
+use Rattle.mk_query.specs.CompileFaults.{IsAcross, PassAcross}
 use Rattle.mk_query.specs.FirstFault.{IsFirstFault, PassesAll}
 
--- the root and each member of each group pass their checks
-pub record PassNested (raw : RawQuery) : Type 0 where
-  pub root : PassesAll raw.groups true raw.root
-  pub members : All (λ group. All (PassesAll raw.groups false) group.members) raw.groups
+-- each of these tables passes its checks, where the first is the root
+abbrev pub ArePassed : List RawGroup → List RawTable → Type 0
+ArePassed groups done = (t : ℕ) (table : RawTable) → slice_get done t ≡ Some table → PassesAll groups (t == 0) table
 
--- the first of these members that fails a check, where they count from t on
-pub record IsFirstInMembers (groups : List RawGroup) (members : List RawTable) (t : ℕ) (fault : FaultAt) : Type 0 where
-  pub place : ℕ
+-- each passes its checks, and these are their templates
+pub record IsWalked (groups : List RawGroup) (done : List RawTable) (templates : List TemplateView) : Type 0 where
+  pub passed : ArePassed groups done
+  pub are : AreTemplatesOf done templates
+
+-- the first of these tables that fails a check
+pub record IsNextFault (groups : List RawGroup) (tables : List RawTable) (fault : FaultAt) : Type 0 where
+  pub front : List RawTable
   pub table : RawTable
-  pub at : slice_get members place ≡ Some table
-  pub numbered : fault.table ≡ t + place
-  pub before : (j : ℕ) (earlier : RawTable) → j < place → slice_get members j ≡ Some earlier → PassesAll groups false earlier
-  pub here : IsFirstFault groups false table (record { check = fault.check; item = fault.item })
+  pub rest : List RawTable
+  pub split : tables ≡ front ++ table ∷ rest
+  pub passed : ArePassed groups front
+  pub numbered : fault.table ≡ length front
+  pub here : IsFirstFault groups (fault.table == 0) table (record { check = fault.check; item = fault.item })
 
--- the first of these members that fails a check, where they count from t on, or none where all pass
-abbrev pub FindsInMembers : List RawGroup → List RawTable → ℕ → Option FaultAt → Type 0
-FindsInMembers groups members t None = All (PassesAll groups false) members
-FindsInMembers groups members t (Some fault) = IsFirstInMembers groups members t fault
+-- behind tables that passed, the first of these that fails a check, or the templates of all
+abbrev pub FindsNext : List RawGroup → List RawTable → List RawTable → List TemplateView → Option FaultAt → Type 0
+FindsNext groups done tables templates None = IsWalked groups (done ++ tables) templates
+FindsNext groups done tables templates (Some fault) = IsNextFault groups (done ++ tables) fault
 
--- the root's first fault, or none where it passes
-abbrev pub FindsInRoot : RawQuery → Option FaultAt → Type 0
-FindsInRoot raw None = PassesAll raw.groups true raw.root
-FindsInRoot raw (Some fault) = IsFirstInTables raw fault
-
--- the first fault of a table, or none where all pass
-abbrev pub FindsInTables : RawQuery → Option FaultAt → Type 0
-FindsInTables raw None = PassNested raw
-FindsInTables raw (Some fault) = IsFirstInTables raw fault
+-- the first table that fails a check, or the templates of all tables
+abbrev pub FindsInTables : RawQuery → List TemplateView → Option FaultAt → Type 0
+FindsInTables raw templates found = FindsNext raw.groups [] (query_tables raw) templates found
 
 -- the first check across tables that fails, or none where all pass
 abbrev pub FindsAcross : RawQuery → QueryView → Option FaultAt → Type 0

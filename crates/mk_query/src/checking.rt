@@ -32,21 +32,6 @@ pub fn fault_by(
     alloc: Global,
     served: &[bool],
     is_root: bool,
-    table: &RawTable,
-) -> Result<Option<Fault>, Memory>
-    requires few_atoms { length table.now.atoms ≤ 999 }
-    requires few_bonds { length table.now.bonds ≤ 999 }
-    requires few_properties { length table.now.props < 2 ^ 32 }
-    ensures { IfOk result (λ found. (groups : List RawGroup) → AreServed groups served.now → FindsFirst groups is_root table.now found) }
-{
-    let notes = Notes::of(alloc, table)?;
-    fault_of_table(alloc, served, is_root, &notes)
-}
-
-fn fault_of_table(
-    alloc: Global,
-    served: &[bool],
-    is_root: bool,
     notes: &Notes<'_>,
 ) -> Result<Option<Fault>, Memory>
     requires few_bonds { length notes.now.table.now.bonds ≤ 999 }

@@ -9,7 +9,7 @@ ghost use Rattle.mk_query.specs.InRange.{HaveFewProperties, IsQueryInRange};
 use crate::compile_fault::{CompileFault, FaultAt};
 use crate::draft::Draft;
 use crate::query_groups::groups_of;
-use crate::table_walk::{first_in_tables, templates_of};
+use crate::table_walk::put_tables;
 use crate::whole_checks::first_across;
 use mk_model::Query;
 use mk_rgfile::RawQuery;
@@ -33,10 +33,10 @@ pub fn compile(alloc: Global, raw: &RawQuery) -> Result<Query, CompileFault>
 
     ensures fault { IfFault result (IsFirstCompileFault raw.now) }
 {
-    if let Some(fault) = first_in_tables(alloc, raw)? {
+    let mut templates = Vec::new(alloc);
+    if let Some(fault) = put_tables(alloc, raw, &mut templates)? {
         return Err(named(fault));
     }
-    let templates = templates_of(alloc, raw)?;
     let draft = Draft::of(templates, groups_of(alloc, raw)?);
     if let Some(fault) = first_across(alloc, raw, &draft)? {
         return Err(named(fault));

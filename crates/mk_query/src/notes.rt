@@ -1,4 +1,4 @@
-// A table with what is noted of its atoms, which is worked out once for the checks and once for the
+// A table with what is noted of its atoms, worked out once, and lent to the checks and to the
 // template.
 ghost use Rattle.std.specs.Prelude.{◌≡◌, ◌≤◌, IfOk, length};
 ghost use Rattle.mk_query.specs.AtomMarks.{AreStanding, note_props};

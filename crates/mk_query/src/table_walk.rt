@@ -1,16 +1,15 @@
-// The tables of a raw query: the first that fails a check of its own, and their templates.
-ghost use Rattle.std.specs.Prelude.{◌≡◌, ◌≤◌, ◌<◌, ◌+◌, ◌++◌, ◌^◌, false, true, All, IfOk, List, OnOk, length};
+// The tables of a raw query: their templates, or the first that fails a check of its own. What is
+// noted of a table serves its checks and its template.
+ghost use Rattle.std.specs.Prelude.{◌≡◌, ◌≤◌, ◌<◌, ◌+◌, ◌∷◌, ◌^◌, [], All, IfOk, List, None, length};
 ghost use Rattle.mk_ctab.specs.declared.raw.RawTable.{RawTable as Table};
-ghost use Rattle.mk_rgfile.specs.declared.raw_query.RawGroup.{RawGroup as Group};
 ghost use Rattle.mk_rgfile.specs.QueryFacts.{member_count};
-ghost use Rattle.mk_query.specs.Compiled.{AreTemplatesOf, query_tables};
-ghost use Rattle.mk_query.specs.FirstFault.{PassesAll};
 ghost use Rattle.mk_query.specs.InRange.{HasFewProperties, HaveFewProperties, IsQueryInRange, IsTableInRange};
 ghost use Rattle.mk_query.specs.Marks.{AreServed};
-ghost use Rattle.mk_query.specs.TableWalk.{FindsInMembers, FindsInRoot, FindsInTables, PassNested};
+ghost use Rattle.mk_query.specs.TableWalk.{FindsInTables, FindsNext, IsWalked};
 
-use crate::checking::{Fault, fault_by};
+use crate::checking::fault_by;
 use crate::compile_fault::FaultAt;
+use crate::notes::Notes;
 use crate::sites::served_numbers;
 use crate::templates::template_of;
 use mk_ctab::RawTable;
@@ -19,116 +18,98 @@ use mk_rgfile::{RawGroup, RawQuery};
 use mk_text::Memory;
 use std::alloc::Global;
 
-/// The first fault of the first table that fails a check of its own.
-pub fn first_in_tables(alloc: Global, raw: &RawQuery) -> Result<Option<FaultAt>, Memory>
+/// Puts the templates of all tables, or finds the first fault of the first that fails a check.
+pub fn put_tables(
+    alloc: Global,
+    raw: &RawQuery,
+    templates: &mut Vec<Template>,
+) -> Result<Option<FaultAt>, Memory>
     requires in_range { IsQueryInRange raw.now }
     requires few_members { member_count raw.now + 1 < 2 ^ 32 }
     requires few_properties { HaveFewProperties raw.now }
-    ensures { IfOk result (FindsInTables raw.now) }
+    requires empty { templates.old.items ≡ [] }
+    ensures { IfOk result (FindsInTables raw.now templates.new.items) }
 {
-    let served = served_numbers(alloc, raw.groups.as_slice())?;
-    if let Some(fault) = fault_of_root(alloc, &served, raw)? {
+    let groups = raw.groups.as_slice();
+    let served = served_numbers(alloc, groups)?;
+    if let Some(fault) = put_table(alloc, &served, groups, &raw.root, templates)? {
         return Ok(Some(fault));
     }
-    first_in_groups(alloc, &served, raw)
+    put_groups(alloc, &served, raw, templates)
 }
 
-// The first fault of the root.
-fn fault_of_root(alloc: Global, served: &[bool], raw: &RawQuery) -> Result<Option<FaultAt>, Memory>
-    requires in_range { IsQueryInRange raw.now }
-    requires few_properties { HaveFewProperties raw.now }
-    requires served { AreServed raw.now.groups served.now }
-    ensures { IfOk result (FindsInRoot raw.now) }
-{
-    if let Some(fault) = fault_by(alloc, served, true, &raw.root)? {
-        return Ok(Some(fault_at(0, fault)));
-    }
-    Ok(None)
-}
-
-// The first fault of the members, where the root passes.
-fn first_in_groups(
+// The same of the members, where the root passes.
+fn put_groups(
     alloc: Global,
     served: &[bool],
     raw: &RawQuery,
+    templates: &mut Vec<Template>,
 ) -> Result<Option<FaultAt>, Memory>
     requires in_range { IsQueryInRange raw.now }
     requires few_members { member_count raw.now + 1 < 2 ^ 32 }
     requires few_properties { HaveFewProperties raw.now }
     requires served { AreServed raw.now.groups served.now }
-    requires root { PassesAll raw.now.groups true raw.now.root }
-    ensures { IfOk result (FindsInTables raw.now) }
+    requires root { IsWalked raw.now.groups (raw.now.root ∷ []) templates.old.items }
+    ensures { IfOk result (FindsInTables raw.now templates.new.items) }
 {
     let groups = raw.groups.as_slice();
-    let mut t = 1;
     for i in 0..groups.len() {
         let members = groups[i].members.as_slice();
-        if let Some(fault) = first_in_members(alloc, served, members, t)? {
+        if let Some(fault) = put_members(alloc, served, groups, members, templates)? {
             return Ok(Some(fault));
         }
-        t += members.len() as u32;
     }
     Ok(None)
 }
 
-// The first fault of the first of these members that fails a check, where they count from t on.
-fn first_in_members(
+// The same of some members.
+fn put_members(
     alloc: Global,
     served: &[bool],
+    groups: &[RawGroup],
     members: &[RawTable],
-    t: u32,
+    templates: &mut Vec<Template>,
 ) -> Result<Option<FaultAt>, Memory>
     requires in_range { All IsTableInRange members.now }
-    requires few { t + length members.now < 2 ^ 32 }
+    requires few { length templates.old.items + length members.now < 2 ^ 32 }
     requires few_properties { All HasFewProperties members.now }
-    ensures { IfOk result (λ found. (groups : List Group) → AreServed groups served.now → FindsInMembers groups members.now t found) }
+    requires served { AreServed groups.now served.now }
+    ensures { IfOk result (λ found. (done : List Table) → IsWalked groups.now done templates.old.items
+        → FindsNext groups.now done members.now templates.new.items found) }
 {
     for k in 0..members.len() {
-        if let Some(fault) = fault_by(alloc, served, false, &members[k])? {
-            return Ok(Some(fault_at(t + k as u32, fault)));
+        if let Some(fault) = put_table(alloc, served, groups, &members[k], templates)? {
+            return Ok(Some(fault));
         }
     }
     Ok(None)
 }
 
-fn fault_at(table: u32, fault: Fault) -> FaultAt
-    ensures { result ≡ record { check = fault.check; table = table; item = fault.item } }
-{
-    FaultAt {
-        check: fault.check,
-        table,
-        item: fault.item,
-    }
-}
-
-/// The templates of all tables, where each passes its own checks.
-pub fn templates_of(alloc: Global, raw: &RawQuery) -> Result<Vec<Template>, Memory>
-    requires in_range { IsQueryInRange raw.now }
-    requires passed { PassNested raw.now }
-    ensures { IfOk result (λ templates. AreTemplatesOf (query_tables raw.now) templates.items) }
-{
-    let groups = raw.groups.as_slice();
-    let mut templates = Vec::with_capacity(alloc, 1)?;
-    templates.push(template_of(alloc, &raw.root)?)?;
-    for i in 0..groups.len() {
-        put_templates(alloc, &mut templates, groups, groups[i].members.as_slice())?;
-    }
-    Ok(templates)
-}
-
-// Puts the templates of some members behind the others.
-fn put_templates(
+// The same of one table, which is the root where there is no template yet.
+fn put_table(
     alloc: Global,
-    templates: &mut Vec<Template>,
+    served: &[bool],
     groups: &[RawGroup],
-    members: &[RawTable],
-) -> Result<(), Memory>
-    requires in_range { All IsTableInRange members.now }
-    requires passed { All (PassesAll groups.now false) members.now }
-    ensures { OnOk result ((tables : List Table) → AreTemplatesOf tables templates.old.items → AreTemplatesOf (tables ++ members.now) templates.new.items) }
+    table: &RawTable,
+    templates: &mut Vec<Template>,
+) -> Result<Option<FaultAt>, Memory>
+    requires in_range { IsTableInRange table.now }
+    requires few { length templates.old.items < 2 ^ 32 }
+    requires few_properties { HasFewProperties table.now }
+    requires served { AreServed groups.now served.now }
+    ensures found { IfOk result (λ found. (done : List Table) → IsWalked groups.now done templates.old.items
+        → FindsNext groups.now done (table.now ∷ []) templates.new.items found) }
+    ensures size { IfOk result (λ found. found ≡ None → length templates.new.items ≡ length templates.old.items + 1) }
 {
-    for k in 0..members.len() {
-        templates.push(template_of(alloc, &members[k])?)?;
+    let t = templates.len();
+    let notes = Notes::of(alloc, table)?;
+    if let Some(fault) = fault_by(alloc, served, t == 0, &notes)? {
+        return Ok(Some(FaultAt {
+            check: fault.check,
+            table: t as u32,
+            item: fault.item,
+        }));
     }
-    Ok(())
+    templates.push(template_of(alloc, &notes)?)?;
+    Ok(None)
 }

@@ -1,6 +1,5 @@
 use Rattle.mk_query.proofs.QueryLemmas.{fits_query}
-use Rattle.mk_query.proofs.TableWalkLemmas.{pass_nested}
 use Rattle.mk_query.proofs.laws.passed_queries_fit.Goals as goal
 
 pub returns : goal.returns
-returns c = λ raw query is of passes. fits_query raw is (pass_nested raw passes.in_tables) query.templates of.templates query.groups of.groups passes.across
+returns c = λ raw query is of passes. fits_query raw is passes.in_tables query.templates of.templates query.groups of.groups passes.across
