@@ -3,7 +3,7 @@
 --     IsWalked groups done templates         so it is, and these are their templates
 --     FindsNext groups done tables new found     the first fault of some tables behind those, or the
 --                                                templates of all
---     FindsInTables raw new found            so it is of all tables
+--     FindsInRoot, FindsInTables             so it is of the root, and of all tables
 --     FindsAcross raw query found            the first fault of the whole
 use Rattle.std.specs.Prelude.{◌≡◌, ◌==◌, ◌++◌, ◌∷◌, [], ℕ, List, Option, Some, None, length, slice_get}
 use Rattle.mk_model.specs.Queries.{QueryView}
@@ -39,6 +39,11 @@ pub record IsNextFault (groups : List RawGroup) (tables : List RawTable) (fault 
 abbrev pub FindsNext : List RawGroup → List RawTable → List RawTable → List TemplateView → Option FaultAt → Type 0
 FindsNext groups done tables templates None = IsWalked groups (done ++ tables) templates
 FindsNext groups done tables templates (Some fault) = IsNextFault groups (done ++ tables) fault
+
+-- the root's fault, or its template
+abbrev pub FindsInRoot : RawQuery → List TemplateView → Option FaultAt → Type 0
+FindsInRoot raw templates None = IsWalked raw.groups (raw.root ∷ []) templates
+FindsInRoot raw templates (Some fault) = IsNextFault raw.groups (query_tables raw) fault
 
 -- the first table that fails a check, or the templates of all tables
 abbrev pub FindsInTables : RawQuery → List TemplateView → Option FaultAt → Type 0

@@ -5,7 +5,7 @@ ghost use Rattle.mk_ctab.specs.declared.raw.RawTable.{RawTable as Table};
 ghost use Rattle.mk_rgfile.specs.QueryFacts.{member_count};
 ghost use Rattle.mk_query.specs.InRange.{HasFewProperties, HaveFewProperties, IsQueryInRange, IsTableInRange};
 ghost use Rattle.mk_query.specs.Marks.{AreServed};
-ghost use Rattle.mk_query.specs.TableWalk.{FindsInTables, FindsNext, IsWalked};
+ghost use Rattle.mk_query.specs.TableWalk.{FindsInRoot, FindsInTables, FindsNext, IsWalked};
 
 use crate::checking::fault_by;
 use crate::compile_fault::FaultAt;
@@ -30,12 +30,31 @@ pub fn put_tables(
     requires empty { templates.old.items ≡ [] }
     ensures { IfOk result (FindsInTables raw.now templates.new.items) }
 {
-    let groups = raw.groups.as_slice();
-    let served = served_numbers(alloc, groups)?;
-    if let Some(fault) = put_table(alloc, &served, groups, &raw.root, templates)? {
+    let served = served_numbers(alloc, raw.groups.as_slice())?;
+    if let Some(fault) = put_root(alloc, &served, raw, templates)? {
         return Ok(Some(fault));
     }
     put_groups(alloc, &served, raw, templates)
+}
+
+// The same of the root.
+fn put_root(
+    alloc: Global,
+    served: &[bool],
+    raw: &RawQuery,
+    templates: &mut Vec<Template>,
+) -> Result<Option<FaultAt>, Memory>
+    requires in_range { IsQueryInRange raw.now }
+    requires few_properties { HaveFewProperties raw.now }
+    requires served { AreServed raw.now.groups served.now }
+    requires empty { templates.old.items ≡ [] }
+    ensures { IfOk result (FindsInRoot raw.now templates.new.items) }
+{
+    let groups = raw.groups.as_slice();
+    if let Some(fault) = put_table(alloc, served, groups, &raw.root, templates)? {
+        return Ok(Some(fault));
+    }
+    Ok(None)
 }
 
 // The same of the members, where the root passes.
