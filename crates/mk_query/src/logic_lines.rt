@@ -6,14 +6,12 @@ ghost use Rattle.mk_ctab.specs.Numbers.{IsWithin, natural};
 ghost use Rattle.mk_logic.specs.RangeTexts.{IsRangeText};
 ghost use Rattle.mk_query.specs.LogicSearch.{AreLastLogics, HasLogicIn, IsLogicalBy, IsMarkedBy, IsRightLogicBy, names_group};
 
+use crate::draft::GROUPS;
 use mk_ctab::{is_within, natural};
 use mk_logic::read_range;
 use mk_props::{LogicLine, Property};
 use mk_text::Memory;
 use std::alloc::Global;
-
-// The greatest number of a group.
-const GROUPS: usize = 32;
 
 /// The first `M  LOG` that isn't in the root, that a later one of its group supersedes, or whose
 /// numbers or range there aren't.
@@ -40,7 +38,7 @@ fn last_logics(alloc: Global, props: &[Property]) -> Result<Vec<u32>, Memory>
     requires { length props.now < 2 ^ 32 }
     ensures { IfOk result (λ last. AreLastLogics props.now (length props.now) last.items) }
 {
-    let mut last = vec![in alloc; 0u32; GROUPS + 1]?;
+    let mut last = vec![in alloc; 0u32; GROUPS as usize + 1]?;
     for (i, property) in props.iter().enumerate() {
         mark_logic(&mut last, i as u32 + 1, property);
     }
