@@ -25,7 +25,6 @@ use Rattle.mk_query.specs.CompileFaults.{PassChecks}
 use Rattle.mk_query.proofs.FaultOrQueryLemmas.{fault_or_query}
 use Rattle.mk_query.proofs.ForCallers.{in_range}
 use Rattle.mk_query.proofs.QueryLemmas.{fits_query}
-use Rattle.mk_query.proofs.TableWalkLemmas.{pass_nested}
 use Rattle.mk_outside.specs.declared.tables.RecordRow.{RecordRow}
 use Rattle.mk_rows.specs.declared.by_number.Numbered.{Numbered}
 use Rattle.mk_library.specs.Records.{AreHeld, IsMoleculeOf}
@@ -112,7 +111,7 @@ drill_query =
         query,
         (
           record { raw = query_raw; read = text_is_query; meant = of },
-          fits_query query_raw range (pass_nested query_raw passes.in_tables) query.templates of.templates query.groups of.groups passes.across,
+          fits_query query_raw range passes.in_tables query.templates of.templates query.groups of.groups passes.across,
         ),
       )
     ]
