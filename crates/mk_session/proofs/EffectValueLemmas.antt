@@ -32,7 +32,6 @@ use Rattle.mk_library.specs.Records.{is_held, text_under}
 use Rattle.mk_query.proofs.ForCallers.{in_range}
 use Rattle.mk_query.proofs.KnownLemmas.{Known, known_as, known_both, known_most}
 use Rattle.mk_query.proofs.QueryLemmas.{fits_query}
-use Rattle.mk_query.proofs.TableWalkLemmas.{pass_nested}
 use Rattle.mk_rgfile.proofs.ForCallers.{query_keeps}
 use Rattle.mk_search.specs.Pages.{IsHeldIn}
 use Rattle.mk_search.proofs.ForCallers.{keys_listed, paced_pages_there}
@@ -97,7 +96,7 @@ some_text query keys listed have =
 pub text_fits : (text : List ℕ) (query : QueryView) → IsQueryOfText text query → QueryFits query
 text_fits text query is =
     let range = in_range is.raw (query_keeps (lines_of text) is.raw is.file) in
-    fits_query is.raw range (pass_nested is.raw is.passes.in_tables) query.templates is.means.templates query.groups is.means.groups is.passes.across
+    fits_query is.raw range is.passes.in_tables query.templates is.means.templates query.groups is.means.groups is.passes.across
 
 -- a query that is held under a name means something
 some_named : (name : List ℕ) (rows : List QueryRow) → AllByRecursion (λ (row : QueryRow). HasMeaning row.text) rows → is_named name rows ≡ true → (query : QueryView) × IsQueryNamed rows name query
