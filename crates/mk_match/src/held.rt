@@ -7,14 +7,17 @@ use crate::search::Search;
 use mk_model::{Graph, Memory, Mol, Turn};
 use std::alloc::Global;
 
-/// Tells whether the molecule may hold the graph: a search of at most so many turns finds a hit, or
-/// is still not at its end behind them. It begins no matcher: nothing is counted, and no hit is
-/// given.
+/// Tells whether the molecule may hold the graph: what its look ahead found is a hit, or a search of
+/// at most so many turns finds one, or is still not at its end behind them. It begins no matcher:
+/// nothing is counted, and no hit is given.
 pub fn may_hold(alloc: Global, graph: &Graph, mol: &Mol, turns: u32) -> Result<bool, Memory>
     ensures none { IfOk result (λ may. may ≡ false → HasNoHit graph.now mol.now) }
     ensures some { IfOk result (λ may. may ≡ true → MayHold graph.now mol.now turns) }
 {
     let mut search = Search::of(alloc, graph, mol, &[])?;
+    if search.has_found(alloc, graph, mol)? {
+        return Ok(true);
+    }
     for _ in 0..turns {
         match search.turn(graph, mol) {
             Turn::Item => return Ok(true),

@@ -42,6 +42,11 @@ impl Outlook {
         })
     }
 
+    /// What was found last: a number for each atom of the graph.
+    pub fn found(&self) -> &[u32] {
+        &self.witness
+    }
+
     /// What is needed where nothing is looked for.
     pub fn at_rest(alloc: Global) -> Outlook {
         Outlook {

@@ -2,6 +2,7 @@
 ghost use Rattle.std.specs.Prelude.{◌≡◌, IfOk, IsTrue};
 ghost use Rattle.mk_model.specs.Hits.{IsHit};
 ghost use Rattle.mk_text.specs.Rising.{IsLeast, IsLeastFrom};
+ghost use Rattle.mk_match.specs.Held.{HoldsGraph};
 
 use crate::hydrogens::{PlainHydrogen, plain_hydrogens};
 use crate::outlook::Outlook;
@@ -75,6 +76,30 @@ impl Search {
             outlook: Outlook::at_rest(alloc),
             walk: Walk::at_rest(alloc),
             stage,
+        }
+    }
+
+    /// Tells whether what the look ahead found is a hit. The walk stays where it is.
+    pub fn has_found(&mut self, alloc: Global, graph: &Graph, mol: &Mol) -> Result<bool, Memory>
+        requires { IsSearch graph.now mol.now self.old }
+        ensures hit { IfOk result (λ found. IsTrue found → HoldsGraph graph.now mol.now) }
+        ensures kept { IsSearch graph.now mol.now self.new }
+        ensures left { (place : List ℕ) → IsLeft graph.now mol.now place self.old → IsLeft graph.now mol.now place self.new }
+        ensures owed { (place : List ℕ) (debt : ℕ) → IsOwed place debt self.old → IsOwed place debt self.new }
+    {
+        match self.stage {
+            Stage::Walking => {
+                let mut walk = Walk::new(alloc, graph, mol)?;
+                let found = self.outlook.found();
+                walk.seek(graph, mol, &self.fits, &self.hydrogens, found);
+                match walk.turn(graph, mol, &self.fits, &self.hydrogens, &mut self.outlook) {
+                    Turn::Item => Ok(true),
+                    Turn::Moved => Ok(false),
+                    Turn::End => Ok(false),
+                }
+            }
+            Stage::Once => Ok(false),
+            Stage::Ended => Ok(false),
         }
     }
 

@@ -1,11 +1,12 @@
-use Rattle.std.proofs.Common.{inl}
+use Rattle.std.proofs.Common.{[], inl}
 use Rattle.mk_match.proofs.HeldLemmas.{came_further, came_nowhere}
 use Rattle.mk_match.proofs.held.may_hold.Goals as goal
 
 pub loop-init : goal.loop-init
 loop-init c =
     let made = c.in_ok-search.ensures in
-    came_nowhere c.args.graph.now c.args.mol.now c.in_ok-search.search made.kept made.left made.owed
+    let kept = c.in_ok-has_found.ensures in
+    came_nowhere c.args.graph.now c.args.mol.now c.has_found.new.self kept.kept (kept.left [] made.left) (kept.owed [] 1 made.owed)
 
 pub loop-preserved : goal.loop-preserved
 loop-preserved c =
