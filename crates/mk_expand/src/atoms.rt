@@ -1,35 +1,32 @@
 // The atoms of an expansion.
-ghost use Rattle.std.specs.Prelude.{◌≡◌, ◌≤◌, ◌<◌, ◌+◌, ◌-◌, ◌++◌, ℕ, All, IfOk, OnOk, length, map, replicate, slice_index};
-ghost use Rattle.mk_model.specs.Expansions.{atoms_of, atoms_of_piece, hydrogen};
-ghost use Rattle.mk_model.specs.Pieces.{before, piece_numbered, room, width};
+ghost use Rattle.std.specs.Prelude.{◌≡◌, ◌≤◌, ◌+◌, ◌++◌, All, IfOk, OnOk, length, map, replicate};
+ghost use Rattle.mk_model.specs.Expansions.{atoms_of, hydrogen};
+ghost use Rattle.mk_model.specs.Pieces.{before, piece_numbered, width};
 ghost use Rattle.mk_model.specs.QueryFits.{IsAtomOf};
-ghost use Rattle.mk_expand.specs.Laid.{AreFrees, IsLaid, piece_atoms, with_frees};
+ghost use Rattle.mk_expand.specs.Laid.{AreFrees, piece_atoms, with_frees};
 
 use crate::part::Shape;
 use crate::piece::Piece;
 use crate::places::Layout;
-use mk_model::{AtomTest, GraphAtom, Kind, Memory, Template};
+use mk_model::{AtomTest, GraphAtom, Kind, Memory};
 use std::alloc::Global;
 
 /// What the atoms of the template become.
 pub fn expanded_atoms(
     alloc: Global,
-    template: &Template,
-    pieces: &[Piece],
-    takers: &[u32],
-    befores: &[u32],
+    layout: &Layout,
     frees: &[u32],
 ) -> Result<Vec<GraphAtom>, Memory>
-    requires laid { IsLaid template.now pieces.now takers.now befores.now }
-    requires frees { AreFrees template.now pieces.now frees.now }
-    ensures { IfOk result (λ atoms. atoms.items ≡ atoms_of template.now pieces.now (length template.now.atoms)) }
+    requires { AreFrees layout.now.template layout.now.pieces frees.now }
+    ensures { IfOk result (λ atoms. atoms.items ≡ atoms_of layout.now.template layout.now.pieces (length layout.now.template.atoms)) }
 {
     let mut out = Vec::with_capacity(alloc, frees.len())?;
-    let atoms = template.atoms();
+    let atoms = layout.template().atoms();
+    let pieces = layout.pieces();
     for i in 0..atoms.len() {
-        put_atoms(
-            alloc, &mut out, &atoms[i], frees, befores[i], pieces, takers[i],
-        )?;
+        let before = layout.before_at(i);
+        let number = layout.taker_at(i);
+        put_atoms(alloc, &mut out, &atoms[i], frees, before, pieces, number)?;
     }
     Ok(out)
 }
@@ -115,20 +112,12 @@ pub fn hydrogen() -> GraphAtom
 }
 
 /// The atoms with attachment point 1 and 2.
-pub fn expanded_points(
-    alloc: Global,
-    template: &Template,
-    pieces: &[Piece],
-    takers: &[u32],
-    befores: &[u32],
-) -> Result<Vec<u32>, Memory>
-    requires laid { IsLaid template.now pieces.now takers.now befores.now }
-    requires within { All (IsAtomOf template.now) template.now.points }
-    ensures { IfOk result (λ points. points.items ≡ map (λ x. before template.now pieces.now x + 1) template.now.points) }
+pub fn expanded_points(alloc: Global, layout: &Layout) -> Result<Vec<u32>, Memory>
+    requires { All (IsAtomOf layout.now.template) layout.now.template.points }
+    ensures { IfOk result (λ points. points.items ≡ map (λ x. before layout.now.template layout.now.pieces x + 1) layout.now.template.points) }
 {
     let mut points = Vec::with_capacity(alloc, 2)?;
-    let layout = Layout::of(template, pieces, takers, befores);
-    for x in template.points() {
+    for x in layout.template().points() {
         points.push(layout.before(*x) + 1)?;
     }
     Ok(points)

@@ -1,33 +1,24 @@
 // The bonds of an expansion.
-ghost use Rattle.std.specs.Prelude.{◌≡◌, ◌≤◌, ◌<◌, ◌+◌, ◌-◌, ◌++◌, ◌==◌, ◌&&◌, not, ℕ, Bool, All, IfOk, OnOk, length, map, slice_index_or};
+ghost use Rattle.std.specs.Prelude.{◌≡◌, ◌≤◌, ◌+◌, ◌-◌, ◌++◌, ◌==◌, ◌&&◌, not, All, OnOk, length, map};
 ghost use Rattle.std.specs.List.{flat_map};
 ghost use Rattle.mk_model.specs.Expansions.{all_within, bond_between, bond_joining, bonds_within, chained, copied, drawn, is_hydrogens, is_nothing, shifted, spanned};
 ghost use Rattle.mk_model.specs.Pieces.{piece_numbered};
 ghost use Rattle.mk_model.specs.Templates.{joins, slot_atom};
-ghost use Rattle.mk_expand.specs.Laid.{IsLaid};
 ghost use Rattle.mk_pieces.specs.Rooms.{IsSmall, IsWithin, StandsAt};
 
 use crate::part::Shape;
 use crate::piece::Piece;
 use crate::places::{Layout, width_numbered};
-use mk_model::{Memory, QueryBond, Slot, Template};
+use mk_model::{Memory, QueryBond, Slot};
 use std::alloc::Global;
 
 /// What the bonds of the template become.
-pub fn put_template_bonds(
-    out: &mut Vec<QueryBond>,
-    template: &Template,
-    pieces: &[Piece],
-    takers: &[u32],
-    befores: &[u32],
-) -> Result<(), Memory>
-    requires laid { IsLaid template.now pieces.now takers.now befores.now }
-    requires within { All (IsWithin template.now) template.now.bonds }
-    ensures { OnOk result (out.new.items ≡ out.old.items ++ flat_map (drawn template.now pieces.now) template.now.bonds) }
+pub fn put_template_bonds(out: &mut Vec<QueryBond>, layout: &Layout) -> Result<(), Memory>
+    requires { All (IsWithin layout.now.template) layout.now.template.bonds }
+    ensures { OnOk result (out.new.items ≡ out.old.items ++ flat_map (drawn layout.now.template layout.now.pieces) layout.now.template.bonds) }
 {
-    let layout = Layout::of(template, pieces, takers, befores);
-    for bond in template.bonds() {
-        put_drawn(out, &layout, *bond)?;
+    for bond in layout.template().bonds() {
+        put_drawn(out, layout, *bond)?;
     }
     Ok(())
 }
@@ -156,23 +147,17 @@ fn bond_between(x: u32, y: u32, kind: u8, topology: u8) -> QueryBond
 }
 
 /// The bonds within what the slots have become.
-pub fn put_all_within(
-    out: &mut Vec<QueryBond>,
-    template: &Template,
-    pieces: &[Piece],
-    takers: &[u32],
-    befores: &[u32],
-) -> Result<(), Memory>
-    requires laid { IsLaid template.now pieces.now takers.now befores.now }
-    requires slots { All (StandsAt template.now) template.now.slots }
-    ensures { OnOk result (out.new.items ≡ out.old.items ++ all_within template.now pieces.now template.now.slots pieces.now) }
+pub fn put_all_within(out: &mut Vec<QueryBond>, layout: &Layout) -> Result<(), Memory>
+    requires { All (StandsAt layout.now.template) layout.now.template.slots }
+    ensures { OnOk result (out.new.items ≡ out.old.items ++ all_within layout.now.template layout.now.pieces layout.now.template.slots layout.now.pieces) }
 {
-    let layout = Layout::of(template, pieces, takers, befores);
-    let slots = template.slots();
+    let bonds = layout.template().bonds();
+    let slots = layout.slots();
+    let pieces = layout.pieces();
     for k in 0..slots.len() {
         let slot = &slots[k];
         let before = layout.before(atom_of(slot));
-        put_within(out, template.bonds(), before, slot, &pieces[k])?;
+        put_within(out, bonds, before, slot, &pieces[k])?;
     }
     Ok(())
 }

@@ -1,5 +1,5 @@
 // What a code chooses.
-ghost use Rattle.std.specs.Prelude.{◌≡◌, ◌≤◌, ◌<◌, ◌∷◌, [], IfOk, length, drop};
+ghost use Rattle.std.specs.Prelude.{◌≡◌, ◌≤◌, ◌∷◌, [], IfOk, length, drop};
 ghost use Rattle.mk_model.specs.Labels.{asks_rest_hydrogens, draws_rest_hydrogens};
 ghost use Rattle.mk_model.specs.Queries.{slots_of};
 ghost use Rattle.mk_model.specs.QueryFits.{QueryFits};

@@ -1,5 +1,5 @@
 // The free ends of an expansion's atoms.
-ghost use Rattle.std.specs.Prelude.{◌≡◌, ◌≤◌, ◌<◌, ◌+◌, ◌*◌, ◌==◌, ℕ, All, IfOk, length, slice_index, if◌then◌else◌};
+ghost use Rattle.std.specs.Prelude.{◌≡◌, ◌≤◌, ◌<◌, ◌+◌, ◌==◌, ℕ, All, IfOk, length, slice_index, if◌then◌else◌};
 ghost use Rattle.mk_model.specs.Expansions.{ends_there, frees_of};
 ghost use Rattle.mk_expand.specs.Laid.{AreFrees};
 ghost use Rattle.mk_pieces.specs.Rooms.{HasNeighbours};

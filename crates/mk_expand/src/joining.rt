@@ -24,10 +24,10 @@ pub fn joined(alloc: Global, template: &Template, pieces: &[Piece]) -> Result<Pa
     let befores = befores_of(alloc, template, pieces, &takers)?;
     let layout = Layout::of(template, pieces, &takers, &befores);
     let frees = frees_of(alloc, &layout)?;
-    let atoms = expanded_atoms(alloc, template, pieces, &takers, &befores, &frees)?;
+    let atoms = expanded_atoms(alloc, &layout, &frees)?;
     let mut bonds = Vec::with_capacity(alloc, template.bonds().len())?;
-    put_template_bonds(&mut bonds, template, pieces, &takers, &befores)?;
-    put_all_within(&mut bonds, template, pieces, &takers, &befores)?;
-    let points = expanded_points(alloc, template, pieces, &takers, &befores)?;
+    put_template_bonds(&mut bonds, &layout)?;
+    put_all_within(&mut bonds, &layout)?;
+    let points = expanded_points(alloc, &layout)?;
     Ok(Part::of(atoms, bonds, points))
 }

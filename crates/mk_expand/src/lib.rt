@@ -7,7 +7,7 @@
 //!
 //! A code is read once from the left (`choosing`). What a template becomes is laid out in flat
 //! lists: for each atom the slot that takes it (`blocks`) and how many atoms stand before it
-//! (`places`); a `Layout` reads both. Then each list of the graph is written in one go (`atoms`,
+//! (`places`). A `Layout` has both, and each list of the graph is written by it in one go (`atoms`,
 //! `bonds`, `frees`). Bonds are put in order and get their marks once, for the whole.
 //!
 //! Which codes are valid isn't known here, nor is any molecule. The modules of its parts serve mk_open

@@ -1,8 +1,6 @@
 // What a slot becomes, seen as in mk_model.
 ghost use Rattle.std.specs.Prelude.{◌≡◌};
-ghost use Rattle.mk_model.specs.Pieces.{Piece as Seen, end_of, width};
-ghost use Rattle.mk_model.specs.Expansions.{is_hydrogens, is_nothing};
-ghost use Rattle.mk_pieces.specs.Rooms.{IsSmall};
+ghost use Rattle.mk_model.specs.Pieces.{Piece as Seen};
 ghost use Rattle.mk_expand.specs.Shapes.{seen};
 
 use crate::part::Shape;

@@ -1,6 +1,6 @@
 // Where the atoms of a template stand in its expansion.
-ghost use Rattle.std.specs.Prelude.{◌≡◌, ◌≤◌, ◌<◌, ◌+◌, ◌-◌, ℕ, Bool, All, IfOk, length, if◌then◌else◌, slice_index, slice_get};
-ghost use Rattle.mk_model.specs.Pieces.{before, end_of, ending, is_far, is_far_of, piece_numbered, room, taker, width};
+ghost use Rattle.std.specs.Prelude.{◌≡◌, ◌≤◌, ◌<◌, ◌+◌, All, IfOk, length, if◌then◌else◌, slice_index};
+ghost use Rattle.mk_model.specs.Pieces.{before, end_of, ending, is_far_of, piece_numbered, room, taker, width};
 ghost use Rattle.mk_model.specs.QueryFits.{IsAtomOf};
 ghost use Rattle.mk_expand.specs.Laid.{AreTakers, IsLaid};
 ghost use Rattle.mk_pieces.specs.Rooms.{HaveRoom, IsSmall};
@@ -108,9 +108,10 @@ fn is_far_of(slots: &[Slot], number: u32, x: u32, y: u32) -> bool
 }
 
 /// A template whose slots have become pieces, with the slot that takes each atom and how many atoms
-/// stand before those that it becomes.
+/// stand before those that it becomes. It is made once for a template, and lent to all that writes
+/// what the template becomes.
 #[derive(Drop)]
-pub(crate) struct Layout<'a> {
+pub struct Layout<'a> {
     template: &'a Template,
     pieces: &'a [Piece],
     takers: &'a [u32],
@@ -145,6 +146,12 @@ impl<'a> Layout<'a> {
         }
     }
 
+    pub fn template(&self) -> &Template
+        ensures { result.now ≡ self.now.template }
+    {
+        self.template
+    }
+
     pub fn slots(&self) -> &[Slot]
         ensures { result.now ≡ self.now.template.slots }
     {
@@ -164,7 +171,17 @@ impl<'a> Layout<'a> {
         ensures is { result ≡ taker self.now.template x }
         ensures within { result ≤ length self.now.pieces }
     {
-        self.takers[x as usize - 1]
+        self.taker_at(x as usize - 1)
+    }
+
+    /// The number of the slot that takes the atom at place i of the list, and 0 where none does.
+    pub fn taker_at(&self, i: usize) -> u32
+        requires { i < length self.now.template.atoms }
+        ensures is { result ≡ taker self.now.template (i + 1) }
+        ensures within { result ≤ length self.now.pieces }
+    {
+        let takers = self.takers;
+        takers[i]
     }
 
     /// How many atoms stand before those that atom x becomes.
@@ -173,7 +190,17 @@ impl<'a> Layout<'a> {
         ensures is { result ≡ before self.now.template self.now.pieces x }
         ensures small { result ≤ 512 }
     {
-        self.befores[x as usize - 1]
+        self.before_at(x as usize - 1)
+    }
+
+    /// How many atoms stand before those that the atom at place i of the list becomes.
+    pub fn before_at(&self, i: usize) -> u32
+        requires { i < length self.now.template.atoms }
+        ensures is { result ≡ room self.now.template self.now.pieces i }
+        ensures small { result ≤ 512 }
+    {
+        let befores = self.befores;
+        befores[i]
     }
 
     /// How many atoms the template becomes.
@@ -195,22 +222,4 @@ impl<'a> Layout<'a> {
         let far = is_far_of(self.slots(), number, x, y);
         self.before(x) + end_numbered(pieces, number, far)
     }
-}
-
-/// The number of the atom at which the bond from x to y ends on the side of x.
-pub fn ending(
-    template: &Template,
-    pieces: &[Piece],
-    takers: &[u32],
-    befores: &[u32],
-    x: u32,
-    y: u32,
-) -> u32
-    requires laid { IsLaid template.now pieces.now takers.now befores.now }
-    requires least { 1 ≤ x }
-    requires most { x ≤ length template.now.atoms }
-    ensures is { result ≡ ending template.now pieces.now x y }
-    ensures small { result ≤ 1024 }
-{
-    Layout::of(template, pieces, takers, befores).ending(x, y)
 }

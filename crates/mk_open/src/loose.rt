@@ -1,65 +1,42 @@
 // The free ends of what a template becomes, where slots may be left open.
-ghost use Rattle.std.specs.Prelude.{◌≡◌, ◌≤◌, ◌<◌, ◌+◌, ◌==◌, ℕ, All, IfOk, OnOk, length, slice_index, if◌then◌else◌};
-ghost use Rattle.mk_expand.specs.Laid.{IsLaid};
+ghost use Rattle.std.specs.Prelude.{◌≡◌, ◌<◌, ◌+◌, ◌==◌, ℕ, All, IfOk, OnOk, length, slice_index, if◌then◌else◌};
 ghost use Rattle.mk_pieces.specs.Rooms.{IsWithin};
 ghost use Rattle.mk_open.specs.OpenGraphs.{is_loose};
 ghost use Rattle.mk_open.specs.Opening.{AreLoose};
 
 use mk_expand::bonds::is_nothing;
-use mk_expand::piece::Piece;
-use mk_expand::places::ending;
-use mk_model::{Memory, QueryBond, Template};
+use mk_expand::places::Layout;
+use mk_model::{Memory, QueryBond};
 use std::alloc::Global;
 
 /// For each place how many bonds end there and lead to nothing.
-pub fn loose_of(
-    alloc: Global,
-    template: &Template,
-    pieces: &[Piece],
-    takers: &[u32],
-    befores: &[u32],
-) -> Result<Vec<u32>, Memory>
-    requires laid { IsLaid template.now pieces.now takers.now befores.now }
-    requires within { All (IsWithin template.now) template.now.bonds }
-    ensures { IfOk result (λ loose. AreLoose template.now pieces.now loose.items) }
+pub fn loose_of(alloc: Global, layout: &Layout) -> Result<Vec<u32>, Memory>
+    requires { All (IsWithin layout.now.template) layout.now.template.bonds }
+    ensures { IfOk result (λ loose. AreLoose layout.now.template layout.now.pieces loose.items) }
 {
-    let total = befores[takers.len()];
-    let mut loose = vec![in alloc; 0u32; total as usize]?;
-    for bond in template.bonds() {
-        add_loose(&mut loose, template, pieces, takers, befores, *bond)?;
+    let mut loose = vec![in alloc; 0u32; layout.room() as usize]?;
+    for bond in layout.template().bonds() {
+        add_loose(&mut loose, layout, *bond)?;
     }
     Ok(loose)
 }
 
 // The end that a bond leaves where nothing stands at the other.
-fn add_loose(
-    loose: &mut Vec<u32>,
-    template: &Template,
-    pieces: &[Piece],
-    takers: &[u32],
-    befores: &[u32],
-    bond: QueryBond,
-) -> Result<(), Memory>
-    requires laid { IsLaid template.now pieces.now takers.now befores.now }
-    requires within { IsWithin template.now bond }
+fn add_loose(loose: &mut Vec<u32>, layout: &Layout, bond: QueryBond) -> Result<(), Memory>
+    requires { IsWithin layout.now.template bond }
     ensures size { length loose.new.items ≡ length loose.old.items }
-    ensures each { OnOk result ((p : ℕ) → p < length loose.old.items → slice_index loose.new.items p ≡ slice_index loose.old.items p + (if is_loose template.now pieces.now (p + 1) bond then 1 else 0)) }
+    ensures each { OnOk result ((p : ℕ) → p < length loose.old.items → slice_index loose.new.items p ≡ slice_index loose.old.items p + (if is_loose layout.now.template layout.now.pieces (p + 1) bond then 1 else 0)) }
 {
-    let first = is_nothing(pieces, takers[bond.first as usize - 1]);
-    let second = is_nothing(pieces, takers[bond.second as usize - 1]);
+    let pieces = layout.pieces();
+    let first = is_nothing(pieces, layout.taker(bond.first));
+    let second = is_nothing(pieces, layout.taker(bond.second));
     if first == second {
         return Ok(());
     }
     if second {
-        return add_one(
-            loose,
-            ending(template, pieces, takers, befores, bond.first, bond.second),
-        );
+        return add_one(loose, layout.ending(bond.first, bond.second));
     }
-    add_one(
-        loose,
-        ending(template, pieces, takers, befores, bond.second, bond.first),
-    )
+    add_one(loose, layout.ending(bond.second, bond.first))
 }
 
 // One more at a place; nothing where there is no such place. More than a number holds never come:

@@ -1,7 +1,7 @@
 // What a template becomes, where slots may be left open.
-ghost use Rattle.std.specs.Prelude.{◌≡◌, ◌≤◌, ◌<◌, ◌+◌, ◌++◌, ◌∷◌, [], ℕ, IfOk, OnOk, length, replicate, slice_index};
+ghost use Rattle.std.specs.Prelude.{◌≡◌, ◌≤◌, ◌<◌, ◌+◌, ◌++◌, ◌∷◌, [], IfOk, OnOk, length, replicate, slice_index};
 ghost use Rattle.mk_model.specs.Expansions.{hydrogen};
-ghost use Rattle.mk_model.specs.Pieces.{piece_numbered, room, width};
+ghost use Rattle.mk_model.specs.Pieces.{piece_numbered, room};
 ghost use Rattle.mk_expand.specs.Laid.{AreTakers};
 ghost use Rattle.mk_pieces.specs.Kept.{IsTemplate};
 ghost use Rattle.mk_pieces.specs.Rooms.{HaveRoom};
@@ -14,7 +14,7 @@ use mk_expand::blocks::takers_of;
 use mk_expand::bonds::{put_all_within, put_template_bonds};
 use mk_expand::part::{Part, Shape};
 use mk_expand::piece::Piece;
-use mk_expand::places::befores_of;
+use mk_expand::places::{Layout, befores_of};
 use mk_model::{AtomTest, GraphAtom, Memory, Template};
 use std::alloc::Global;
 
@@ -26,12 +26,13 @@ pub fn opened(alloc: Global, template: &Template, pieces: &[Piece]) -> Result<Pa
 {
     let takers = takers_of(alloc, template)?;
     let befores = befores_of(alloc, template, pieces, &takers)?;
-    let loose = loose_of(alloc, template, pieces, &takers, &befores)?;
+    let layout = Layout::of(template, pieces, &takers, &befores);
+    let loose = loose_of(alloc, &layout)?;
     let atoms = open_atoms(alloc, template, pieces, &takers, &loose)?;
     let mut bonds = Vec::with_capacity(alloc, template.bonds().len())?;
-    put_template_bonds(&mut bonds, template, pieces, &takers, &befores)?;
-    put_all_within(&mut bonds, template, pieces, &takers, &befores)?;
-    let points = expanded_points(alloc, template, pieces, &takers, &befores)?;
+    put_template_bonds(&mut bonds, &layout)?;
+    put_all_within(&mut bonds, &layout)?;
+    let points = expanded_points(alloc, &layout)?;
     Ok(Part::of(atoms, bonds, points))
 }
 
