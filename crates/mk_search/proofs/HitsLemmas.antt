@@ -4,6 +4,7 @@
 --     begins_full, begins_all   what was begun for them
 --     least_next                the first key is the least
 --     place_of_number           a place of which a number is left
+--     made_itself, of_made      from where a search is made
 use Rattle.std.proofs.Common.{◌≡◌, ℕ, ◌<◌, ◌≤◌, ◌⊎◌, inl, inr, true, false, List, [], ◌∷◌, ◌++◌, length, Option, Some, None, refl, sym, ap, subst, ◌∙◌, arith, append_assoc, length-append, append-nil, slice_set, take}
 use Rattle.std.proofs.lemmas.Bool.{le-ltb, lt-ltb}
 use Rattle.mk_text.specs.Rising.{AreFirst, Each, Holds, IsBelow, IsFrom, IsLeast, IsLeastFrom, place_behind}
@@ -274,3 +275,23 @@ least_next rows query place old new before after made (Some key) t = least_made 
 pub place_of_number : (place : List ℕ) (n : ℕ) → 1 ≤ length place → slice_set (take 1 place) 0 n ≡ n ∷ []
 place_of_number [] n some = absurd (omega (arith, some))
 place_of_number (x ∷ place) n some = refl
+
+-- ---- from where a search is made
+
+-- it is made from its own place
+pub made_itself : (rows : List (Numbered Molecule)) (query : QueryView) (place : List ℕ) (left : HitsLeft) → IsMadeFrom rows query place left → IsMadeFrom left.rows left.query left.place left
+made_itself rows query place left made = record {
+  rows_is = refl;
+  query_is = refl;
+  place_is = refl;
+  from_is = made.from_is ∙ ap (λ (zs : List ℕ). first_number zs ∷ []) (sym made.place_is);
+  few = omega (arith, made.few, ap length made.place_is);
+}
+
+-- what is said of its own rows, query and place is said of those that it is made from
+pub of_made : (F : List (Numbered Molecule) → QueryView → List ℕ → Type 0) (rows : List (Numbered Molecule)) (query : QueryView) (place : List ℕ) (left : HitsLeft)
+    → IsMadeFrom rows query place left → F left.rows left.query left.place → F rows query place
+of_made F rows query place left made has =
+    subst (λ (zs : List ℕ). F rows query zs) made.place_is
+    (subst (λ (q : QueryView). F rows q left.place) made.query_is
+    (subst (λ (r : List (Numbered Molecule)). F r left.query left.place) made.rows_is has))

@@ -4,7 +4,6 @@
 --     paced_moved, paced_key        a turn more, that takes no key out, or one
 --     paced_full, paced_ended, paced_spent      as many keys as asked for, or all, or the budget is spent
 --     begins_full .. begins_spent   what was begun for them
---     made_itself, of_made          from where a search is made
 --     paced_and_others              with those from its place on they are all
 use Rattle.std.proofs.Common.{◌≡◌, ℕ, ◌+◌, ◌-◌, ◌<◌, ◌≤◌, ◌⊎◌, inl, inr, true, List, [], ◌∷◌, ◌++◌, length, None, refl, sym, ap, subst, ◌∙◌, arith, length-append}
 use Rattle.mk_text.specs.Rising.{AreFirst, Each, Holds, IsBelow, IsFrom, IsLeast, IsLeastFrom, IsRisingListOfAll, place_behind}
@@ -301,29 +300,6 @@ module _ (rows : List (Numbered Molecule)) (query : QueryView) (place : List ℕ
         subst (λ (ks : List (List ℕ)). BeginsOfPaced (IsHeldIn rows) query place (record { hits = ks; place = next; stop = Paused }) before now) (sym are)
         (subst (λ (zs : List ℕ). BeginsOfPaced (IsHeldIn rows) query place (record { hits = keys; place = zs; stop = Paused }) before now) (sym at)
         (begins_paced rows query place (first_number place ∷ []) old.from before now (record { hits = keys; place = old.place; stop = Paused }) h.begun h.up_to h.all))
-
--- ---- from where a search is made
-
--- it is made from its own place
-pub made_itself : (rows : List (Numbered Molecule)) (query : QueryView) (place : List ℕ) (left : HitsLeft) → IsMadeFrom rows query place left → IsMadeFrom left.rows left.query left.place left
-made_itself rows query place left made = record {
-  rows_is = refl;
-  query_is = refl;
-  place_is = refl;
-  from_is = made.from_is ∙ ap (λ (zs : List ℕ). first_number zs ∷ []) (sym made.place_is);
-  few = omega (arith, made.few, ap length made.place_is);
-}
-
--- what is said of its own rows, query and place, and of what is given from it
-pub of_made : (F : List (Numbered Molecule) → QueryView → List ℕ → Paced → Type 0) (rows : List (Numbered Molecule)) (query : QueryView) (place : List ℕ) (left : HitsLeft)
-    → IsMadeFrom rows query place left → (keys given : List (List ℕ)) (at next : List ℕ) (stop : Stop) → given ≡ keys → next ≡ at
-    → F left.rows left.query left.place (record { hits = keys; place = at; stop = stop }) → F rows query place (record { hits = given; place = next; stop = stop })
-of_made F rows query place left made keys given at next stop are is has =
-    subst (λ (ks : List (List ℕ)). F rows query place (record { hits = ks; place = next; stop = stop })) (sym are)
-    (subst (λ (zs : List ℕ). F rows query place (record { hits = keys; place = zs; stop = stop })) (sym is)
-    (subst (λ (zs : List ℕ). F rows query zs (record { hits = keys; place = at; stop = stop })) made.place_is
-    (subst (λ (q : QueryView). F rows q left.place (record { hits = keys; place = at; stop = stop })) made.query_is
-    (subst (λ (r : List (Numbered Molecule)). F r left.query left.place (record { hits = keys; place = at; stop = stop })) made.rows_is has))))
 
 -- ---- laws
 

@@ -60,6 +60,7 @@ impl<'a> Hits<'a> {
     {
         let from = first_number(place);
         let own = with_room(alloc, place)?;
+        let beside = with_room(alloc, &[])?;
         let mut codes = Codes::from_place(alloc, query, &[])?;
         let mut kept = VecDeque::new(alloc);
         let (common, several) = need_of_all(alloc, query, &mut codes, &mut kept)?;
@@ -77,7 +78,7 @@ impl<'a> Hits<'a> {
             },
             need,
             place: own,
-            beside: with_room(alloc, &[])?,
+            beside,
             stage: Stage::From(from),
             shelf,
         })
@@ -198,7 +199,7 @@ impl<'a> Hits<'a> {
 fn with_room(alloc: Global, place: &[u32]) -> Result<Vec<u32>, Memory>
     ensures { IfOk result (λ own. own.items ≡ place.now) }
 {
-    let mut own = Vec::with_capacity(alloc, place.len().max(MOST_NUMBERS))?;
+    let mut own = Vec::with_capacity(alloc, MOST_NUMBERS)?;
     own.extend_from_slice(place)?;
     Ok(own)
 }

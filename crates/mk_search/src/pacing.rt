@@ -1,5 +1,5 @@
 // Pages within a budget of turns.
-ghost use Rattle.std.specs.Prelude.{◌≡◌, ◌≤◌, [], IfOk, length};
+ghost use Rattle.std.specs.Prelude.{◌≡◌, ◌≤◌, ◌∷◌, ◌++◌, [], IfOk, OnOk, length};
 ghost use Rattle.mk_model.specs.QueryFits.{QueryFits};
 ghost use Rattle.mk_search.specs.Begins.{BeginsOfPaced};
 ghost use Rattle.mk_search.specs.Hits.{IsMadeFrom};
@@ -37,8 +37,30 @@ pub fn page_within<L: Ledger, M: Ledger>(
     // The reader's clause says what every query keeps.
     let _fits = query.templates();
     let mut hits = Hits::from_place(alloc, shelf, query, place)?;
+    paced_of(alloc, &mut hits, limit, budget, begins, turns)
+}
+
+// The first keys that are left, at most so many, in at most so many turns; and the place from which the
+// others are left.
+fn paced_of<L: Ledger, M: Ledger>(
+    alloc: Global,
+    hits: &mut Hits<'_>,
+    limit: usize,
+    budget: u32,
+    begins: &mut Steps<L>,
+    turns: &mut Steps<M>,
+) -> Result<Paced, Memory>
+    requires least { 1 ≤ limit }
+    requires short { length hits.old.place ≤ 514 }
+    requires fits { QueryFits hits.old.query }
+    requires made { IsMadeFrom hits.old.rows hits.old.query hits.old.place hits.old }
+    ensures paced { IfOk result (IsPacedPage (IsHeldIn hits.old.rows) hits.old.query hits.old.place limit budget turns.old turns.new) }
+    ensures begins { IfOk result (λ paced. BeginsOfPaced (IsHeldIn hits.old.rows) hits.old.query hits.old.place paced begins.old begins.new) }
+    ensures steps { begins.old ≤ begins.new }
+    ensures turns { turns.old ≤ turns.new }
+{
     let mut keys = Vec::new(alloc);
-    let stop = take_turns(alloc, &mut hits, &mut keys, limit, budget, begins, turns)?;
+    let stop = take_turns(alloc, hits, &mut keys, limit, budget, begins, turns)?;
     Ok(Paced {
         hits: Keys::of(keys),
         place: hits.place(alloc)?,
@@ -106,8 +128,17 @@ fn take_turn<L: Ledger, M: Ledger>(
         }
         Turn::Item => {
             turns.tick();
-            keys.push(Key::of(Vec::from_slice(alloc, hits.item())?))?;
+            put_copy(alloc, keys, hits.item())?;
             Ok(Turn::Item)
         }
     }
+}
+
+// Puts a copy of a key behind the others.
+fn put_copy(alloc: Global, keys: &mut Vec<Key>, key: &[u32]) -> Result<(), Memory>
+    ensures { OnOk result (keys.new.items ≡ keys.old.items ++ key.now ∷ []) }
+{
+    let copy = Vec::from_slice(alloc, key)?;
+    keys.push(Key::of(copy))?;
+    Ok(())
 }

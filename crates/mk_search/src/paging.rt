@@ -3,6 +3,7 @@ ghost use Rattle.std.specs.Prelude.{◌≡◌, ◌≤◌, IfOk};
 ghost use Rattle.mk_text.specs.Rising.{IsLeastFrom};
 ghost use Rattle.mk_model.specs.Keys.{IsKey};
 ghost use Rattle.mk_search.specs.Begins.{BeginsOfPage};
+ghost use Rattle.mk_search.specs.Hits.{IsMadeFrom};
 ghost use Rattle.mk_search.specs.Pages.{IsHeldIn, IsPage};
 
 use crate::hits::Hits;
@@ -28,6 +29,22 @@ pub fn page<L: Ledger>(
     ensures steps { steps.old ≤ steps.new }
 {
     let mut hits = Hits::from_place(alloc, shelf, query, place)?;
+    page_of(alloc, &mut hits, limit, steps)
+}
+
+// The first keys that are left, at most so many, and the place behind them.
+fn page_of<L: Ledger>(
+    alloc: Global,
+    hits: &mut Hits<'_>,
+    limit: usize,
+    steps: &mut Steps<L>,
+) -> Result<Page, Memory>
+    requires least { 1 ≤ limit }
+    requires made { IsMadeFrom hits.old.rows hits.old.query hits.old.place hits.old }
+    ensures page { IfOk result (IsPage (IsHeldIn hits.old.rows) hits.old.query hits.old.place limit) }
+    ensures begins { IfOk result (λ page. BeginsOfPage (IsHeldIn hits.old.rows) hits.old.query hits.old.place page steps.old steps.new) }
+    ensures steps { steps.old ≤ steps.new }
+{
     let mut keys = Vec::new(alloc);
     while keys.len() < limit {
         let Some(key) = hits.next(alloc, steps)? else {

@@ -1,47 +1,21 @@
-use Rattle.std.proofs.Common.{◌≡◌, ◌+◌, ◌∷◌, ◌++◌, [], length, length-append, refl, arith}
-use Rattle.mk_search.proofs.HitsLemmas.{begins_all, begins_full, page_all, page_full, page_more, page_none}
+use Rattle.std.proofs.Common.{IfOk}
+use Rattle.mk_search.specs.Begins.{BeginsOfPage}
+use Rattle.mk_search.specs.Pages.{IsHeldIn, IsPage}
+use Rattle.mk_search.proofs.HitsLemmas.{made_itself, of_made}
 use Rattle.mk_search.proofs.paging.page.Goals as goal
 
-pub loop-hits-init : goal.loop-hits-init
-loop-hits-init g c = rw c.new-keys.ensures.items (record {
-  keys = page_none c.args.shelf.now.rows c.args.query.now c.args.place.now c.args.steps.now c.in_ok-hits.hits c.in_ok-hits.ensures.left;
-  few = omega arith;
-  steps = omega arith;
-})
-
-pub loop-hits-preserved : goal.loop-hits-preserved
-loop-hits-preserved g c =
-    let inv = c.loop-hits.invariant in
-    let keys = c.loop-hits.keys.items in
-    let key = c.in-Some.key in
-    let t = rw c.in-Some.is at c.in_ok-key.ensures.next in
-    let long : length (keys ++ key ∷ []) ≡ length keys + 1 = length-append keys (key ∷ []) in
-    rw c.in_ok-push.ensures.items (record {
-      keys = page_more c.args.shelf.now.rows c.args.query.now c.args.place.now c.args.steps.now c.loop-hits.hits keys c.loop-hits.steps inv.keys c.next.new.self key c.next.new.steps t;
-      few = omega (arith, long, c.loop-hits-test.true);
-      steps = omega (arith, inv.steps, c.next.ensures.steps);
-    })
-
-pub returns-in_default-clause-page : goal.returns-in_default-clause-page
-returns-in_default-clause-page g c =
-    let t = rw c.in_default.is at c.in_ok-key.ensures.next in
-    page_all c.args.shelf.now.rows c.args.query.now c.args.place.now c.args.steps.now c.loop-hits.hits c.loop-hits.keys.items c.loop-hits.steps c.loop-hits.invariant.keys
-    c.next.new.self c.next.new.steps t
-    _ c.args.limit c.of.ensures c.in_ok-place.ensures refl (omega (arith, c.loop-hits-test.true))
-
-pub returns-in_default-clause-begins : goal.returns-in_default-clause-begins
-returns-in_default-clause-begins g c =
-    let t = rw c.in_default.is at c.in_ok-key.ensures.next in
-    begins_all c.args.shelf.now.rows c.args.query.now c.args.place.now c.args.steps.now c.loop-hits.hits c.loop-hits.keys.items c.loop-hits.steps c.loop-hits.invariant.keys
-    c.next.new.self c.next.new.steps t
-    _ c.of.ensures refl
+pub page_of-requires : goal.page_of-requires
+page_of-requires g c = record {
+  least = c.requires.least;
+  made = made_itself c.args.shelf.now.rows c.args.query.now c.args.place.now c.in_ok-hits.hits c.in_ok-hits.ensures.left;
+}
 
 pub returns-clause-page : goal.returns-clause-page
 returns-clause-page g c =
-    page_full c.args.shelf.now.rows c.args.query.now c.args.place.now c.args.steps.now c.loop-hits.hits c.loop-hits.keys.items c.loop-hits.steps c.loop-hits.invariant.keys
-    _ c.args.limit c.of-2.ensures c.in_ok-place-2.ensures refl (omega (arith, c.loop-hits.invariant.few, c.loop-hits-test.false))
+    of_made (λ rows query place. IfOk c.page_of.result (IsPage (IsHeldIn rows) query place c.args.limit))
+    c.args.shelf.now.rows c.args.query.now c.args.place.now c.in_ok-hits.hits c.in_ok-hits.ensures.left c.page_of.ensures.page
 
 pub returns-clause-begins : goal.returns-clause-begins
 returns-clause-begins g c =
-    begins_full c.args.shelf.now.rows c.args.query.now c.args.place.now c.args.steps.now c.loop-hits.hits c.loop-hits.keys.items c.loop-hits.steps c.loop-hits.invariant.keys
-    _ c.of-2.ensures (omega (arith, c.requires.least, c.loop-hits-test.false))
+    of_made (λ rows query place. IfOk c.page_of.result (λ page. BeginsOfPage (IsHeldIn rows) query place page c.args.steps.now c.page_of.new.steps))
+    c.args.shelf.now.rows c.args.query.now c.args.place.now c.in_ok-hits.hits c.in_ok-hits.ensures.left c.page_of.ensures.begins

@@ -1,10 +1,10 @@
 use Rattle.std.proofs.Common.{◌≤◌, ◌-◌, length}
 use Rattle.mk_search.proofs.HitsLemmas.{HasKeysTo}
-use Rattle.mk_search.proofs.paging.page.Given as goal
+use Rattle.mk_search.proofs.paging.page_of.Given as goal
 
 abbrev pub invariant-loop-hits : goal.invariant-loop-hits
 invariant-loop-hits g l = record {
-  keys : HasKeysTo l.shelf.rows l.query l.place l.hits l.keys.items l.fn.steps l.steps;
+  keys : HasKeysTo l.fn.hits.rows l.fn.hits.query l.fn.hits.place l.hits l.keys.items l.fn.steps l.steps;
   few : length l.keys.items ≤ l.limit;
   steps : l.fn.steps ≤ l.steps;
 }
