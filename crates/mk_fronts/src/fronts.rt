@@ -100,8 +100,8 @@ impl<'a> Fronts<'a> {
         Ok(found)
     }
 
-    // Tells whether the molecule may hold any code, by some number alone at each slot of the root, and
-    // by the empty front. It does so once a molecule.
+    // Tells whether the molecule may hold any code, by the empty front, and by some number alone at
+    // each slot of the root. It does so once a molecule.
     fn begin(&mut self, alloc: Global, mol: &Mol, screen: &Screen) -> Result<bool, Memory>
         requires some { BeginsCode self.old.query [] }
         requires known { IsKnownOf mol.now self.old }
@@ -113,10 +113,10 @@ impl<'a> Fronts<'a> {
         if self.begun {
             return Ok(true);
         }
-        if !self.known.may_hold_slots(alloc, mol, screen)? {
+        if !self.known.may_hold_front(alloc, &[], mol, screen)? {
             return Ok(false);
         }
-        if !self.known.may_hold_front(alloc, &[], mol, screen)? {
+        if !self.known.may_hold_slots(alloc, mol, screen)? {
             return Ok(false);
         }
         self.begun = true;
