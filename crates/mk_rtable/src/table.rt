@@ -1,5 +1,6 @@
 // The table of a query over a shelf.
-ghost use Rattle.std.specs.Prelude.{◌≤◌, ◌<◌, IfOk, length};
+ghost use Rattle.std.specs.Prelude.{◌≤◌, ◌<◌, [], IfOk, length};
+ghost use Rattle.mk_search.specs.Hits.{IsMadeFrom};
 ghost use Rattle.mk_search.specs.Pages.{IsHeldIn};
 ghost use Rattle.mk_rtable.specs.Begins.{BeginsOfTable};
 ghost use Rattle.mk_rtable.specs.Table.{IsRGroupTable};
@@ -26,6 +27,21 @@ pub fn r_table<L: Ledger>(
     ensures steps { steps.old ≤ steps.new }
 {
     let mut hits = Hits::from_place(alloc, shelf, query, &[])?;
+    rows_left(alloc, query, &mut hits, steps)
+}
+
+// The rows of all records with keys, of which none is taken yet.
+fn rows_left<L: Ledger>(
+    alloc: Global,
+    query: &Query,
+    hits: &mut Hits<'_>,
+    steps: &mut Steps<L>,
+) -> Result<TableRows, Memory>
+    requires { IsMadeFrom hits.old.rows query.now [] hits.old }
+    ensures table { IfOk result (IsRGroupTable (IsHeldIn hits.old.rows) query.now) }
+    ensures begins { IfOk result (λ _. BeginsOfTable (IsHeldIn hits.old.rows) query.now steps.old steps.new) }
+    ensures steps { steps.old ≤ steps.new }
+{
     let mut rows = Vec::new(alloc);
     while let Some(key) = hits.next(alloc, steps)? {
         let row = row_of_key(alloc, query, key.as_slice())?;

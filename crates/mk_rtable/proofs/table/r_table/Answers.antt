@@ -1,58 +1,22 @@
-use Rattle.std.proofs.Common.{arith}
-use Rattle.mk_rtable.proofs.RecordsLemmas.{begins_all, ends_begins, ends_table, fewer, goes_on, rows_all, rows_none}
+use Rattle.std.proofs.Common.{List, IfOk, refl, subst}
+use Rattle.mk_model.specs.Molecules.{Molecule}
+use Rattle.mk_rows.specs.declared.by_number.Numbered.{Numbered}
+use Rattle.mk_search.specs.Pages.{IsHeldIn}
+use Rattle.mk_rtable.specs.Begins.{BeginsOfTable}
+use Rattle.mk_rtable.specs.Table.{IsRGroupTable}
 use Rattle.mk_rtable.proofs.table.r_table.Goals as goal
 
-pub loop-rows-init : goal.loop-rows-init
-loop-rows-init g c = rw c.new-rows.ensures.items (record {
-  so_far = rows_none c.args.shelf.now.rows c.args.query.now c.in_ok-hits.hits c.args.steps.now c.in_ok-hits.ensures.left;
-  steps = omega arith;
-})
-
-pub loop-rows-preserved : goal.loop-rows-preserved
-loop-rows-preserved g c =
-    let t = rw c.in-Some.is at c.in_ok-key.ensures.next in
-    let made = rw c.as_slice.ensures at c.in_ok-row.ensures.row in
-    let up = rw c.if-not-pass_record.false at c.pass_record.ensures.passed in
-    rw c.in_ok-push.ensures.items (record {
-      so_far = goes_on c.args.shelf.now.rows c.args.query.now c.loop-rows.hits c.loop-rows.rows.items c.args.steps.now c.loop-rows.steps c.loop-rows.invariant.so_far
-          c.next.new.self c.in-Some.key c.next.new.steps t c.in_ok-row.row made c.pass_record.new.self up;
-      steps = omega (arith, c.loop-rows.invariant.steps, c.next.ensures.steps);
-    })
-
-pub loop-rows-smaller : goal.loop-rows-smaller
-loop-rows-smaller g c =
-    let t = rw c.in-Some.is at c.in_ok-key.ensures.next in
-    let made = rw c.as_slice.ensures at c.in_ok-row.ensures.row in
-    let up = rw c.if-not-pass_record.false at c.pass_record.ensures.passed in
-    fewer c.args.shelf.now.rows c.args.query.now c.loop-rows.hits _ c.args.steps.now c.loop-rows.steps c.loop-rows.invariant.so_far
-    c.next.new.self c.in-Some.key c.next.new.steps t c.in_ok-row.row made c.pass_record.new.self up 4294967296 c.in_ok-row.ensures.fits
-
-pub returns-then-not-pass_record-clause-table : goal.returns-then-not-pass_record-clause-table
-returns-then-not-pass_record-clause-table g c =
-    let t = rw c.in-Some.is at c.in_ok-key.ensures.next in
-    let made = rw c.as_slice.ensures at c.in_ok-row.ensures.row in
-    let last = rw c.if-not-pass_record.true at c.pass_record.ensures.passed in
-    rw (c.of.ensures, c.in_ok-push.ensures.items)
-    (ends_table c.args.shelf.now.rows c.args.query.now c.loop-rows.hits c.loop-rows.rows.items c.args.steps.now c.loop-rows.steps c.loop-rows.invariant.so_far
-    c.next.new.self c.in-Some.key c.next.new.steps t c.in_ok-row.row made last.1)
-
-pub returns-then-not-pass_record-clause-begins : goal.returns-then-not-pass_record-clause-begins
-returns-then-not-pass_record-clause-begins g c =
-    let t = rw c.in-Some.is at c.in_ok-key.ensures.next in
-    let made = rw c.as_slice.ensures at c.in_ok-row.ensures.row in
-    let last = rw c.if-not-pass_record.true at c.pass_record.ensures.passed in
-    ends_begins c.args.shelf.now.rows c.args.query.now c.loop-rows.hits c.loop-rows.rows.items c.args.steps.now c.loop-rows.steps c.loop-rows.invariant.so_far
-    c.next.new.self c.in-Some.key c.next.new.steps t c.in_ok-row.row made last.1
+pub rows_left-requires : goal.rows_left-requires
+rows_left-requires g c =
+    let made = c.in_ok-hits.ensures.left in
+    record { rows_is = refl; query_is = made.query_is; place_is = made.place_is; from_is = made.from_is; few = made.few }
 
 pub returns-clause-table : goal.returns-clause-table
 returns-clause-table g c =
-    let t = rw c.in_default.is at c.in_ok-key.ensures.next in
-    rw c.of-2.ensures
-    (rows_all c.args.shelf.now.rows c.args.query.now c.loop-rows.hits c.loop-rows.rows.items c.args.steps.now c.loop-rows.steps c.loop-rows.invariant.so_far
-    c.next.new.self c.next.new.steps t)
+    subst (λ (rows : List (Numbered Molecule)). IfOk c.rows_left.result (IsRGroupTable (IsHeldIn rows) c.args.query.now))
+    c.in_ok-hits.ensures.left.rows_is c.rows_left.ensures.table
 
 pub returns-clause-begins : goal.returns-clause-begins
 returns-clause-begins g c =
-    let t = rw c.in_default.is at c.in_ok-key.ensures.next in
-    begins_all c.args.shelf.now.rows c.args.query.now c.loop-rows.hits c.loop-rows.rows.items c.args.steps.now c.loop-rows.steps c.loop-rows.invariant.so_far
-    c.next.new.self c.next.new.steps t
+    subst (λ (rows : List (Numbered Molecule)). IfOk c.rows_left.result (λ _. BeginsOfTable (IsHeldIn rows) c.args.query.now c.args.steps.now c.rows_left.new.steps))
+    c.in_ok-hits.ensures.left.rows_is c.rows_left.ensures.begins
