@@ -7,19 +7,15 @@
 --     stop_of_paced paced c            where a list stops that may pause
 --     IsHitsText query keys stop text      a line for each key, and the last line
 use Rattle.std.specs.Prelude.{◌≡◌, ℕ, Bool, List, [], ◌∷◌, ◌++◌, All, codes, decimal, if◌then◌else◌}
-use Rattle.std.specs.List.{flat_map}
 use Rattle.mk_model.specs.Codes.{IsCode}
 use Rattle.mk_model.specs.Queries.{QueryView}
 use Rattle.mk_search.specs.declared.paced.Stop.{Stop as PacedStop}
 use Rattle.mk_search.specs.declared.paced.Stop.TheVariants as paced
+use Rattle.mk_enum.specs.Texts.{numbers_text}
 use Rattle.mk_effects.specs.declared.effect.Stop.{Stop}
 use Rattle.mk_effects.specs.declared.effect.Stop.TheVariants as stop
 
 -- ---- the line of a key
-
--- each number after a blank
-abbrev pub numbers_text : List ℕ → List ℕ
-numbers_text numbers = flat_map (λ n. 32 ∷ decimal n) numbers
 
 -- the record, the numbers of the choice, and those of the map
 abbrev pub hit_line : ℕ → List ℕ → List ℕ → List ℕ

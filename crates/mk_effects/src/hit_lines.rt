@@ -1,10 +1,11 @@
 // The lines of hits.
 ghost use Rattle.std.specs.Prelude.{◌≡◌, ◌∷◌, ◌++◌, IfOk, OnOk};
-ghost use Rattle.mk_effects.specs.Hits.{AreHitLines, HasParts, HaveParts, IsHitsText, PutsLine, hit_line, numbers_text, stop_line, stop_of, stop_of_paced};
+ghost use Rattle.mk_effects.specs.Hits.{AreHitLines, HasParts, HaveParts, IsHitsText, PutsLine, hit_line, stop_line, stop_of, stop_of_paced};
 
 use crate::Stop;
 use crate::records::put_numbered;
 use mk_choice::code_within;
+use mk_enum::put_numbers;
 use mk_model::{Key, Query};
 use mk_search::{Page, Stop as PacedStop};
 use mk_text::{Memory, put_number};
@@ -118,15 +119,4 @@ fn put_line(
     lines.extend_from_slice(b" map")?;
     put_numbers(alloc, lines, hit)?;
     lines.extend_from_slice(b"\n")
-}
-
-// Each number after a blank.
-fn put_numbers(alloc: Global, answer: &mut Vec<u8>, numbers: &[u32]) -> Result<(), Memory>
-    ensures { OnOk result (answer.new.items ≡ answer.old.items ++ numbers_text numbers.now) }
-{
-    for number in numbers {
-        answer.push(b' ')?;
-        put_number(alloc, answer, u64::from(*number))?;
-    }
-    Ok(())
 }

@@ -15,7 +15,7 @@ use Rattle.mk_text.proofs.PieceLemmas.{pieces_at}
 use Rattle.mk_ctab.specs.declared.raw.RawTable.{RawTable}
 use Rattle.mk_ctab.specs.TableSpelling.{table_spelling, table_lines}
 use Rattle.mk_ctab.proofs.NoLfLemmas.{HasNoLf, is_no_lf, no_lf_both}
-use Rattle.mk_enum.specs.Texts.{behind_blank, choice_numbers, structure_text}
+use Rattle.mk_enum.specs.Texts.{behind_blank, numbers_text, structure_text}
 
 -- ---- a text that ends with LF
 
@@ -80,20 +80,20 @@ no_lf_decimal : (n : ℕ) → HasNoLf (decimal n)
 unfolding digits
 no_lf_decimal n = no_lf_onto 64 n [] refl
 
-no_lf_numbers : (code : List ℕ) → HasNoLf (choice_numbers code)
+no_lf_numbers : (code : List ℕ) → HasNoLf (numbers_text code)
 no_lf_numbers [] = refl
-no_lf_numbers (n ∷ code) = no_lf_both (behind_blank n) (choice_numbers code) (no_lf_decimal n) (no_lf_numbers code)
+no_lf_numbers (n ∷ code) = no_lf_both (behind_blank n) (numbers_text code) (no_lf_decimal n) (no_lf_numbers code)
 
 -- ---- the text of a structure
 
 -- the first line
 abbrev pub first_line : List ℕ → List ℕ
-first_line code = codes "choice" ++ choice_numbers code
+first_line code = codes "choice" ++ numbers_text code
 
 no_lf_first : (code : List ℕ) (k : ℕ) → k < length (first_line code) → eqb (get_or (first_line code) k 0) 10 ≡ false
 no_lf_first code k within =
     not_true (eqb (get_or (first_line code) k 0) 10)
-    (list_all_at is_no_lf (first_line code) k (no_lf_both (codes "choice") (choice_numbers code) refl (no_lf_numbers code)) within)
+    (list_all_at is_no_lf (first_line code) k (no_lf_both (codes "choice") (numbers_text code) refl (no_lf_numbers code)) within)
 
 -- the text behind the first line
 abbrev behind_first : RawTable → List ℕ
@@ -101,7 +101,7 @@ behind_first table = codes "\n\n" ++ (table_spelling table ++ codes "$$$$\n")
 
 -- the text is the first line, LF, and what stands behind it
 in_two : (code : List ℕ) (table : RawTable) → structure_text code table ≡ first_line code ++ 10 ∷ behind_first table
-in_two code table = sym (append_assoc (codes "choice") (choice_numbers code) (10 ∷ behind_first table))
+in_two code table = sym (append_assoc (codes "choice") (numbers_text code) (10 ∷ behind_first table))
 
 first_cut : (code rest : List ℕ) → lines_of (first_line code ++ 10 ∷ rest) ≡ without_cr (first_line code) ∷ lines_of rest
 unfolding lines_of

@@ -29,3 +29,4 @@ pub use listed::Structures;
 pub use mk_ctab::RawTable;
 pub use mk_model::{Graph, Keys, Memory, Place, Query};
 pub use tables::table_of;
+pub use texts::put_numbers;

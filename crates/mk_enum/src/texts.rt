@@ -1,7 +1,7 @@
 // The text of a structure.
 ghost use Rattle.std.specs.Prelude.{◌≡◌, ◌++◌, OnOk};
 ghost use Rattle.mk_ctab.specs.TableSpelling.{CanBeSpelt};
-ghost use Rattle.mk_enum.specs.Texts.{behind_blank, choice_numbers, structure_text};
+ghost use Rattle.mk_enum.specs.Texts.{behind_blank, numbers_text, structure_text};
 
 use mk_ctab::{RawTable, write_table};
 use mk_model::Memory;
@@ -26,9 +26,9 @@ pub fn put_text(
     out.extend_from_slice(b"$$$$\n")
 }
 
-// Appends numbers, each behind a blank.
-fn put_numbers(alloc: Global, out: &mut Vec<u8>, numbers: &[u32]) -> Result<(), Memory>
-    ensures { OnOk result (out.new.items ≡ out.old.items ++ choice_numbers numbers.now) }
+/// Appends numbers, each behind a blank.
+pub fn put_numbers(alloc: Global, out: &mut Vec<u8>, numbers: &[u32]) -> Result<(), Memory>
+    ensures { OnOk result (out.new.items ≡ out.old.items ++ numbers_text numbers.now) }
 {
     for number in numbers {
         put_behind_blank(alloc, out, *number)?;
