@@ -1,7 +1,9 @@
 // Calls that fail, and what the next run finds.
-use crate::test_files::{C, CO, COC, failing, files, is_run_over};
-use mk_outside::{Bytes, CallNumbers, MemFiles, MemKeeper, MemSink, MemSource, Memory, Tables};
-use mk_session::{Status, top};
+use crate::test_files::{
+    C, CO, COC, Calls, NO_CALLS, failing_keeper, files, is_run_over, is_stopped,
+};
+use mk_outside::{CallNumbers, MemFiles, MemKeeper};
+use mk_session::Status;
 use std::alloc::Global;
 use std::test::Fail;
 
@@ -68,25 +70,33 @@ static FAILURES: [Row; 8] = [
 ];
 
 // Whether the script ends so where calls fail, and writes this.
-fn is_stopped(alloc: Global, row: &Row) -> Result<bool, Fail> {
-    let mut files = MemFiles::new(files(alloc, CO, COC)?, failing(alloc, row.fails[1])?);
-    let script = Bytes::of(row.script.as_bytes().to_vec(alloc)?);
-    let mut input = MemSource::new(script, failing(alloc, row.fails[0])?);
-    let mut output = MemSink::new(Bytes::new(alloc), failing(alloc, row.fails[2])?);
-    let loads = failing(alloc, row.fails[3])?;
-    let mut keeper = MemKeeper::new(Tables::new(alloc), loads, CallNumbers::new(alloc));
-    let ended = top(alloc, &[], &mut files, &mut input, &mut output, &mut keeper);
-    if ended == Status::Memory {
-        return Err(Fail::from(Memory));
-    }
-    Ok(ended == row.status && output.bytes() == row.wanted.as_bytes())
+fn is_row_so(alloc: Global, row: &Row) -> Result<bool, Fail> {
+    let calls = Calls {
+        input: row.fails[0],
+        files: row.fails[1],
+        output: row.fails[2],
+        loads: row.fails[3],
+        commits: 0,
+    };
+    let mut keeper = failing_keeper(alloc, calls)?;
+    let wanted = row.wanted.as_bytes();
+    is_stopped(
+        alloc,
+        &mut keeper,
+        calls,
+        CO,
+        COC,
+        row.script,
+        wanted,
+        row.status,
+    )
 }
 
 #[test]
 fn a_failed_call_ends_the_run(rt: HostRuntime) -> Result<(), Fail> {
     let alloc = rt.alloc();
     for row in FAILURES.iter() {
-        assert!(rt; is_stopped(alloc, row)?, "{}", row.script);
+        assert!(rt; is_row_so(alloc, row)?, "{}", row.script);
     }
     Ok(())
 }
@@ -100,27 +110,33 @@ fn is_kept_run(
     status: Status,
 ) -> Result<bool, Fail> {
     let mut files = MemFiles::new(files(alloc, C, C)?, CallNumbers::new(alloc));
-    let is_so = is_run_over(alloc, &mut files, keeper, script, wanted, status)?;
-    Ok(is_so)
+    is_run_over(alloc, &mut files, keeper, script, wanted, status)
 }
 
 // Whether the third commit fails, a file isn't there in the next run, and the records before are
 // read again.
-fn is_read_again(alloc: Global) -> Result<bool, Fail> {
-    let commits = failing(alloc, 3)?;
-    let mut keeper = MemKeeper::new(Tables::new(alloc), CallNumbers::new(alloc), commits);
+fn is_read_again(alloc: Global, keeper: &mut MemKeeper) -> Result<bool, Fail> {
     let three = "load m\nload m\nload m";
     let two = "loaded 1 first 1\nloaded 1 first 2\n";
     let list = "records 3\nrecord 1\nrecord 2\nrecord 3\nqueries 0\ncursors 0\nnext 4 1\n";
-    let stopped = is_kept_run(alloc, &mut keeper, three, two, Status::Store)?;
+    let stopped = is_kept_run(alloc, keeper, three, two, Status::Store)?;
     let then = "load m\nload none.sdf";
-    let missed = is_kept_run(alloc, &mut keeper, then, "loaded 1 first 3\n", Status::Read)?;
-    let listed = is_kept_run(alloc, &mut keeper, "list", list, Status::Done)?;
+    let missed = is_kept_run(alloc, keeper, then, "loaded 1 first 3\n", Status::Read)?;
+    let listed = is_kept_run(alloc, keeper, "list", list, Status::Done)?;
     Ok(stopped && missed && listed)
+}
+
+fn is_read_again_by_another_run(alloc: Global) -> Result<bool, Fail> {
+    let calls = Calls {
+        commits: 3,
+        ..NO_CALLS
+    };
+    let mut keeper = failing_keeper(alloc, calls)?;
+    is_read_again(alloc, &mut keeper)
 }
 
 #[test]
 fn a_failed_commit_keeps_what_was_kept(rt: HostRuntime) -> Result<(), Fail> {
-    assert!(rt; is_read_again(rt.alloc())?);
+    assert!(rt; is_read_again_by_another_run(rt.alloc())?);
     Ok(())
 }

@@ -1,11 +1,10 @@
 // Two scripts over which each call of each object fails in turn: how they end, what is written, and
 // what is kept.
-use crate::test_files::{C, CO, Content, Written, failing, files};
-use mk_outside::{
-    Bytes, CallNumbers, MemFiles, MemKeeper, MemSink, MemSource, Memory, SureFiles, SureSink,
-    SureSource, Tables,
+use crate::test_files::{
+    C, CO, Calls, Content, NO_CALLS, Written, failing_keeper, files, is_run_over, is_stopped,
 };
-use mk_session::{Status, top};
+use mk_outside::{MemKeeper, Memory, SureFiles};
+use mk_session::Status;
 use std::alloc::Global;
 use std::test::Fail;
 
@@ -74,7 +73,7 @@ const OF_TWO: &str =
 const ENDED: &str = "records 2\nrecord 2\nrecord 3\nqueries 1\nquery q\ncursors 0\nnext 4 2\n";
 
 // Of whom a call fails.
-#[derive(Clone, Copy, PartialEq, Eq)]
+#[derive(Clone, Copy)]
 enum Object {
     Input,
     Files,
@@ -127,12 +126,29 @@ static SEARCH_FAULTS: [(Object, u64, Status, usize, &str); 15] = [
     (Object::Commits, 5, Status::Store, 4, OF_TWO),
 ];
 
-// The call that fails, where it is one of this object.
-fn of(alloc: Global, object: Object, failed: Object, call: u64) -> Result<CallNumbers, Memory> {
-    if object == failed {
-        failing(alloc, call)
-    } else {
-        Ok(CallNumbers::new(alloc))
+// This call of this object fails, and no other.
+fn calls_of(failed: Object, call: u64) -> Calls {
+    match failed {
+        Object::Input => Calls {
+            input: call,
+            ..NO_CALLS
+        },
+        Object::Files => Calls {
+            files: call,
+            ..NO_CALLS
+        },
+        Object::Output => Calls {
+            output: call,
+            ..NO_CALLS
+        },
+        Object::Loads => Calls {
+            loads: call,
+            ..NO_CALLS
+        },
+        Object::Commits => Calls {
+            commits: call,
+            ..NO_CALLS
+        },
     }
 }
 
@@ -148,13 +164,7 @@ fn first_answers(alloc: Global, answers: &[&'static str], count: usize) -> Resul
 // Whether `list` over the keeper writes this.
 fn is_kept(alloc: Global, keeper: &mut MemKeeper, wanted: &str) -> Result<bool, Fail> {
     let mut files = SureFiles::new(files(alloc, C, C)?);
-    let mut input = SureSource::new(Bytes::of(b"list".to_vec(alloc)?));
-    let mut output = SureSink::new(Bytes::new(alloc));
-    let ended = top(alloc, &[], &mut files, &mut input, &mut output, keeper);
-    if ended == Status::Memory {
-        return Err(Fail::from(Memory));
-    }
-    Ok(ended == Status::Done && output.bytes() == wanted.as_bytes())
+    is_run_over(alloc, &mut files, keeper, "list", wanted, Status::Done)
 }
 
 // Whether the script ends so where the call fails, with so many answers written, and this is kept.
@@ -167,23 +177,32 @@ fn is_so(
     count: usize,
     kept: &str,
 ) -> Result<bool, Fail> {
-    let mut files = MemFiles::new(
-        files(alloc, script.query, script.molecule)?,
-        of(alloc, Object::Files, failed, call)?,
-    );
-    let text = Bytes::of(script.text.as_bytes().to_vec(alloc)?);
-    let mut input = MemSource::new(text, of(alloc, Object::Input, failed, call)?);
-    let mut output = MemSink::new(Bytes::new(alloc), of(alloc, Object::Output, failed, call)?);
-    let loads = of(alloc, Object::Loads, failed, call)?;
-    let commits = of(alloc, Object::Commits, failed, call)?;
-    let mut keeper = MemKeeper::new(Tables::new(alloc), loads, commits);
-    let ended = top(alloc, &[], &mut files, &mut input, &mut output, &mut keeper);
-    if ended == Status::Memory {
-        return Err(Fail::from(Memory));
-    }
+    let calls = calls_of(failed, call);
+    let mut keeper = failing_keeper(alloc, calls)?;
+    is_so_over(alloc, &mut keeper, script, calls, status, count, kept)
+}
+
+fn is_so_over(
+    alloc: Global,
+    keeper: &mut MemKeeper,
+    script: &Script,
+    calls: Calls,
+    status: Status,
+    count: usize,
+    kept: &str,
+) -> Result<bool, Fail> {
     let answers = first_answers(alloc, script.answers, count)?;
-    let written = ended == status && output.bytes() == answers.as_slice();
-    Ok(written && is_kept(alloc, &mut keeper, kept)?)
+    let is_written = is_stopped(
+        alloc,
+        keeper,
+        calls,
+        script.query,
+        script.molecule,
+        script.text,
+        &answers,
+        status,
+    )?;
+    Ok(is_written && is_kept(alloc, keeper, kept)?)
 }
 
 #[test]
@@ -216,13 +235,22 @@ fn each_call_of_a_search_fails_in_turn(rt: HostRuntime) -> Result<(), Fail> {
 
 // Whether a match ends well where the third read of a file would fail.
 fn is_read_once(alloc: Global) -> Result<bool, Fail> {
-    let mut files = MemFiles::new(files(alloc, C, C)?, failing(alloc, 3)?);
-    let mut input = SureSource::new(Bytes::of(b"match q m".to_vec(alloc)?));
-    let mut output = SureSink::new(Bytes::new(alloc));
-    let none = CallNumbers::new(alloc);
-    let mut keeper = MemKeeper::new(Tables::new(alloc), none, CallNumbers::new(alloc));
-    let ended = top(alloc, &[], &mut files, &mut input, &mut output, &mut keeper);
-    Ok(ended == Status::Done && output.bytes() == b"hit 1 choice map 1\nend\n".as_slice())
+    let calls = Calls {
+        files: 3,
+        ..NO_CALLS
+    };
+    let mut keeper = failing_keeper(alloc, calls)?;
+    let wanted = b"hit 1 choice map 1\nend\n";
+    is_stopped(
+        alloc,
+        &mut keeper,
+        calls,
+        C,
+        C,
+        "match q m",
+        wanted,
+        Status::Done,
+    )
 }
 
 #[test]

@@ -14,29 +14,27 @@ const SESSION: &str =
 const SESSION_ANSWER: &str =
     "hit 1 choice map 1 2\nhit 1 choice map 3 2\nend\nloaded 1 first 1\nkept ether\nreplaced 1\nrecord 1 8\n\n\n\n  2  1  0  0  0  0            999 V2000\n    0.0000    0.0000    0.0000 C   0  0  0  0  0  0\n    0.0000    0.0000    0.0000 O   0  0  0  0  0  0\n  1  2  1  0  0  0\nM  END\nrefused 6 record 2\nremoved 1\nforgot ether\nrecords 0\nqueries 0\ncursors 0\nnext 2 1\n";
 
-#[test]
-fn a_session_answers_each_line(rt: HostRuntime) -> Result<(), Fail> {
-    let alloc = rt.alloc();
-    let mut files = SureFiles::new(files(alloc, CO, COC)?);
+fn is_answered(alloc: Global, files: &mut SureFiles) -> Result<bool, Fail> {
     let mut keeper = SureKeeper::new(Tables::new(alloc));
     let status = Status::Refused;
-    assert!(rt;
-        is_run_over(
-            alloc,
-            &mut files,
-            &mut keeper,
-            SESSION,
-            SESSION_ANSWER,
-            status
-        )?
-    );
+    is_run_over(alloc, files, &mut keeper, SESSION, SESSION_ANSWER, status)
+}
+
+fn is_each_line_answered(alloc: Global) -> Result<bool, Fail> {
+    let mut files = SureFiles::new(files(alloc, CO, COC)?);
+    is_answered(alloc, &mut files)
+}
+
+#[test]
+fn a_session_answers_each_line(rt: HostRuntime) -> Result<(), Fail> {
+    assert!(rt; is_each_line_answered(rt.alloc())?);
     Ok(())
 }
 
 // Whether a script is too long, and five bytes of it are left.
 fn is_left(alloc: Global) -> Result<bool, Memory> {
-    let mut files = SureFiles::new(FileRows::new(alloc));
     let mut input = SureSource::new(Bytes::of(vec![in alloc; b' '; 16_777_216 + 4_096 + 5]?));
+    let mut files = SureFiles::new(FileRows::new(alloc));
     let mut output = SureSink::new(Bytes::new(alloc));
     let mut keeper = SureKeeper::new(Tables::new(alloc));
     let ended = top(alloc, &[], &mut files, &mut input, &mut output, &mut keeper);

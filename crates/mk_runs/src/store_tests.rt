@@ -1,8 +1,9 @@
 // Runs over tables in memory: searches that go on, commits that fail, and rows that no file has.
-use crate::test_files::{C, CO, COC, Content, bytes_of, failing, files, is_run_over};
+use crate::test_files::{
+    C, CO, COC, Calls, Content, NO_CALLS, bytes_of, failing_keeper, files, is_run_over,
+};
 use mk_outside::{
-    Bytes, CallNumbers, CursorRow, Keeper, MemKeeper, Memory, Place, QueryRow, SureFiles,
-    SureKeeper, Tables,
+    Bytes, CursorRow, Keeper, MemKeeper, Memory, Place, QueryRow, SureFiles, SureKeeper, Tables,
 };
 use mk_session::Status;
 use std::alloc::Global;
@@ -18,8 +19,7 @@ fn is_run_on<K: Keeper>(
     status: Status,
 ) -> Result<bool, Fail> {
     let mut files = SureFiles::new(files(alloc, CO, COC)?);
-    let is_so = is_run_over(alloc, &mut files, keeper, script, wanted, status)?;
-    Ok(is_so)
+    is_run_over(alloc, &mut files, keeper, script, wanted, status)
 }
 
 fn query_row(alloc: Global, number: u32, name: &str, text: Content) -> Result<QueryRow, Fail> {
@@ -39,26 +39,37 @@ fn search_row(alloc: Global) -> Result<CursorRow, Memory> {
     })
 }
 
-#[test]
-fn stored_searches_go_on(rt: HostRuntime) -> Result<(), Fail> {
-    let alloc = rt.alloc();
-    let mut tables = Tables::new(alloc);
+fn put_search(alloc: Global, tables: &mut Tables) -> Result<(), Fail> {
     tables.queries.push(query_row(alloc, 1, "q", CO)?)?;
     tables.cursors.push(search_row(alloc)?)?;
     tables.next_cursor = 2;
-    let mut keeper = SureKeeper::new(tables);
+    Ok(())
+}
+
+fn stored_search(alloc: Global) -> Result<Tables, Fail> {
+    let mut tables = Tables::new(alloc);
+    put_search(alloc, &mut tables)?;
+    Ok(tables)
+}
+
+fn is_gone_on(alloc: Global) -> Result<bool, Fail> {
+    let mut keeper = SureKeeper::new(stored_search(alloc)?);
     let script = "load m\nresume 1 2";
     let wanted = "loaded 1 first 1\nhit 1 choice map 3 2\nend\n";
-    assert!(rt; is_run_on(alloc, &mut keeper, script, wanted, Status::Done)?);
+    is_run_on(alloc, &mut keeper, script, wanted, Status::Done)
+}
+
+#[test]
+fn stored_searches_go_on(rt: HostRuntime) -> Result<(), Fail> {
+    assert!(rt; is_gone_on(rt.alloc())?);
     Ok(())
 }
 
 // Whether the place behind the first of two hits is saved: the record, the numbers of the map, and 0.
-fn is_place_saved(alloc: Global) -> Result<bool, Fail> {
-    let mut keeper = SureKeeper::new(Tables::new(alloc));
+fn is_place_saved(alloc: Global, keeper: &mut SureKeeper) -> Result<bool, Fail> {
     let script = "load m\nquery q q\nsearch q 1";
     let wanted = "loaded 1 first 1\nkept q\nhit 1 choice map 1 2\nmore 1\n";
-    let is_so = is_run_on(alloc, &mut keeper, script, wanted, Status::Done)?;
+    let is_so = is_run_on(alloc, keeper, script, wanted, Status::Done)?;
     let rows = keeper.tables().cursors.as_slice();
     Ok(
         is_so
@@ -69,22 +80,39 @@ fn is_place_saved(alloc: Global) -> Result<bool, Fail> {
     )
 }
 
+fn is_saved(alloc: Global) -> Result<bool, Fail> {
+    let mut keeper = SureKeeper::new(Tables::new(alloc));
+    is_place_saved(alloc, &mut keeper)
+}
+
 #[test]
 fn a_place_is_saved(rt: HostRuntime) -> Result<(), Fail> {
-    assert!(rt; is_place_saved(rt.alloc())?);
+    assert!(rt; is_saved(rt.alloc())?);
     Ok(())
+}
+
+fn put_falling(alloc: Global, tables: &mut Tables) -> Result<(), Fail> {
+    tables.queries.push(query_row(alloc, 2, "b", C)?)?;
+    tables.queries.push(query_row(alloc, 1, "a", C)?)?;
+    Ok(())
+}
+
+fn falling_rows(alloc: Global) -> Result<Tables, Fail> {
+    let mut tables = Tables::new(alloc);
+    put_falling(alloc, &mut tables)?;
+    Ok(tables)
+}
+
+fn is_lower_row_named(alloc: Global) -> Result<bool, Fail> {
+    let mut keeper = SureKeeper::new(falling_rows(alloc)?);
+    let wanted = "bad store query 1\n";
+    is_run_on(alloc, &mut keeper, "list", wanted, Status::BadStore)
 }
 
 // The rows of a file come by rising number, those of memory as they stand.
 #[test]
 fn a_row_below_the_one_before_is_named(rt: HostRuntime) -> Result<(), Fail> {
-    let alloc = rt.alloc();
-    let mut tables = Tables::new(alloc);
-    tables.queries.push(query_row(alloc, 2, "b", C)?)?;
-    tables.queries.push(query_row(alloc, 1, "a", C)?)?;
-    let mut keeper = SureKeeper::new(tables);
-    let wanted = "bad store query 1\n";
-    assert!(rt; is_run_on(alloc, &mut keeper, "list", wanted, Status::BadStore)?);
+    assert!(rt; is_lower_row_named(rt.alloc())?);
     Ok(())
 }
 
@@ -145,11 +173,18 @@ static FAILURES: [Failure; 4] = [
 ];
 
 // Whether the script ends so where its commit fails, and the next one so over what is kept.
+fn is_kept_over(alloc: Global, keeper: &mut MemKeeper, row: &Failure) -> Result<bool, Fail> {
+    let is_so = is_run_on(alloc, keeper, row.script, row.wanted, row.status)?;
+    Ok(is_so && is_run_on(alloc, keeper, row.others, row.then, row.ended)?)
+}
+
 fn is_kept(alloc: Global, row: &Failure) -> Result<bool, Fail> {
-    let commits = failing(alloc, row.fails)?;
-    let mut keeper = MemKeeper::new(Tables::new(alloc), CallNumbers::new(alloc), commits);
-    let is_so = is_run_on(alloc, &mut keeper, row.script, row.wanted, row.status)?;
-    Ok(is_so && is_run_on(alloc, &mut keeper, row.others, row.then, row.ended)?)
+    let calls = Calls {
+        commits: row.fails,
+        ..NO_CALLS
+    };
+    let mut keeper = failing_keeper(alloc, calls)?;
+    is_kept_over(alloc, &mut keeper, row)
 }
 
 #[test]
