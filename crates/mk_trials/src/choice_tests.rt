@@ -33,9 +33,14 @@ fn codes_in_order(rt: HostRuntime) -> Result<(), Fail> {
     Ok(())
 }
 
-// The codes, a 0 where there are no more, and the place then.
+// The codes, a 0 where there are no more, and the place then. `Codes` have one way out in the function
+// that makes them, since the prover goes through all that is let go at each of them.
 fn all_codes(alloc: Global, query: &Query) -> Result<Vec<u32>, Memory> {
     let mut codes = Codes::from_place(alloc, query, &[])?;
+    codes_left(alloc, &mut codes)
+}
+
+fn codes_left(alloc: Global, codes: &mut Codes<'_>) -> Result<Vec<u32>, Memory> {
     let mut told = Vec::new(alloc);
     for _ in 0..4 {
         match codes.next() {
@@ -58,6 +63,10 @@ fn rewound(rt: HostRuntime) -> Result<(), Fail> {
 
 fn goes_to_each(alloc: Global, query: &Query) -> Result<bool, Memory> {
     let mut codes = Codes::from_place(alloc, query, &[2, 2, 0])?;
+    go_to_each(alloc, &mut codes)
+}
+
+fn go_to_each(alloc: Global, codes: &mut Codes<'_>) -> Result<bool, Memory> {
     for (_, front, want) in &ROWS {
         codes.rewind(front)?;
         let place = codes.place(alloc)?;
@@ -114,6 +123,10 @@ fn codes_at_the_front(rt: HostRuntime) -> Result<(), Fail> {
 
 fn turns_from(alloc: Global, query: &Query, place: &[u32]) -> Result<Vec<u8>, Memory> {
     let mut codes = Codes::from_place(alloc, query, place)?;
+    turns_of(alloc, &mut codes)
+}
+
+fn turns_of(alloc: Global, codes: &mut Codes<'_>) -> Result<Vec<u8>, Memory> {
     let mut told = Vec::new(alloc);
     for _ in 0..16 {
         match codes.advance() {

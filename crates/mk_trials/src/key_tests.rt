@@ -193,9 +193,18 @@ fn keys_on<L: Ledger>(
 {
     let mut steps = Steps::<L>::new(blank);
     let mut hits = Hits::from_place(alloc, shelf, query, place)?;
+    keys_left(alloc, &mut hits, &mut steps)
+}
+
+// The search has one way out above, since the prover goes through all that is let go at each of them.
+fn keys_left<L: Ledger>(
+    alloc: Global,
+    hits: &mut Hits<'_>,
+    steps: &mut Steps<L>,
+) -> Result<Vec<Key>, Memory> {
     let mut keys = Vec::new(alloc);
     for _ in 0..20u32 {
-        let Some(key) = hits.next(alloc, &mut steps)? else {
+        let Some(key) = hits.next(alloc, steps)? else {
             break;
         };
         keys.push(key)?;

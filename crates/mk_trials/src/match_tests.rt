@@ -101,6 +101,16 @@ fn place_at_end<L: Ledger>(
 {
     let mut steps = Steps::<L>::new(blank);
     let mut maps = Maps::from_place(alloc, graph, mol, place, &mut steps)?;
+    place_behind_one(alloc, &mut maps, place)
+}
+
+// A search has one way out in the function that makes it, since the prover goes through all that is
+// let go at each of them.
+fn place_behind_one(
+    alloc: Global,
+    maps: &mut Maps<'_>,
+    place: &[u32],
+) -> Result<Option<Place>, Memory> {
     let first = maps.place(alloc)?;
     if first.as_slice() != place || maps.next().is_none() || maps.next().is_some() {
         return Ok(None);
@@ -142,6 +152,10 @@ fn turns_from<L: Ledger>(
 {
     let mut steps = Steps::<L>::new(blank);
     let mut maps = Maps::from_place(alloc, graph, mol, place, &mut steps)?;
+    told_by(alloc, &mut maps)
+}
+
+fn told_by(alloc: Global, maps: &mut Maps<'_>) -> Result<Vec<u8>, Memory> {
     let mut told = Vec::new(alloc);
     for _ in 0..32 {
         match maps.advance() {

@@ -297,9 +297,19 @@ fn hits_on<L: Ledger>(
 {
     let mut steps = Steps::<L>::new(blank);
     let mut hits = Hits::from_place(alloc, shelf, query, place)?;
+    keys_and_end(alloc, &mut hits, &mut steps)
+}
+
+// The keys that are left, and the place at the end. A search has one way out in the function that
+// makes it, since the prover goes through all that is let go at each of them.
+fn keys_and_end<L: Ledger>(
+    alloc: Global,
+    hits: &mut Hits<'_>,
+    steps: &mut Steps<L>,
+) -> Result<(Vec<Key>, Place), Memory> {
     let mut keys = Vec::new(alloc);
     for _ in 0..20u32 {
-        let Some(key) = hits.next(alloc, &mut steps)? else {
+        let Some(key) = hits.next(alloc, steps)? else {
             break;
         };
         keys.push(key)?;
@@ -360,9 +370,17 @@ fn firsts<L: Ledger>(
 {
     let mut steps = Steps::<L>::new(blank);
     let mut hits = Hits::from_place(alloc, shelf, query, &[])?;
+    firsts_left(alloc, &mut hits, &mut steps)
+}
+
+fn firsts_left<L: Ledger>(
+    alloc: Global,
+    hits: &mut Hits<'_>,
+    steps: &mut Steps<L>,
+) -> Result<Vec<Key>, Memory> {
     let mut keys = Vec::new(alloc);
     for _ in 0..20u32 {
-        let Some(key) = hits.next(alloc, &mut steps)? else {
+        let Some(key) = hits.next(alloc, steps)? else {
             break;
         };
         keys.push(key)?;
