@@ -55,15 +55,27 @@ pub fn restarted(mut files: Files<Fused>) -> Files<Fused> {
     files
 }
 
+// How many batches were made over a keeper, and its files afterwards. A keeper has one way out in
+// each function here, since the prover goes through all that is let go at each of them.
+fn made_and_closed(alloc: Global, mut keeper: FusedKeeper) -> Result<(usize, Files<Fused>), Fail> {
+    let made = made(&mut keeper, alloc);
+    let files = closed(keeper).ok_or("no files")?;
+    Ok((made?, files))
+}
+
+fn loaded_by(alloc: Global, mut keeper: FusedKeeper) -> Result<Vec<u8>, AllocError> {
+    loaded(&mut keeper, alloc)
+}
+
 // How many batches were made over files that stop after so many calls, and what is loaded of them
 // afterwards.
 fn stopped(alloc: Global, log: u64, db: u64) -> Result<(usize, Vec<u8>), Fail> {
     let (made, files) = match opened(alloc, files(alloc, log, db)) {
-        Ok(mut keeper) => (made(&mut keeper, alloc)?, closed(keeper).ok_or("no files")?),
+        Ok(keeper) => made_and_closed(alloc, keeper)?,
         Err(files) => (0, files),
     };
     match opened(alloc, restarted(files)) {
-        Ok(mut keeper) => Ok((made, loaded(&mut keeper, alloc)?)),
+        Ok(keeper) => Ok((made, loaded_by(alloc, keeper)?)),
         Err(_files) => Err(Fail::new("files that can't be opened again")),
     }
 }
@@ -116,14 +128,20 @@ fn a_stopped_database_leaves_whole_batches(rt: HostRuntime) -> Result<(), Fail> 
     Ok(())
 }
 
+// Whether both batches are made, and are there once the keeper is opened again.
+fn is_kept_again(alloc: Global, mut keeper: FusedKeeper) -> Result<bool, Fail> {
+    let made = made(&mut keeper, alloc);
+    let keeper = again(alloc, keeper, Options::new(7)).ok_or("a keeper")?;
+    let left = loaded_by(alloc, keeper)?;
+    Ok(made? == 2 && is_left(left.as_slice(), 2))
+}
+
 #[test]
 fn a_keeper_opened_again_keeps_all(rt: HostRuntime) -> Result<(), Fail> {
     let alloc = rt.alloc();
-    let Ok(mut keeper) = opened(alloc, files(alloc, u64::MAX, u64::MAX)) else {
+    let Ok(keeper) = opened(alloc, files(alloc, u64::MAX, u64::MAX)) else {
         return Err(Fail::new("files that can't be opened"));
     };
-    assert_eq!(rt; made(&mut keeper, alloc)?, 2);
-    let mut keeper = again(alloc, keeper, Options::new(7)).ok_or("a keeper")?;
-    assert!(rt; is_left(loaded(&mut keeper, alloc)?.as_slice(), 2));
+    assert!(rt; is_kept_again(alloc, keeper)?);
     Ok(())
 }

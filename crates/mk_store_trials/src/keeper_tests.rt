@@ -147,30 +147,72 @@ pub fn loaded<K: Keeper>(keeper: &mut K, alloc: Global) -> Result<Vec<u8>, Alloc
     }
 }
 
-fn kept_in_memory(alloc: Global) -> Result<Vec<u8>, AllocError> {
-    let mut keeper = SureKeeper::new(Tables::new(alloc));
-    put_all(&mut keeper, alloc)?;
-    let mut kept = loaded(&mut keeper, alloc)?;
-    drop_both(&mut keeper, alloc)?;
-    kept.extend_from_slice(&loaded(&mut keeper, alloc)?)?;
+// What is loaded, where the query and the cursor can be dropped afterwards.
+fn load_and_drop<K: Keeper>(keeper: &mut K, alloc: Global) -> Result<Vec<u8>, AllocError> {
+    let kept = loaded(keeper, alloc)?;
+    Ok(if drop_both(keeper, alloc)? {
+        kept
+    } else {
+        Vec::new(alloc)
+    })
+}
+
+fn kept_by<K: Keeper>(keeper: &mut K, alloc: Global) -> Result<Vec<u8>, AllocError> {
+    put_all(keeper, alloc)?;
+    let mut kept = load_and_drop(keeper, alloc)?;
+    kept.extend_from_slice(&loaded(keeper, alloc)?)?;
     Ok(kept)
 }
 
+fn kept_in_memory(alloc: Global) -> Result<Vec<u8>, AllocError> {
+    let mut keeper = SureKeeper::new(Tables::new(alloc));
+    kept_by(&mut keeper, alloc)
+}
+
+// What is done with a keeper over a file: both batches are made; what is loaded is put behind the text,
+// and two rows are dropped; or it is put there alone.
+#[derive(Clone, Copy)]
+enum Step {
+    Put,
+    LoadAndDrop,
+    Load,
+}
+
+fn is_done<K: Keeper>(
+    keeper: &mut K,
+    alloc: Global,
+    step: Step,
+    kept: &mut Vec<u8>,
+) -> Result<bool, AllocError> {
+    match step {
+        Step::Put => put_all(keeper, alloc),
+        Step::LoadAndDrop => {
+            kept.extend_from_slice(&load_and_drop(keeper, alloc)?)?;
+            Ok(true)
+        }
+        Step::Load => {
+            kept.extend_from_slice(&loaded(keeper, alloc)?)?;
+            Ok(true)
+        }
+    }
+}
+
+// A keeper of its own for each step. It is made in one place and has one way out there, since the
+// prover goes through all that is let go at each of them.
+fn is_done_in_file(rt: &HostRuntime, step: Step, kept: &mut Vec<u8>) -> Result<bool, AllocError> {
+    let mut keeper = SqlKeeper::at(rt, "kept.db", Unknown);
+    is_done(&mut keeper, rt.alloc(), step, kept)
+}
+
 fn kept_in_file(rt: &HostRuntime) -> Result<Vec<u8>, AllocError> {
-    let mut keeper = SqlKeeper::at(rt, "kept.db", Unknown);
-    let put = put_all(&mut keeper, rt.alloc())?;
-    drop(keeper);
-    let mut keeper = SqlKeeper::at(rt, "kept.db", Unknown);
-    let mut kept = loaded(&mut keeper, rt.alloc())?;
-    let dropped = drop_both(&mut keeper, rt.alloc())?;
-    drop(keeper);
-    let mut keeper = SqlKeeper::at(rt, "kept.db", Unknown);
-    kept.extend_from_slice(&loaded(&mut keeper, rt.alloc())?)?;
-    Ok(if put && dropped {
-        kept
-    } else {
-        Vec::new(rt.alloc())
-    })
+    let mut kept = Vec::new(rt.alloc());
+    if is_done_in_file(rt, Step::Put, &mut kept)?
+        && is_done_in_file(rt, Step::LoadAndDrop, &mut kept)?
+        && is_done_in_file(rt, Step::Load, &mut kept)?
+    {
+        return Ok(kept);
+    }
+    Ok(Vec::new(rt.alloc()))
 }
 
 #[test]
@@ -195,14 +237,22 @@ fn is_refused<K: Keeper>(keeper: &mut K, alloc: Global) -> Result<bool, AllocErr
     ))
 }
 
+// Whether a batch is refused whole, and leaves the one before.
+fn is_refused_whole<K: Keeper>(keeper: &mut K, alloc: Global) -> Result<bool, AllocError> {
+    let query = query(alloc, 2)?;
+    let is_made = keeper.commit(alloc, &[query]).is_ok();
+    let is_refused = is_refused(keeper, alloc)?;
+    Ok(is_made && is_refused && loaded(keeper, alloc)?.as_slice() == b"2qt11".as_slice())
+}
+
+fn is_refused_in_memory(alloc: Global) -> Result<bool, AllocError> {
+    let mut keeper = SqlKeeper::over(Connection::open_in_memory(alloc)?);
+    is_refused_whole(&mut keeper, alloc)
+}
+
 #[test]
 fn a_refused_batch_leaves_nothing(rt: HostRuntime) -> Result<(), Fail> {
-    let alloc = rt.alloc();
-    let mut keeper = SqlKeeper::over(Connection::open_in_memory(alloc)?);
-    let query = query(alloc, 2)?;
-    assert!(rt; keeper.commit(alloc, &[query]).is_ok());
-    assert!(rt; is_refused(&mut keeper, alloc)?);
-    assert!(rt; loaded(&mut keeper, alloc)?.as_slice() == b"2qt11".as_slice());
+    assert!(rt; is_refused_in_memory(rt.alloc())?);
     Ok(())
 }
 
@@ -222,14 +272,20 @@ fn fails_to_load(alloc: Global, before: &str) -> Result<bool, AllocError> {
     }
 }
 
+// Whether a path that names no file fails to load, and leaves nothing behind.
+fn is_shut(rt: &HostRuntime) -> bool {
+    let mut shut = SqlKeeper::at(rt, ":memory:", Unknown);
+    let fails = matches!(shut.load(rt.alloc()), Err(KeepFail::Failed));
+    let is_gone = matches!(shut.back(), None);
+    fails && is_gone
+}
+
 #[test]
 fn strange_rows_fail(rt: HostRuntime) -> Result<(), Fail> {
     for (name, before) in STRANGE.iter() {
         assert!(rt; fails_to_load(rt.alloc(), before)?, "{name}");
     }
-    let mut shut = SqlKeeper::at(&rt, ":memory:", Unknown);
-    assert!(rt; matches!(shut.load(rt.alloc()), Err(KeepFail::Failed)));
-    assert!(rt; matches!(shut.back(), None));
+    assert!(rt; is_shut(&rt));
     Ok(())
 }
 
@@ -255,9 +311,13 @@ static SCHEMAS: [(&str, &str, &str); 3] = [
     ),
 ];
 
+fn is_loaded<K: Keeper>(keeper: &mut K, alloc: Global, wanted: &str) -> Result<bool, AllocError> {
+    Ok(loaded(keeper, alloc)?.as_slice() == wanted.as_bytes())
+}
+
 fn loads(alloc: Global, before: &str, wanted: &str) -> Result<bool, AllocError> {
     match over(alloc, before)? {
-        Some(mut keeper) => Ok(loaded(&mut keeper, alloc)?.as_slice() == wanted.as_bytes()),
+        Some(mut keeper) => is_loaded(&mut keeper, alloc, wanted),
         None => Ok(false),
     }
 }

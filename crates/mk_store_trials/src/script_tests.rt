@@ -1,8 +1,9 @@
 // A script over disks in memory that stop at each of their calls. The program's run over a store is
 // `top` over this keeper.
-use crate::disk_tests::{FusedKeeper, closed, files, opened, restarted};
+use crate::disk_tests::{Fused, FusedKeeper, closed, files, opened, restarted};
 use mk_outside::{Bytes, FileRow, FileRows, SureFiles, SureSink, SureSource, Text};
 use mk_session::{Memory, Status, top};
+use sqlite::Files;
 use std::alloc::Global;
 use std::test::Fail;
 
@@ -33,13 +34,36 @@ fn chains(alloc: Global) -> Result<FileRows, Memory> {
     Ok(rows)
 }
 
-// What a script over the keeper writes, and how it ends.
+// What a script over the keeper writes, and how it ends. Each object is made in a function of its
+// own, since the prover goes through all that is let go at each way out.
 fn ran(alloc: Global, keeper: &mut FusedKeeper, script: &str) -> Result<(Vec<u8>, Status), Memory> {
     let mut files = SureFiles::new(chains(alloc)?);
+    ran_over(alloc, &mut files, keeper, script)
+}
+
+fn ran_over(
+    alloc: Global,
+    files: &mut SureFiles,
+    keeper: &mut FusedKeeper,
+    script: &str,
+) -> Result<(Vec<u8>, Status), Memory> {
     let mut input = SureSource::new(text(alloc, script)?);
+    ran_from(alloc, files, &mut input, keeper)
+}
+
+fn ran_from(
+    alloc: Global,
+    files: &mut SureFiles,
+    input: &mut SureSource,
+    keeper: &mut FusedKeeper,
+) -> Result<(Vec<u8>, Status), Memory> {
     let mut output = SureSink::new(Bytes::new(alloc));
-    let ended = top(alloc, &[], &mut files, &mut input, &mut output, keeper);
-    Ok((Vec::from_slice(alloc, output.bytes())?, ended))
+    let ended = top(alloc, &[], files, input, &mut output, keeper);
+    with_status(alloc, output.bytes(), ended)
+}
+
+fn with_status(alloc: Global, text: &[u8], ended: Status) -> Result<(Vec<u8>, Status), Memory> {
+    Ok((Vec::from_slice(alloc, text)?, ended))
 }
 
 // What is written by none, one, two and all of the commands, and what is then listed.
@@ -76,30 +100,54 @@ fn is_listed(alloc: Global, keeper: &mut FusedKeeper, commands: usize) -> Result
     }
 }
 
+// How many of the commands are answered over the keeper.
+fn commands_answered(alloc: Global, keeper: &mut FusedKeeper) -> Result<usize, Fail> {
+    let (answers, ended) = ran(alloc, keeper, "load coc\nquery q co\nsearch q 1\n")?;
+    let commands = answered(answers.as_slice()).ok_or("whole answers")?;
+    if (ended == Status::Done) != (commands == 3) {
+        return Err(Fail::new("a status of another end"));
+    }
+    Ok(commands)
+}
+
+fn answered_and_closed(
+    alloc: Global,
+    mut keeper: FusedKeeper,
+) -> Result<(usize, Files<Fused>), Fail> {
+    let commands = commands_answered(alloc, &mut keeper)?;
+    Ok((commands, closed(keeper).ok_or("files")?))
+}
+
+// Whether the keeper holds what so many commands made, or one more.
+fn is_either_listed(
+    alloc: Global,
+    keeper: &mut FusedKeeper,
+    commands: usize,
+) -> Result<bool, Memory> {
+    if is_listed(alloc, keeper, commands)? {
+        return Ok(true);
+    }
+    is_listed(alloc, keeper, commands.saturating_add(1))
+}
+
+fn is_whole(alloc: Global, mut keeper: FusedKeeper, commands: usize) -> Result<bool, Memory> {
+    is_either_listed(alloc, &mut keeper, commands)
+}
+
 // How many of the commands are answered over files that stop after so many calls. Fails where the
 // store then holds neither what they made nor that of one command more.
 fn stopped(alloc: Global, log: u64, db: u64) -> Result<usize, Fail> {
     let (commands, files) = match opened(alloc, files(alloc, log, db)) {
-        Ok(mut keeper) => {
-            let (answers, ended) = ran(alloc, &mut keeper, "load coc\nquery q co\nsearch q 1\n")?;
-            let commands = answered(answers.as_slice()).ok_or("whole answers")?;
-            if (ended == Status::Done) != (commands == 3) {
-                return Err(Fail::new("a status of another end"));
-            }
-            (commands, closed(keeper).ok_or("files")?)
-        }
+        Ok(keeper) => answered_and_closed(alloc, keeper)?,
         Err(files) => (0, files),
     };
-    let Ok(mut keeper) = opened(alloc, restarted(files)) else {
+    let Ok(keeper) = opened(alloc, restarted(files)) else {
         return Err(Fail::new("files that can't be opened again"));
     };
-    if is_listed(alloc, &mut keeper, commands)? {
-        return Ok(commands);
+    if !is_whole(alloc, keeper, commands)? {
+        return Err(Fail::new("the tables of no number of commands"));
     }
-    if is_listed(alloc, &mut keeper, commands.saturating_add(1))? {
-        return Ok(commands);
-    }
-    Err(Fail::new("the tables of no number of commands"))
+    Ok(commands)
 }
 
 // Stops the log at each call until all commands are answered, and the database at each of its first
