@@ -12,6 +12,7 @@ pub mod BoundLemmas
 pub mod RowLemmas
 pub mod LostLemmas
 pub mod AheadLemmas
+pub mod ExampleFits
 pub mod OnLiterals
 pub mod ForCallers
 pub mod TurnLemmas

@@ -12,7 +12,7 @@ use Rattle.mk_model.proofs.OnLiterals.{group, plain_group, range, single, then_q
 use Rattle.mk_choice.specs.Bounds.{most_filled_at}
 use Rattle.mk_choice.specs.Frames.{from_at}
 use Rattle.mk_choice.specs.Search.{borne}
-use Rattle.mk_fixtures.proofs.ExampleFits.{fits}
+use Rattle.mk_choice.proofs.ExampleFits.{fits}
 
 -- ---- frames
 

@@ -1,2 +1,1 @@
 pub mod FixtureLemmas
-pub mod ExampleFits

@@ -2,7 +2,7 @@ use Rattle.std.proofs.Common.{◌≡◌, ◌+◌, ◌∷◌, ◌++◌, [], List,
 use Rattle.std.proofs.lemmas.List.{replicate-append-replicate}
 use Rattle.mk_model.specs.declared.group.Group.{Group}
 use Rattle.mk_model.proofs.OnLiterals.{group, plain_group, range, then_query}
-use Rattle.mk_fixtures.proofs.ExampleFits.{fits_so}
+use Rattle.mk_choice.proofs.ExampleFits.{fits_so}
 use Rattle.mk_fixtures.proofs.queries.query_of_two_sites.Goals as goal
 
 -- one group more
