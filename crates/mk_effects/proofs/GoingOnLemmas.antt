@@ -25,15 +25,15 @@ use Rattle.mk_library.specs.Pending.{InTurn, RecordsChangeAlone}
 use Rattle.mk_library.specs.Records.{is_held}
 use Rattle.mk_library.proofs.ForCallers.{kept_lines_are_short}
 use Rattle.mk_kept.specs.Names.{IsName}
-use Rattle.mk_effects.specs.declared.effect.Stop.{Stop}
-use Rattle.mk_effects.specs.Effects.{Answers, Effect, Refuses, after_effect}
-use Rattle.mk_effects.specs.Files.{Look}
+use Rattle.mk_effects.specs.declared.hit_lines.Stop.{Stop}
+use Rattle.mk_edits.specs.Effects.{Answers, Effect, Refuses, after_effect}
+use Rattle.mk_edits.specs.Files.{Look}
 use Rattle.mk_kept.specs.StoredRows.{CanGoOn, EachReads, ReadsCursor, ReadsQuery}
-use Rattle.mk_effects.specs.Loading.{IsEditMade, IsEdited, IsReplace, NoRecordReplaced, ReplacesHeld}
+use Rattle.mk_edits.specs.Loading.{IsEditMade, IsEdited, IsReplace, NoRecordReplaced, ReplacesHeld}
 use Rattle.mk_effects.specs.Match.{IsMatch, ListsKeys, QueryRefused, Searches}
-use Rattle.mk_effects.specs.MoleculeFiles.{ComesByFile, GoesByMolecules, MoleculesRefused, MoleculesTooLong}
-use Rattle.mk_effects.specs.Queries.{FileIsRefused, Forgets, IsForget, IsKeep, Keeps, NameIsHeld, NoQueryForgotten, QueriesAreFull, TextsAreFull, drop_of, forget_changes, kept_text}
-use Rattle.mk_effects.specs.Records.{IsRemove, IsShow, NoRecordRemoved, NoRecordShown, Removes, Shows}
+use Rattle.mk_edits.specs.MoleculeFiles.{ComesByFile, GoesByMolecules, MoleculesRefused, MoleculesTooLong}
+use Rattle.mk_edits.specs.Queries.{FileIsRefused, Forgets, IsForget, IsKeep, Keeps, NameIsHeld, NoQueryForgotten, QueriesAreFull, TextsAreFull, drop_of, forget_changes, kept_text}
+use Rattle.mk_edits.specs.Records.{IsRemove, IsShow, NoRecordRemoved, NoRecordShown, Removes, Shows}
 use Rattle.mk_kept.specs.Saved.{IsMeant, greatest_number, kept_tables, longest_place}
 use Rattle.mk_kept.specs.SavedPending.{IsInPlace}
 use Rattle.mk_effects.specs.Searching.{IsListing, IsMoleculeAt, IsResume, IsSearch, ListsAll, ListsRest, MovesPlace, NoQuerySearched, NoSearchResumed, SavesPlace, SearchesAreFull}
@@ -41,7 +41,7 @@ use Rattle.mk_effects.specs.Structures.{IsEnum, NoQueryEnumerated, WritesStructu
 use Rattle.mk_effects.specs.Table.{IsTableAnswer, NoQueryTabled, WritesRows}
 use Rattle.mk_kept.specs.Named.{IsQueryNamed}
 use Rattle.mk_kept.proofs.ForCallers.{all_of_each, below_all, none_above_greatest, drop_cursor_goes_on, drop_query_goes_on, later_cursor_goes_on, new_cursor_goes_on, put_query_goes_on, named_of, search_is_held, place_is_kept}
-use Rattle.mk_effects.proofs.QueriesLemmas.{among_all, forget_places, kept_is_meant}
+use Rattle.mk_edits.proofs.QueriesLemmas.{among_all, forget_places, kept_is_meant}
 
 -- the laws of other crates on which this one rests
 pub record KeepingLaws : Type 0 where

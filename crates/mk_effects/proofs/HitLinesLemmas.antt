@@ -15,8 +15,8 @@ use Rattle.mk_model.specs.Keys.{IsKey}
 use Rattle.mk_model.specs.Molecules.{Molecule}
 use Rattle.mk_model.specs.Queries.{QueryView}
 use Rattle.mk_model.proofs.ForCallers.{code_of_valid, one_code}
-use Rattle.mk_effects.specs.declared.effect.Stop.{Stop}
-use Rattle.mk_effects.specs.declared.effect.Stop.TheVariants as stop
+use Rattle.mk_effects.specs.declared.hit_lines.Stop.{Stop}
+use Rattle.mk_effects.specs.declared.hit_lines.Stop.TheVariants as stop
 use Rattle.mk_effects.specs.Hits.{AreHitLines, HasParts, HaveParts, IsHitLine, IsHitsText, PutsLine, hit_line, stop_line}
 
 -- ---- one key

@@ -1,15 +1,8 @@
 pub mod HitLinesLemmas
 pub mod ListingsLemmas
-pub mod QueryFilesLemmas
 pub mod MatchLemmas
-pub mod FindingsLemmas
-pub mod QueriesLemmas
 pub mod SearchingLemmas
 pub mod PacedLemmas
-pub mod LoadingLemmas
-pub mod OneEditLemmas
-pub mod OneQueryFileLemmas
-pub mod OneKeepLemmas
 pub mod OneSearchLemmas
 pub mod TableLemmas
 pub mod StructuresLemmas

@@ -11,11 +11,11 @@ use Rattle.mk_outside.specs.declared.tables.Change.TheVariants.{PutCursor, DropC
 use Rattle.mk_outside.specs.declared.tables.CursorRow.{CursorRow}
 use Rattle.mk_outside.specs.declared.tables.QueryRow.{QueryRow}
 use Rattle.mk_outside.specs.declared.tables.Tables.{Tables}
-use Rattle.mk_effects.specs.declared.effect.Stop.{Stop}
-use Rattle.mk_effects.specs.declared.effect.Stop.TheVariants as stop
-use Rattle.mk_effects.specs.Effects.{Answers, Effect, Refuses}
+use Rattle.mk_effects.specs.declared.hit_lines.Stop.{Stop}
+use Rattle.mk_effects.specs.declared.hit_lines.Stop.TheVariants as stop
+use Rattle.mk_edits.specs.Effects.{Answers, Effect, Refuses}
 use Rattle.mk_effects.specs.Hits.{IsHitsText, stop_of}
-use Rattle.mk_effects.specs.Queries.{no_query_text}
+use Rattle.mk_edits.specs.Queries.{no_query_text}
 use Rattle.mk_kept.specs.QueryText.{IsQueryOfText}
 use Rattle.mk_kept.specs.Saved.{is_named, HasSearchRoom}
 use Rattle.mk_effects.specs.Searching.{IsListing, IsMoleculeAt, IsResume, IsSearch, ListsAll, ListsRest, MovesPlace, NoQuerySearched, NoSearchResumed, SavesPlace, SearchesAreFull, full_searches_text, no_search_text}

@@ -19,7 +19,7 @@ use Rattle.mk_sdfile.specs.Sdfile.{HasOneValue}
 use Rattle.mk_mol.specs.Laws.{OneFilledMolecule}
 use Rattle.mk_library.specs.Records.{AreHeld}
 use Rattle.mk_search.specs.Pages.{IsHeldIn}
-use Rattle.mk_effects.specs.declared.effect.Stop.{Stop}
+use Rattle.mk_effects.specs.declared.hit_lines.Stop.{Stop}
 use Rattle.mk_effects.specs.Hits.{HaveParts, IsHitsText, stop_of_paced}
 use Rattle.mk_effects.specs.Searching.{ArePacedKeys, IsListing, IsMoleculeAt, StopsWithin}
 use Rattle.mk_effects.proofs.ListingsLemmas.{key_of, pair_of}

@@ -23,11 +23,11 @@ use Rattle.mk_library.specs.Records.{AreHeld, IsMoleculeOf, text_under}
 use Rattle.mk_search.specs.declared.pages.Page.{Page}
 use Rattle.mk_search.specs.Begins.{BeginsOfPage}
 use Rattle.mk_search.specs.Pages.{IsHeldIn}
-use Rattle.mk_effects.specs.declared.effect.Found.{Found}
-use Rattle.mk_effects.specs.declared.effect.Found.TheVariants as found
-use Rattle.mk_effects.specs.Effects.{Effect, Refuses}
+use Rattle.mk_edits.specs.declared.effect.Found.{Found}
+use Rattle.mk_edits.specs.declared.effect.Found.TheVariants as found
+use Rattle.mk_edits.specs.Effects.{Effect, Refuses}
 use Rattle.mk_effects.specs.Hits.{HaveParts}
-use Rattle.mk_effects.specs.Findings.{effect_of}
+use Rattle.mk_edits.specs.Findings.{effect_of}
 use Rattle.mk_kept.specs.Saved.{SavedView, is_named}
 use Rattle.mk_kept.specs.SavedPending.{SavedFits, SavedPendingView}
 use Rattle.mk_effects.specs.Searching.{IsMoleculeAt}

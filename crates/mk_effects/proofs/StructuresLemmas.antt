@@ -7,7 +7,7 @@ use Rattle.mk_enum.specs.Enumerations.{IsEnumeration}
 use Rattle.mk_enum.proofs.ForCallers.{one_enumeration}
 use Rattle.mk_outside.specs.declared.tables.QueryRow.{QueryRow}
 use Rattle.mk_kept.proofs.ForCallers.{HasQueryLaws, named_of}
-use Rattle.mk_effects.specs.Effects.{Answers, Effect}
+use Rattle.mk_edits.specs.Effects.{Answers, Effect}
 use Rattle.mk_effects.specs.Structures.{IsEnum, NoQueryEnumerated, WritesStructures, place_line}
 use Rattle.mk_effects.proofs.OneSearchLemmas.{one_named}
 

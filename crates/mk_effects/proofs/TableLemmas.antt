@@ -17,7 +17,7 @@ use Rattle.mk_rtable.specs.Table.{IsRGroupTable}
 use Rattle.mk_rtable.specs.Text.{table_text}
 use Rattle.mk_rtable.proofs.ForCallers.{begins_over, one_table, table_over}
 use Rattle.mk_kept.proofs.ForCallers.{HasQueryLaws, named_of}
-use Rattle.mk_effects.specs.Effects.{Answers, Effect}
+use Rattle.mk_edits.specs.Effects.{Answers, Effect}
 use Rattle.mk_effects.specs.Searching.{IsMoleculeAt}
 use Rattle.mk_effects.specs.Table.{IsTableAnswer, NoQueryTabled, WritesRows}
 use Rattle.mk_effects.proofs.OneSearchLemmas.{one_named}

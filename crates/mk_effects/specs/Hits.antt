@@ -12,8 +12,8 @@ use Rattle.mk_model.specs.Queries.{QueryView}
 use Rattle.mk_search.specs.declared.paced.Stop.{Stop as PacedStop}
 use Rattle.mk_search.specs.declared.paced.Stop.TheVariants as paced
 use Rattle.mk_enum.specs.Texts.{numbers_text}
-use Rattle.mk_effects.specs.declared.effect.Stop.{Stop}
-use Rattle.mk_effects.specs.declared.effect.Stop.TheVariants as stop
+use Rattle.mk_effects.specs.declared.hit_lines.Stop.{Stop}
+use Rattle.mk_effects.specs.declared.hit_lines.Stop.TheVariants as stop
 
 -- ---- the line of a key
 

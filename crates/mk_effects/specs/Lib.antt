@@ -1,17 +1,7 @@
-pub mod Effects
-pub mod Answers
-pub mod Files
-pub mod Fails
-pub mod QueryFiles
-pub mod MoleculeFiles
 pub mod Hits
 pub mod Match
-pub mod Records
-pub mod Queries
 pub mod Searching
 pub mod Table
 pub mod Structures
 pub mod Ticks
-pub mod Loading
 pub mod Drilling
-pub mod Findings

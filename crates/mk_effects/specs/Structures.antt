@@ -11,8 +11,8 @@ use Rattle.mk_enum.specs.Enumerations.{IsEnumeration}
 use Rattle.mk_outside.specs.declared.tables.QueryRow.{QueryRow}
 use Rattle.mk_kept.specs.Named.{IsQueryNamed}
 use Rattle.mk_kept.specs.Saved.{is_named}
-use Rattle.mk_effects.specs.Effects.{Answers, Effect, Refuses}
-use Rattle.mk_effects.specs.Queries.{no_query_text}
+use Rattle.mk_edits.specs.Effects.{Answers, Effect, Refuses}
+use Rattle.mk_edits.specs.Queries.{no_query_text}
 
 -- so many structures can be asked for
 abbrev pub IsStructureLimit : ℕ → Type 0

@@ -6,8 +6,8 @@ use Rattle.mk_outside.specs.declared.tables.Tables.{Tables}
 use Rattle.mk_rtable.specs.declared.rows.TableRow.{TableRow}
 use Rattle.mk_rtable.specs.Table.{IsRGroupTable}
 use Rattle.mk_rtable.specs.Text.{table_text}
-use Rattle.mk_effects.specs.Effects.{Answers, Effect, Refuses}
-use Rattle.mk_effects.specs.Queries.{no_query_text}
+use Rattle.mk_edits.specs.Effects.{Answers, Effect, Refuses}
+use Rattle.mk_edits.specs.Queries.{no_query_text}
 use Rattle.mk_effects.specs.Searching.{IsMoleculeAt}
 use Rattle.mk_kept.specs.Named.{IsQueryNamed}
 use Rattle.mk_kept.specs.Saved.{is_named}

@@ -23,9 +23,9 @@ use Rattle.mk_search.specs.declared.pages.Page.{Page}
 use Rattle.mk_search.specs.Begins.{BeginsOfPaced, BeginsOfPage}
 use Rattle.mk_rtable.specs.Begins.{BeginsOfTable}
 use Rattle.mk_kept.specs.Named.{IsQueryNamed, search_of}
-use Rattle.mk_effects.specs.declared.effect.Stop.{Stop}
-use Rattle.mk_effects.specs.declared.effect.Stop.TheVariants as stop
-use Rattle.mk_effects.specs.Effects.{Answers, Effect, Refuses}
+use Rattle.mk_effects.specs.declared.hit_lines.Stop.{Stop}
+use Rattle.mk_effects.specs.declared.hit_lines.Stop.TheVariants as stop
+use Rattle.mk_edits.specs.Effects.{Answers, Effect, Refuses}
 use Rattle.mk_effects.specs.Hits.{stop_of_paced}
 use Rattle.mk_effects.specs.Searching.{IsListing, IsMoleculeAt}
 

@@ -1,11 +1,11 @@
 // The command `drill`.
 ghost use Rattle.std.specs.Prelude.{IfOk};
 ghost use Rattle.mk_effects.specs.Drilling.{IsDrillAnswer};
-ghost use Rattle.mk_effects.specs.Findings.{effect_of};
+ghost use Rattle.mk_edits.specs.Findings.{effect_of};
 ghost use Rattle.mk_effects.specs.Searching.{IsLimit};
 
-use crate::{Found, SessionEdit};
 use mk_drill::drill;
+use mk_edits::{Found, SessionEdit};
 use mk_outside::{Bytes, Memory};
 use std::alloc::Global;
 

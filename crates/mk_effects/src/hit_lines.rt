@@ -2,14 +2,24 @@
 ghost use Rattle.std.specs.Prelude.{◌≡◌, ◌∷◌, ◌++◌, IfOk, OnOk};
 ghost use Rattle.mk_effects.specs.Hits.{AreHitLines, HasParts, HaveParts, IsHitsText, PutsLine, hit_line, stop_line, stop_of, stop_of_paced};
 
-use crate::Stop;
-use crate::records::put_numbered;
 use mk_choice::code_within;
+use mk_edits::put_numbered;
 use mk_enum::put_numbers;
 use mk_model::{Key, Query};
 use mk_search::{Page, Stop as PacedStop};
 use mk_text::{Memory, put_number};
 use std::alloc::Global;
+
+/// Where a list of hits stops.
+#[derive(Clone, Copy)]
+pub enum Stop {
+    /// It is whole.
+    Ended,
+    /// There may be more, which are listed under this number.
+    More(u32),
+    /// The budget is spent, and the search goes on under this number.
+    Paused(u32),
+}
 
 /// Where the list of a page stops; the number is that under which there may be more.
 pub fn stop_of(listed: &Page, cursor: u32) -> Stop

@@ -2,15 +2,16 @@
 ghost use Rattle.std.specs.Prelude.{◌≡◌, ◌∷◌, [], ℕ, List, Option, IfOk};
 ghost use Rattle.mk_library.specs.FirstRefusal.{HoldsMolecule};
 ghost use Rattle.mk_library.specs.Limits.{file_bytes};
-ghost use Rattle.mk_effects.specs.Files.{IsFoundAs, IsTurnOf, IsWithin, Look};
+ghost use Rattle.mk_edits.specs.Files.{IsFoundAs, IsTurnOf, IsWithin, Look};
 ghost use Rattle.mk_effects.specs.Match.{IsMatch, IsSearchOfFile, IsTurnOfMatch, ListsKeys};
-ghost use Rattle.mk_effects.specs.QueryFiles.{IsHeldQuery, query_bytes};
-ghost use Rattle.mk_effects.specs.Findings.{MissesAt, SeeksSo, effect_of};
+ghost use Rattle.mk_edits.specs.QueryFiles.{IsHeldQuery, query_bytes};
+ghost use Rattle.mk_edits.specs.Findings.{MissesAt, SeeksSo, effect_of};
 
-use crate::answers::long_molecules;
-use crate::files::{HeldQuery, QUERY_BYTES, file_line, judge_query, read_within};
 use crate::hit_lines::{hits_answer, stop_of};
-use crate::{Found, SessionEdit, StepFail};
+use mk_edits::{
+    Found, HeldQuery, QUERY_BYTES, SessionEdit, StepFail, file_line, judge_query, long_molecules,
+    read_within,
+};
 use mk_index::Shelf;
 use mk_library::{FILE_BYTES, OneRecord, one_molecule};
 use mk_model::{Mol, Query, Steps};

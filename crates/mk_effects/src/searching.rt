@@ -1,9 +1,9 @@
 // The commands `search` and `resume`.
 ghost use Rattle.std.specs.Prelude.{◌≡◌, ℕ, ◌<◌, ◌≤◌, ◌∷◌, [], None, Some, IfOk, IfSome, length};
 ghost use Rattle.mk_outside.specs.declared.tables.Change.TheVariants.{PutCursor, DropCursor};
-ghost use Rattle.mk_effects.specs.declared.effect.Found.TheVariants as found;
+ghost use Rattle.mk_edits.specs.declared.effect.Found.TheVariants as found;
 ghost use Rattle.mk_kept.specs.Names.{IsHeldNumber, IsName};
-ghost use Rattle.mk_effects.specs.Findings.{FoundFits, effect_of, stands_for};
+ghost use Rattle.mk_edits.specs.Findings.{FoundFits, effect_of, stands_for};
 ghost use Rattle.mk_effects.specs.Ticks.{BeginsOfListed, BeginsOfResume, BeginsOfSearch};
 ghost use Rattle.mk_search.specs.Begins.{BeginsOfPaced};
 ghost use Rattle.mk_search.specs.Paced.{IsPacedPage};
@@ -11,10 +11,8 @@ ghost use Rattle.mk_search.specs.Pages.{IsHeldIn};
 ghost use Rattle.mk_kept.specs.Saved.{IsSameSaved, longest_place, most_search_number};
 ghost use Rattle.mk_effects.specs.Searching.{IsBudget, IsLimit, HasListing, IsResume, IsSearch, full_searches_text, no_search_text};
 
-use crate::hit_lines::{hits_answer, stop_of, stop_of_paced};
-use crate::queries::no_query;
-use crate::records::put_numbered;
-use crate::{Found, SessionEdit, Stop};
+use crate::hit_lines::{Stop, hits_answer, stop_of, stop_of_paced};
+use mk_edits::{Found, SessionEdit, no_query, put_numbered};
 use mk_index::Shelf;
 use mk_kept::{Saved, SavedPending};
 use mk_library::Library;

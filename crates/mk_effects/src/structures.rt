@@ -1,11 +1,10 @@
 // The command `enum`.
 ghost use Rattle.std.specs.Prelude.{◌≡◌, ◌++◌, IfOk, OnOk};
 ghost use Rattle.mk_library.specs.Library.{LibraryView};
-ghost use Rattle.mk_effects.specs.Findings.{FoundFits, effect_of};
+ghost use Rattle.mk_edits.specs.Findings.{FoundFits, effect_of};
 ghost use Rattle.mk_effects.specs.Structures.{IsEnum, IsStructureLimit, behind_commas, comma_numbers, place_line};
 
-use crate::queries::no_query;
-use crate::{Found, SessionEdit};
+use mk_edits::{Found, SessionEdit, no_query};
 use mk_enum::structures;
 use mk_kept::Saved;
 use mk_outside::{Bytes, Memory};

@@ -1,14 +1,13 @@
 // The command `table`.
 ghost use Rattle.std.specs.Prelude.{◌≡◌, IfOk};
-ghost use Rattle.mk_effects.specs.Findings.{FoundFits, effect_of, stands_for};
+ghost use Rattle.mk_edits.specs.Findings.{FoundFits, effect_of, stands_for};
 ghost use Rattle.mk_effects.specs.Searching.{IsMoleculeAt};
 ghost use Rattle.mk_effects.specs.Table.{IsTableAnswer};
 ghost use Rattle.mk_effects.specs.Ticks.{BeginsOfTableAnswer};
 ghost use Rattle.mk_rtable.specs.Begins.{BeginsOfTable};
 ghost use Rattle.mk_rtable.specs.Table.{IsRGroupTable};
 
-use crate::queries::no_query;
-use crate::{Found, SessionEdit};
+use mk_edits::{Found, SessionEdit, no_query};
 use mk_kept::Saved;
 use mk_library::Library;
 use mk_model::{Query, Steps};

@@ -26,28 +26,28 @@ use Rattle.mk_search.proofs.ForCallers.{place_has_few}
 use Rattle.mk_query.proofs.KeptTextLemmas.{kept_text as kept_text_is}
 use Rattle.mk_rgfile.proofs.KeptQueryLemmas.{kept_is_kept, query_left}
 use Rattle.mk_session.specs.declared.command.Command.TheVariants as variant
-use Rattle.mk_effects.specs.Effects.{Answers, Refuses}
-use Rattle.mk_effects.specs.Effects.{Effect, after_effect}
-use Rattle.mk_effects.specs.Files.{Look}
-use Rattle.mk_effects.specs.Loading.{NoRecordReplaced, ReplacesHeld}
-use Rattle.mk_effects.specs.Loading.{IsEditMade, IsEdited, IsReplace}
+use Rattle.mk_edits.specs.Effects.{Answers, Refuses}
+use Rattle.mk_edits.specs.Effects.{Effect, after_effect}
+use Rattle.mk_edits.specs.Files.{Look}
+use Rattle.mk_edits.specs.Loading.{NoRecordReplaced, ReplacesHeld}
+use Rattle.mk_edits.specs.Loading.{IsEditMade, IsEdited, IsReplace}
 use Rattle.mk_effects.specs.Match.{IsMatch, ListsKeys, QueryRefused, Searches}
-use Rattle.mk_effects.specs.MoleculeFiles.{ComesByFile, GoesByMolecules, MoleculesRefused, MoleculesTooLong}
-use Rattle.mk_effects.specs.Queries.{FileIsRefused, Forgets, Keeps, NameIsHeld, NoQueryForgotten, QueriesAreFull, TextsAreFull}
-use Rattle.mk_effects.specs.Queries.{IsForget, IsKeep, drop_of, forget_changes, kept_text}
-use Rattle.mk_effects.specs.Records.{IsRemove, IsShow}
-use Rattle.mk_effects.specs.Records.{NoRecordRemoved, NoRecordShown, Removes, Shows}
+use Rattle.mk_edits.specs.MoleculeFiles.{ComesByFile, GoesByMolecules, MoleculesRefused, MoleculesTooLong}
+use Rattle.mk_edits.specs.Queries.{FileIsRefused, Forgets, Keeps, NameIsHeld, NoQueryForgotten, QueriesAreFull, TextsAreFull}
+use Rattle.mk_edits.specs.Queries.{IsForget, IsKeep, drop_of, forget_changes, kept_text}
+use Rattle.mk_edits.specs.Records.{IsRemove, IsShow}
+use Rattle.mk_edits.specs.Records.{NoRecordRemoved, NoRecordShown, Removes, Shows}
 use Rattle.mk_kept.specs.Named.{IsQueryNamed}
 use Rattle.mk_kept.specs.Saved.{HasMeaning, greatest_number, is_named, is_waiting, kept_tables, longest_place}
 use Rattle.mk_kept.specs.SavedPending.{IsInPlace}
-use Rattle.mk_effects.specs.declared.effect.Stop.{Stop}
+use Rattle.mk_effects.specs.declared.hit_lines.Stop.{Stop}
 use Rattle.mk_effects.specs.Searching.{IsListing, IsMoleculeAt, IsResume, IsSearch}
 use Rattle.mk_effects.specs.Structures.{IsEnum, NoQueryEnumerated, WritesStructures}
 use Rattle.mk_effects.specs.Table.{IsTableAnswer, NoQueryTabled, WritesRows}
 use Rattle.mk_effects.specs.Searching.{ListsAll, ListsRest, MovesPlace, NoQuerySearched, NoSearchResumed, SavesPlace, SearchesAreFull}
 use Rattle.mk_session.specs.Values.{CanBeAsked, EffectsKeepQueries}
 use Rattle.mk_session.proofs.EffectValueLemmas.{its_query, text_fits}
-use Rattle.mk_effects.proofs.QueriesLemmas.{among_all, forget_places, kept_is_meant}
+use Rattle.mk_edits.proofs.QueriesLemmas.{among_all, forget_places, kept_is_meant}
 use Rattle.mk_kept.proofs.SavedLemmas.{below_all, none_above_greatest}
 use Rattle.mk_kept.proofs.NamedLemmas.{named_of}
 

@@ -7,13 +7,13 @@
 use Rattle.std.specs.Prelude.{◌≡◌, ℕ, List, [], Option, Some, None, codes}
 use Rattle.mk_outside.specs.declared.tables.Tables.{Tables}
 use Rattle.mk_session.specs.declared.command.Command.TheVariants as variant
-use Rattle.mk_effects.specs.Effects.{Answers, Effect, Refuses}
-use Rattle.mk_effects.specs.Files.{Look}
-use Rattle.mk_effects.specs.Loading.{IsLoad, IsReplace, IsTurnOfReplace}
+use Rattle.mk_edits.specs.Effects.{Answers, Effect, Refuses}
+use Rattle.mk_edits.specs.Files.{Look}
+use Rattle.mk_edits.specs.Loading.{IsLoad, IsReplace, IsTurnOfReplace}
 use Rattle.mk_effects.specs.Match.{IsMatch, IsTurnOfMatch}
 use Rattle.mk_session.specs.Orders.{Order}
-use Rattle.mk_effects.specs.Queries.{IsForget, IsKeep, IsTurnOfKeep}
-use Rattle.mk_effects.specs.Records.{IsRemove, IsShow, list_text}
+use Rattle.mk_edits.specs.Queries.{IsForget, IsKeep, IsTurnOfKeep}
+use Rattle.mk_edits.specs.Records.{IsRemove, IsShow, list_text}
 use Rattle.mk_effects.specs.Searching.{IsResume, IsSearch}
 use Rattle.mk_effects.specs.Structures.{IsEnum}
 use Rattle.mk_effects.specs.Table.{IsTableAnswer}

@@ -6,15 +6,16 @@ ghost use Rattle.mk_library.specs.Library.{IsSame};
 ghost use Rattle.mk_kept.specs.Saved.{IsSameSaved};
 ghost use Rattle.mk_effects.specs.Drilling.{IsDrillAnswer};
 ghost use Rattle.mk_session.specs.Step.{Reaches};
-ghost use Rattle.mk_effects.specs.Findings.{FoundFits, MissesAt, effect_of, stands_for};
+ghost use Rattle.mk_edits.specs.Findings.{FoundFits, MissesAt, effect_of, stands_for};
 ghost use Rattle.mk_session.specs.Stepping.{Seeks};
 ghost use Rattle.mk_session.specs.StepTicks.{BeginsOfCommand};
 
 use crate::Command;
-use mk_effects::{
-    Found, StepFail, drill_found, enum_found, forget_found, keep_found, list_found, load_found,
-    match_found, remove_found, replace_found, resume_found, search_found, show_found, table_found,
+use mk_edits::{
+    Found, StepFail, forget_found, keep_found, list_found, load_found, remove_found, replace_found,
+    show_found,
 };
+use mk_effects::{drill_found, enum_found, match_found, resume_found, search_found, table_found};
 use mk_kept::Saved;
 use mk_library::Library;
 use mk_model::Steps;

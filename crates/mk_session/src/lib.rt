@@ -30,7 +30,7 @@ pub use command::{Command, LineKind, WordsKind};
 pub use command_reading::{command_of_line, command_of_words, store_word};
 pub use laws::{commands_are_read, one_run, runs_keep_reading, two_scripts, words_are_read};
 pub use mk_drill::drill;
-pub use mk_effects::StepFail;
+pub use mk_edits::StepFail;
 pub use mk_kept::{BeginFail, RowKind};
 pub use mk_text::Memory;
 pub use running::top;
