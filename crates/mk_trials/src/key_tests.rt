@@ -1,18 +1,14 @@
 // Keys that are left from a place on, worked out by hand.
-ghost use Rattle.std.specs.Prelude.{◌≡◌, ◌<◌};
-
 use crate::drawn_queries::{Drawn, Groups, query_of};
+use crate::search_tests::hits_from;
 use mk_fixtures::mol_of_sketch;
 use mk_index::Shelf;
-use mk_model::{Key, Memory, Query, Steps};
-use mk_search::Hits;
+use mk_model::Key;
 use std::alloc::Global;
-use std::marker::Brand;
-use std::sync::ledger::{Blank, Ledger};
 use std::test::Fail;
 
 /// Records, each a number with a molecule.
-type Records = &'static [(u32, &'static str)];
+pub type Records = &'static [(u32, &'static str)];
 
 const ETHERS: Records = &[
     (1, "C O C O | 1-2 2-3 3-4"),
@@ -33,7 +29,7 @@ fn keys_behind_a_place(rt: HostRuntime) -> Result<(), Fail> {
     };
     let query = query_of(alloc, drawn)?;
     let shelf = shelf_of_records(alloc, ETHERS)?;
-    let keys = keys_from(alloc, &shelf, &query, &[1, 3, 2, 0])?;
+    let (keys, _) = hits_from(alloc, &shelf, &query, &[1, 3, 2, 0])?;
     assert!(rt; are_keys_from(&keys, &LEFT, 0));
     Ok(())
 }
@@ -96,7 +92,7 @@ fn fronts_of_sites(rt: HostRuntime) -> Result<(), Fail> {
     let query = query_of(alloc, TWO_HALOGENS)?;
     let shelf = shelf_of_records(alloc, HALOMETHANES)?;
     for (name, place, below) in &THEIR_PLACES {
-        let keys = keys_from(alloc, &shelf, &query, place)?;
+        let (keys, _) = hits_from(alloc, &shelf, &query, place)?;
         assert!(rt; are_keys_from(&keys, &THEIR_KEYS, *below), "{name}");
     }
     Ok(())
@@ -138,15 +134,15 @@ fn fronts_of_links(rt: HostRuntime) -> Result<(), Fail> {
     let query = query_of(alloc, A_CHAIN)?;
     let shelf = shelf_of_records(alloc, CHAINS)?;
     for (name, place, below) in &CHAIN_PLACES {
-        let keys = keys_from(alloc, &shelf, &query, place)?;
+        let (keys, _) = hits_from(alloc, &shelf, &query, place)?;
         assert!(rt; are_keys_from(&keys, &CHAIN_KEYS, *below), "{name}");
     }
     Ok(())
 }
 
-// ---- the calls
+// ---- what search_tests draws and looks for too
 
-fn shelf_of_records(alloc: Global, records: Records) -> Result<Shelf, Fail> {
+pub fn shelf_of_records(alloc: Global, records: Records) -> Result<Shelf, Fail> {
     let mut shelf = Shelf::new(alloc);
     for (number, sketch) in records {
         let mol = mol_of_sketch(alloc, sketch)?;
@@ -159,7 +155,7 @@ fn shelf_of_records(alloc: Global, records: Records) -> Result<Shelf, Fail> {
 }
 
 // The keys are these, from the first so many on.
-fn are_keys_from(keys: &[Key], all: &'static [&'static [u32]], first: usize) -> bool {
+pub fn are_keys_from(keys: &[Key], all: &'static [&'static [u32]], first: usize) -> bool {
     if keys.len().saturating_add(first) != all.len() {
         return false;
     }
@@ -169,45 +165,4 @@ fn are_keys_from(keys: &[Key], all: &'static [&'static [u32]], first: usize) -> 
         }
     }
     true
-}
-
-fn keys_from(
-    alloc: Global,
-    shelf: &Shelf,
-    query: &Query,
-    place: &[u32],
-) -> Result<Vec<Key>, Memory> {
-    keys_on::<Brand>(alloc, shelf, query, place, Blank::new(1))
-}
-
-fn keys_on<L: Ledger>(
-    alloc: Global,
-    shelf: &Shelf,
-    query: &Query,
-    place: &[u32],
-    blank: Blank,
-) -> Result<Vec<Key>, Memory>
-    requires name { blank.name ≡ L.name }
-    requires parts { blank.parts ≡ L.parts }
-    requires one { 0 < L.parts }
-{
-    let mut steps = Steps::<L>::new(blank);
-    let mut hits = Hits::from_place(alloc, shelf, query, place)?;
-    keys_left(alloc, &mut hits, &mut steps)
-}
-
-// The search has one way out above, since the prover goes through all that is let go at each of them.
-fn keys_left<L: Ledger>(
-    alloc: Global,
-    hits: &mut Hits<'_>,
-    steps: &mut Steps<L>,
-) -> Result<Vec<Key>, Memory> {
-    let mut keys = Vec::new(alloc);
-    for _ in 0..20u32 {
-        let Some(key) = hits.next(alloc, steps)? else {
-            break;
-        };
-        keys.push(key)?;
-    }
-    Ok(keys)
 }

@@ -2,6 +2,7 @@
 // Fluorine may fill the first site and chlorine the second, and has to where fluorine does.
 ghost use Rattle.std.specs.Prelude.{◌≡◌, ◌<◌, ◌≤◌};
 
+use crate::key_tests::{Records, are_keys_from, shelf_of_records};
 use mk_fixtures::{mol_of_sketch, query_of_two_sites};
 use mk_index::Shelf;
 use mk_model::{Key, Memory, Mol, Place, Query, Steps};
@@ -12,7 +13,7 @@ use std::process::Abort;
 use std::sync::ledger::{Blank, Ledger};
 use std::test::Fail;
 
-static RECORDS: [(u32, &str); 4] = [
+const RECORDS: Records = &[
     (2, "C F Cl | 1-2 1-3"),
     (3, "O N | 1-2"),
     (5, "Cl C Cl F F | 1-2 2-3 2-4 2-5"),
@@ -56,10 +57,13 @@ static PLACES: [(&str, &[u32], usize); 15] = [
 #[test]
 fn places(rt: HostRuntime) -> Result<(), Fail> {
     let query = query_of_two_sites(rt.alloc())?;
-    let shelf = shelf_of_records(rt.alloc())?;
+    let shelf = shelf_of_records(rt.alloc(), RECORDS)?;
     for (name, place, below) in &PLACES {
         let found = page_from(rt.alloc(), &shelf, &query, place, 100)?;
-        assert!(rt; are_keys_from(found.hits.as_slice(), *below), "{name}");
+        assert!(rt;
+            are_keys_from(found.hits.as_slice(), &KEYS, *below),
+            "{name}"
+        );
         assert!(rt; found.ended, "{name}");
         let least = least_from(rt.alloc(), &shelf, &query, place)?;
         assert!(rt; is_first(&least, *below), "{name}");
@@ -72,10 +76,10 @@ fn places(rt: HostRuntime) -> Result<(), Fail> {
 #[test]
 fn keys_one_by_one(rt: HostRuntime) -> Result<(), Fail> {
     let query = query_of_two_sites(rt.alloc())?;
-    let shelf = shelf_of_records(rt.alloc())?;
+    let shelf = shelf_of_records(rt.alloc(), RECORDS)?;
     for (name, place, below) in &PLACES {
         let (keys, end) = hits_from(rt.alloc(), &shelf, &query, place)?;
-        assert!(rt; are_keys_from(&keys, *below), "{name}");
+        assert!(rt; are_keys_from(&keys, &KEYS, *below), "{name}");
         let last: &[u32] = if keys.is_empty() {
             place
         } else {
@@ -90,10 +94,10 @@ fn keys_one_by_one(rt: HostRuntime) -> Result<(), Fail> {
 #[test]
 fn pages(rt: HostRuntime) -> Result<(), Fail> {
     let query = query_of_two_sites(rt.alloc())?;
-    let shelf = shelf_of_records(rt.alloc())?;
+    let shelf = shelf_of_records(rt.alloc(), RECORDS)?;
     for (limit, pages) in [(1usize, 13u32), (5, 3), (12, 2), (13, 1)] {
         let (keys, count) = all_pages(rt.alloc(), &shelf, &query, limit)?;
-        assert!(rt; are_keys_from(&keys, 0), "{limit}");
+        assert!(rt; are_keys_from(&keys, &KEYS, 0), "{limit}");
         assert_eq!(rt; count, pages, "{limit}");
     }
     Ok(())
@@ -104,7 +108,7 @@ fn pages(rt: HostRuntime) -> Result<(), Fail> {
 #[test]
 fn other_records(rt: HostRuntime) -> Result<(), Fail> {
     let query = query_of_two_sites(rt.alloc())?;
-    let mut shelf = shelf_of_records(rt.alloc())?;
+    let mut shelf = shelf_of_records(rt.alloc(), RECORDS)?;
     let _ = shelf.remove(2);
     let mol = mol_of_sketch(rt.alloc(), "C Cl | 1-2")?;
     if shelf.holds(3) {
@@ -119,7 +123,7 @@ fn other_records(rt: HostRuntime) -> Result<(), Fail> {
     let keys = found.hits.as_slice();
     assert!(rt; is_key(keys.get(0), &[3, 2, 1, 1, 2]));
     assert!(rt; is_key(keys.get(1), &[3, 2, 2, 1]));
-    assert!(rt; are_keys_from(keys.get(2..).unwrap_or(&[]), 3));
+    assert!(rt; are_keys_from(keys.get(2..).unwrap_or(&[]), &KEYS, 3));
     assert!(rt; found.ended);
     let (keys, _) = hits_from(rt.alloc(), &shelf, &query, &[2, 1, 1, 1, 2, 3, 0])?;
     assert!(rt; is_key(keys.get(0), &[3, 2, 1, 1, 2]));
@@ -130,7 +134,7 @@ fn other_records(rt: HostRuntime) -> Result<(), Fail> {
 #[test]
 fn rows_of_records(rt: HostRuntime) -> Result<(), Fail> {
     let query = query_of_two_sites(rt.alloc())?;
-    let shelf = shelf_of_records(rt.alloc())?;
+    let shelf = shelf_of_records(rt.alloc(), RECORDS)?;
     let keys = firsts::<Brand>(rt.alloc(), &shelf, &query, Blank::new(1))?;
     assert!(rt; is_key(keys.get(0), KEYS[0]));
     assert!(rt; is_key(keys.get(1), KEYS[3]));
@@ -143,40 +147,15 @@ fn rows_of_records(rt: HostRuntime) -> Result<(), Fail> {
 fn the_pages_agree_with_the_plain_program(rt: HostRuntime) -> Result<(), Fail> {
     let query = query_of_two_sites(rt.alloc())?;
     let mut keys = Vec::new(rt.alloc());
-    for (number, sketch) in &RECORDS {
+    for (number, sketch) in RECORDS {
         let mol = mol_of_sketch(rt.alloc(), sketch)?;
         put_plain(rt.alloc(), *number, &mol, &query, &mut keys)?;
     }
-    assert!(rt; are_keys_from(&keys, 0));
+    assert!(rt; are_keys_from(&keys, &KEYS, 0));
     Ok(())
 }
 
 // ---- what is asked
-
-fn shelf_of_records(alloc: Global) -> Result<Shelf, Fail> {
-    let mut shelf = Shelf::new(alloc);
-    for (number, sketch) in &RECORDS {
-        let mol = mol_of_sketch(alloc, sketch)?;
-        shelf.reserve(1)?;
-        if !shelf.holds(*number) {
-            shelf.insert(*number, mol);
-        }
-    }
-    Ok(shelf)
-}
-
-// The keys from the first on are these.
-fn are_keys_from(keys: &[Key], first: usize) -> bool {
-    if keys.len().saturating_add(first) != KEYS.len() {
-        return false;
-    }
-    for (key, other) in keys.iter().zip(KEYS.iter().skip(first)) {
-        if key.as_slice() != *other {
-            return false;
-        }
-    }
-    true
-}
 
 fn is_key(found: Option<&Key>, key: &[u32]) -> bool {
     match found {
@@ -275,7 +254,7 @@ fn page_on<L: Ledger>(
     page(alloc, shelf, query, place, limit, &mut steps)
 }
 
-fn hits_from(
+pub fn hits_from(
     alloc: Global,
     shelf: &Shelf,
     query: &Query,
