@@ -1,8 +1,6 @@
 // Calls that fail, and what the next run finds.
-use crate::test_files::{
-    C, CO, COC, Calls, NO_CALLS, failing_keeper, files, is_run_over, is_stopped,
-};
-use mk_outside::{CallNumbers, MemFiles, MemKeeper};
+use crate::test_files::{C, CO, COC, Calls, NO_CALLS, failing_keeper, is_stopped};
+use mk_outside::MemKeeper;
 use mk_session::Status;
 use std::alloc::Global;
 use std::test::Fail;
@@ -109,8 +107,8 @@ fn is_kept_run(
     wanted: &str,
     status: Status,
 ) -> Result<bool, Fail> {
-    let mut files = MemFiles::new(files(alloc, C, C)?, CallNumbers::new(alloc));
-    is_run_over(alloc, &mut files, keeper, script, wanted, status)
+    let wanted = wanted.as_bytes();
+    is_stopped(alloc, keeper, NO_CALLS, C, C, script, wanted, status)
 }
 
 // Whether the third commit fails, a file isn't there in the next run, and the records before are
@@ -126,7 +124,7 @@ fn is_read_again(alloc: Global, keeper: &mut MemKeeper) -> Result<bool, Fail> {
     Ok(stopped && missed && listed)
 }
 
-fn is_read_again_by_another_run(alloc: Global) -> Result<bool, Fail> {
+fn is_kept(alloc: Global) -> Result<bool, Fail> {
     let calls = Calls {
         commits: 3,
         ..NO_CALLS
@@ -137,6 +135,6 @@ fn is_read_again_by_another_run(alloc: Global) -> Result<bool, Fail> {
 
 #[test]
 fn a_failed_commit_keeps_what_was_kept(rt: HostRuntime) -> Result<(), Fail> {
-    assert!(rt; is_read_again_by_another_run(rt.alloc())?);
+    assert!(rt; is_kept(rt.alloc())?);
     Ok(())
 }

@@ -128,28 +128,15 @@ static SEARCH_FAULTS: [(Object, u64, Status, usize, &str); 15] = [
 
 // This call of this object fails, and no other.
 fn calls_of(failed: Object, call: u64) -> Calls {
+    let mut calls = NO_CALLS;
     match failed {
-        Object::Input => Calls {
-            input: call,
-            ..NO_CALLS
-        },
-        Object::Files => Calls {
-            files: call,
-            ..NO_CALLS
-        },
-        Object::Output => Calls {
-            output: call,
-            ..NO_CALLS
-        },
-        Object::Loads => Calls {
-            loads: call,
-            ..NO_CALLS
-        },
-        Object::Commits => Calls {
-            commits: call,
-            ..NO_CALLS
-        },
+        Object::Input => calls.input = call,
+        Object::Files => calls.files = call,
+        Object::Output => calls.output = call,
+        Object::Loads => calls.loads = call,
+        Object::Commits => calls.commits = call,
     }
+    calls
 }
 
 // The first so many answers.

@@ -5,7 +5,7 @@
 //! at (`store_tests`), and the input that is left (`script_tests`). All other runs are rows of
 //! checks/rows.
 //!
-//! What is promised of runs is proved in mk_session, mk_effects and mk_kept.
+//! What is promised of runs is proved in mk_session, mk_effects, mk_edits and mk_kept.
 #![tactic(auto)]
 
 #[cfg(test)]

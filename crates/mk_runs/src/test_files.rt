@@ -103,8 +103,8 @@ pub const NO_CALLS: Calls = Calls {
     commits: 0,
 };
 
-// The number of the one call that fails.
-pub fn failing(alloc: Global, number: u64) -> Result<CallNumbers, Memory> {
+// The number of the one call that fails, or none where it is 0.
+fn failing(alloc: Global, number: u64) -> Result<CallNumbers, Memory> {
     let mut numbers = CallNumbers::new(alloc);
     if number > 0 {
         numbers.push(number)?;
