@@ -1,5 +1,5 @@
 -- Pieces of a text.
-use Rattle.std.proofs.Common.{◌≡◌, ℕ, suc, ◌+◌, ◌-◌, ◌<◌, ◌≤◌, true, false, eqb, All, List, [], ◌∷◌, ◌++◌, length, get_or, take, drop, map, refl, sym, ap, ◌∙◌, append_assoc, arith, inl, inr}
+use Rattle.std.proofs.Common.{◌≡◌, ℕ, suc, ◌+◌, ◌-◌, ◌<◌, ◌≤◌, true, false, eqb, All, List, [], ◌∷◌, ◌++◌, length, get_or, take, drop, map, refl, sym, ap, subst, ◌∙◌, append_assoc, arith, inl, inr}
 use Rattle.std.specs.Prelude.{slice_range}
 use Rattle.std.specs.List.{filter, slice_split}
 use Rattle.std.proofs.lemmas.List.{get_or_default}
@@ -8,7 +8,6 @@ use Rattle.std.proofs.lemmas.List.{take_more, get_or-drop, get_or-take, length-t
 use Rattle.std.proofs.lemmas.List.Folds.{drop_split}
 use Rattle.mk_text.specs.declared.cutting.Span.{Span}
 use Rattle.std.proofs.lemmas.Bool.{cases_lt}
-use Rattle.std.proofs.lemmas.Bool.Decides.{nat_tests}
 use Rattle.mk_text.specs.Lines.{without_cr, pieces, lines_of, words_of, has_bytes}
 use Rattle.mk_text.specs.Spans.{parts}
 
@@ -89,6 +88,20 @@ pub lines_none : (text : List ℕ) (start : ℕ) → length text ≤ start → l
 unfolding lines_of
 lines_none text start le = ap (λ (t : List ℕ). map without_cr (pieces t)) (drop_all start text le)
 
+-- the line from there on, which ends at the first LF or with the text
+pub line_by : (text : List ℕ) (start lf : ℕ) → start < length text → start ≤ lf → lf ≤ length text → NoLfBetween text start lf
+    → (lf < length text → get_or text lf 0 ≡ 10)
+    → lines_of (drop start text) ≡ without_cr (slice_range text start lf) ∷ lines_of (drop (lf + 1) text)
+line_by text start lf some le within none found =
+    elim (cases_lt lf (length text)) [
+      | inl below ↦ lines_at text start lf le below (found below) none
+      | inr past ↦
+          let last : lf ≡ length text = omega arith in
+          lines_last text start some (subst (NoLfBetween text start) last none)
+          ∙ ap (λ (n : ℕ). without_cr (slice_range text start n) ∷ []) (sym last)
+          ∙ ap (λ (ls : List (List ℕ)). without_cr (slice_range text start lf) ∷ ls) (sym (lines_none text (lf + 1) (omega arith)))
+    ]
+
 -- one line more, and what is left
 pub one_more : (text : List ℕ) (spans : List Span) (s : Span) (left rest total : List (List ℕ))
     → parts text spans ++ left ≡ total → left ≡ slice_range text s.from s.to ∷ rest
@@ -98,18 +111,6 @@ one_more text spans s left rest total so_far e =
     ap (λ (ts : List (List ℕ)). ts ++ rest) (map_push (λ (s : Span). slice_range text s.from s.to) spans s)
     ∙ append_assoc (parts text spans) (line ∷ []) rest ∙ ap (λ (ts : List (List ℕ)). parts text spans ++ ts) (sym e)
     ∙ so_far
-
--- numbers that differ
-not_eqb : (a b : ℕ) → (a ≡ b → ⊥) → eqb a b ≡ false
-not_eqb a b h = grind (arith, nat_tests)
-
--- one byte more that is no LF
-pub none_more : (text : List ℕ) (start i : ℕ) → NoLfBetween text start i → (get_or text i 0 ≡ 10 → ⊥) → NoLfBetween text start (i + 1)
-none_more text start i none here k le lt =
-    elim (cases_lt k i) [
-      | inl small ↦ none k le small
-      | inr big ↦ ap (λ (n : ℕ). eqb (get_or text n 0) 10) (let e : k ≡ i = omega arith in e) ∙ not_eqb (get_or text i 0) 10 here
-    ]
 
 -- ---- words
 
@@ -166,14 +167,16 @@ pub words_none : (line : List ℕ) (start : ℕ) → length line ≤ start → w
 unfolding words_of
 words_none line start le = ap (λ (t : List ℕ). filter has_bytes (slice_split (λ b. eqb b 32) t)) (drop_all start line le)
 
--- numbers that differ
-not_blank_eqb : (a b : ℕ) → (a ≡ b → ⊥) → eqb a b ≡ false
-not_blank_eqb a b h = grind (arith, nat_tests)
-
--- one byte more that is no blank
-pub no_blank_more : (line : List ℕ) (start i : ℕ) → NoBlankBetween line start i → (get_or line i 0 ≡ 32 → ⊥) → NoBlankBetween line start (i + 1)
-no_blank_more line start i none here k le lt =
-    elim (cases_lt k i) [
-      | inl small ↦ none k le small
-      | inr big ↦ ap (λ (n : ℕ). eqb (get_or line n 0) 32) (let e : k ≡ i = omega arith in e) ∙ not_blank_eqb (get_or line i 0) 32 here
+-- the word from there on, which ends at the first blank or with the line
+pub word_by : (line : List ℕ) (start blank : ℕ) → start < blank → blank ≤ length line → NoBlankBetween line start blank
+    → (blank < length line → get_or line blank 0 ≡ 32)
+    → words_of (drop start line) ≡ slice_range line start blank ∷ words_of (drop (blank + 1) line)
+word_by line start blank some within none found =
+    elim (cases_lt blank (length line)) [
+      | inl below ↦ words_at line start blank some below (found below) none
+      | inr past ↦
+          let last : blank ≡ length line = omega arith in
+          words_last line start (omega arith) (subst (NoBlankBetween line start) last none)
+          ∙ ap (λ (n : ℕ). slice_range line start n ∷ []) (sym last)
+          ∙ ap (λ (ws : List (List ℕ)). slice_range line start blank ∷ ws) (sym (words_none line (blank + 1) (omega arith)))
     ]

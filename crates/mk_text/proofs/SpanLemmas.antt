@@ -20,6 +20,10 @@ pub parts_behind : (text : List ℕ) (spans : List Span) (next : ℕ) → parts 
 parts_behind text spans next =
     ap (parts text) (take_all (length spans - next) (drop next spans) (omega (arith, length-drop next spans))) ∙ sym (drop-map (λ (s : Span). slice_range text s.from s.to) next spans)
 
+-- one more place in the text
+pub within_more : (text : List ℕ) (spans : List Span) (s : Span) → AreWithin text spans → s.from ≤ s.to → s.to ≤ length text → AreWithin text (spans ++ s ∷ [])
+within_more text spans s within order ends = All-push (λ (a : Span). (a.from ≤ a.to) × (a.to ≤ length text)) spans s within (order, ends)
+
 -- ---- places in order
 
 -- each place ends before this one

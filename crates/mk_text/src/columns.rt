@@ -18,7 +18,12 @@ pub fn column(line: &[u8], from: usize, to: usize) -> &[u8]
 pub fn is_blank(line: &[u8]) -> bool
     ensures { result ≡ are_blank line.now }
 {
-    line.iter().all(|byte| *byte == b' ')
+    for byte in line {
+        if *byte != b' ' {
+            return false;
+        }
+    }
+    true
 }
 
 /// The columns `from` to `to` without their outer blanks.

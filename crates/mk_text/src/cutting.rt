@@ -1,5 +1,5 @@
 // The lines of a text, and the words of a line.
-ghost use Rattle.std.specs.Prelude.{◌≡◌, ◌≤◌, All, IfOk, length, slice_range};
+ghost use Rattle.std.specs.Prelude.{◌≡◌, ◌<◌, ◌≤◌, ◌==◌, ℕ, All, IfOk, false, length, slice_index, slice_range};
 ghost use Rattle.mk_text.specs.Lines.{lines_of, words_of, without_cr};
 ghost use Rattle.mk_text.specs.LineStart.{BeginLines};
 ghost use Rattle.mk_text.specs.Spans.{AreApart, AreWithin, parts};
@@ -8,7 +8,7 @@ use crate::Memory;
 use std::alloc::Global;
 
 /// The bytes of a text from the place `from` on, up to the place `to`. Places count from 0.
-#[derive(Clone, Copy, Debug, PartialEq, Eq)]
+#[derive(Clone, Copy, PartialEq, Eq)]
 pub struct Span {
     pub from: usize,
     pub to: usize,
@@ -23,18 +23,28 @@ pub fn lines(alloc: Global, text: &[u8]) -> Result<Vec<Span>, Memory>
 {
     let mut spans = Vec::new(alloc);
     let mut from = 0;
-    for (i, byte) in text.iter().enumerate() {
-        if *byte == b'\n' {
-            let to = end_of_line(text, from, i);
-            spans.push(Span { from, to })?;
-            from = i + 1;
-        }
-    }
-    if from < text.len() {
-        let to = end_of_line(text, from, text.len());
+    while from < text.len() {
+        let lf = first_from(text, from, b'\n');
+        let to = end_of_line(text, from, lf);
         spans.push(Span { from, to })?;
+        from = lf + 1;
     }
     Ok(spans)
+}
+
+// The place of the first such byte from a place on, or the end of the text where there is none.
+pub fn first_from(text: &[u8], from: usize, byte: u8) -> usize
+    requires { from ≤ length text.now }
+    ensures order { from ≤ result }
+    ensures within { result ≤ length text.now }
+    ensures none { (k : ℕ) → from ≤ k → k < result → (slice_index text.now k == byte) ≡ false }
+    ensures found { result < length text.now → slice_index text.now result ≡ byte }
+{
+    let mut at = from;
+    while at < text.len() && text[at] != byte {
+        at += 1;
+    }
+    at
 }
 
 // Where the line ends whose piece is `from` to `to`: before its CR, where it has one.
@@ -60,19 +70,12 @@ pub fn words(alloc: Global, line: &[u8]) -> Result<Vec<Span>, Memory>
 {
     let mut spans = Vec::new(alloc);
     let mut from = 0;
-    for (i, byte) in line.iter().enumerate() {
-        if *byte == b' ' {
-            if from < i {
-                spans.push(Span { from, to: i })?;
-            }
-            from = i + 1;
+    while from < line.len() {
+        let to = first_from(line, from, b' ');
+        if from < to {
+            spans.push(Span { from, to })?;
         }
-    }
-    if from < line.len() {
-        spans.push(Span {
-            from,
-            to: line.len(),
-        })?;
+        from = to + 1;
     }
     Ok(spans)
 }

@@ -1,5 +1,6 @@
 // Numeric fields.
-ghost use Rattle.std.specs.Prelude.{◌≡◌, ◌≤◌, ◌<◌, ◌^◌, ℤ, IfSome, IfNone};
+ghost use Rattle.std.specs.Prelude.{◌≡◌, ◌≤◌, ◌<◌, ◌^◌, ℤ, neg_ℤ, pos, IfSome, IfNone};
+ghost use Rattle.std.specs.Option.{option_map};
 ghost use Rattle.std.specs.List.{list_all};
 ghost use Rattle.std.specs.Char.{is_ascii_digit};
 ghost use Rattle.mk_text.specs.Columns.{columns};
@@ -25,15 +26,27 @@ fn signed(cells: &[u8]) -> Option<i32>
 {
     match cells {
         [] => Some(0),
-        [b'+', digits @ ..] => Some(unsigned(digits)? as i32),
-        [b'-', digits @ ..] => Some(-(unsigned(digits)? as i32)),
-        digits => Some(unsigned(digits)? as i32),
+        [b'+', digits @ ..] => unsigned(digits),
+        [b'-', digits @ ..] => negative(digits),
+        digits => unsigned(digits),
     }
+}
+
+fn negative(digits: &[u8]) -> Option<i32>
+    ensures { result ≡ option_map (λ n. neg_ℤ (pos n)) (digits_number digits.now) }
+{
+    Some(-(number_of(digits)? as i32))
+}
+
+fn unsigned(digits: &[u8]) -> Option<i32>
+    ensures { result ≡ option_map pos (digits_number digits.now) }
+{
+    Some(number_of(digits)? as i32)
 }
 
 // The number of one to nine digits.
 #[tactic(auto, unfolding(crate::specs::Fields::digits_number))]
-fn unsigned(digits: &[u8]) -> Option<u32>
+fn number_of(digits: &[u8]) -> Option<u32>
     ensures value { result ≡ digits_number digits.now }
     ensures small { IfSome result (λ n. n < 10 ^ 9) }
 {
@@ -53,5 +66,10 @@ fn unsigned(digits: &[u8]) -> Option<u32>
 fn are_digits(cells: &[u8]) -> bool
     ensures { result ≡ list_all is_ascii_digit cells.now }
 {
-    cells.iter().all(|cell| cell.is_ascii_digit())
+    for cell in cells {
+        if !cell.is_ascii_digit() {
+            return false;
+        }
+    }
+    true
 }

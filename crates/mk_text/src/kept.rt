@@ -54,8 +54,7 @@ fn put_kept_line(out: &mut Vec<u8>, line: &[u8]) -> Result<(), Memory>
     ensures { OnOk result (out.new.items ≡ out.old.items ++ ended (without_crs line.now)) }
 {
     out.extend_from_slice(without_crs(line))?;
-    out.push(b'\n')?;
-    Ok(())
+    out.extend_from_slice(b"\n")
 }
 
 // The line without the CR bytes at its end.

@@ -1,13 +1,13 @@
 // The lines of a text, one after the other, with no list of them.
-ghost use Rattle.std.specs.Prelude.{◌≡◌, ◌+◌, ◌<◌, ◌≤◌, ◌⊎◌, ℕ, [], length, slice_index, slice_index_or, IfNone, IfSome};
+ghost use Rattle.std.specs.Prelude.{◌≡◌, ◌+◌, ◌<◌, ◌≤◌, ◌⊎◌, ℕ, [], length, slice_index_or, IfNone, IfSome};
 ghost use Rattle.mk_text.specs.Lines.{lines_of};
-ghost use Rattle.mk_text.specs.LineStart.{BeginLines, IsLineStart, NoLfBetween};
+ghost use Rattle.mk_text.specs.LineStart.{BeginLines, IsLineStart};
 ghost use Rattle.mk_text.specs.Spans.{parts};
 
-use crate::cutting::{Span, end_of_line};
+use crate::cutting::{Span, end_of_line, first_from};
 
 /// Where a line of a text begins: behind so many lines, and so many bytes.
-#[derive(Clone, Copy, Debug, PartialEq, Eq)]
+#[derive(Clone, Copy)]
 pub struct LineStart {
     pub line: usize,
     pub byte: usize,
@@ -38,22 +38,7 @@ pub fn start_of_line(text: &[u8], lines: &[Span], at: usize) -> LineStart
     LineStart { line: at, byte }
 }
 
-// The place of the first LF from a byte on, or the end of the text where there is none.
-fn lf_from(text: &[u8], from: usize) -> usize
-    requires { from ≤ length text.now }
-    ensures order { from ≤ result }
-    ensures within { result ≤ length text.now }
-    ensures none { NoLfBetween text.now from result }
-    ensures found { result < length text.now → slice_index text.now result ≡ 10 }
-{
-    let mut at = from;
-    while at < text.len() && text[at] != b'\n' {
-        at += 1;
-    }
-    at
-}
-
-// The place behind that LF, or the end of the text.
+// The place behind an LF, or the end of the text.
 fn behind_lf(text: &[u8], lf: usize) -> usize
     requires { lf ≤ length text.now }
     ensures { ((lf < length text.now) × (result ≡ lf + 1)) ⊎ ((length text.now ≤ lf) × (result ≡ lf)) }
@@ -76,7 +61,7 @@ pub fn line_from(text: &[u8], start: LineStart) -> Option<(&[u8], LineStart)>
     if start.byte == text.len() {
         return None;
     }
-    let lf = lf_from(text, start.byte);
+    let lf = first_from(text, start.byte, b'\n');
     let to = end_of_line(text, start.byte, lf);
     let next = LineStart {
         line: start.line + 1,

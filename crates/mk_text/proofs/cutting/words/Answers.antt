@@ -1,77 +1,48 @@
-use Rattle.std.proofs.Common.{arith, ◌≤◌, ◌<◌, ◌+◌, ◌++◌, ℕ, List, [], ◌∷◌, length, drop, sym, ap, ◌∙◌}
-use Rattle.std.proofs.lemmas.Grind.{common_steps}
+use Rattle.std.proofs.Common.{arith, ◌<◌, ◌+◌, ◌++◌, ℕ, List, length, drop, sym, ap, ◌∙◌}
 use Rattle.std.proofs.lemmas.List.{append-nil}
 use Rattle.mk_text.specs.declared.cutting.Span.{Span}
 use Rattle.mk_text.specs.Lines.{words_of}
 use Rattle.mk_text.specs.Spans.{parts}
-use Rattle.mk_text.proofs.PieceLemmas.{words_at, words_skip, words_last, words_none, one_more, no_blank_more}
-use Rattle.mk_text.proofs.SpanLemmas.{apart_more, before_more, before_later}
+use Rattle.mk_text.proofs.PieceLemmas.{word_by, words_none, words_skip, one_more}
+use Rattle.mk_text.proofs.SpanLemmas.{apart_more, before_later, before_more, within_more}
 use Rattle.mk_text.proofs.cutting.words.Goals as goal
-use Rattle.mk_text.proofs.cutting.words.Goals.{then-byte-eq32, then-from-i+in_ok-push, else-from-i, else-byte-eq32, then-from-line+in_ok-push-2, else-from-line}
+use Rattle.mk_text.proofs.cutting.words.Goals.{then-from-to+in_ok-push, else-from-to}
 
-pub loop-i-preserved : goal.loop-i-preserved
-loop-i-preserved c =
+pub loop-from-preserved : goal.loop-from-preserved
+loop-from-preserved c =
     let line = c.args.line.now in
-    let inv = c.loop-i.invariant in
-    elim c.if-byte-eq32.branch [
-      | then-byte-eq32 w ↦ elim w.if-from-i.branch [
-        | then-from-i+in_ok-push x ↦
-            let s : Span = record { from = c.loop-i.from; to = c.loop-i.i } in
-            let at = words_at line c.loop-i.from c.loop-i.i (omega arith) (omega arith) (omega arith) inv.none in
-            let more = one_more line c.loop-i.spans.items s (words_of (drop c.loop-i.from line)) (words_of (drop (c.loop-i.i + 1) line)) (words_of line) inv.so_far at in
-            record {
-              started = omega arith;
-              so_far = rw (w.spans-is, x.spans-is, w.from-is, x.in_ok-push.ensures.items) more;
-              none = λ k le lt. absurd (omega arith);
-              within = rw (w.spans-is, x.spans-is, x.in_ok-push.ensures.items) (grind (arith, common_steps));
-              apart = rw (w.spans-is, x.spans-is, x.in_ok-push.ensures.items) (apart_more c.loop-i.spans.items s inv.apart inv.before);
-              before = rw (w.spans-is, x.spans-is, w.from-is, x.in_ok-push.ensures.items) (before_more c.loop-i.spans.items s (c.loop-i.i + 1) inv.before (omega arith) (omega arith));
-            }
-        | else-from-i x ↦
-            let skip = words_skip line c.loop-i.from c.loop-i.i (omega arith) (omega arith) (omega arith) in
-            record {
-              started = omega arith;
-              so_far = rw (w.spans-is, x.spans-is, w.from-is) (ap (λ (ts : List (List ℕ)). parts line c.loop-i.spans.items ++ ts) (sym skip) ∙ inv.so_far);
-              none = λ k le lt. absurd (omega arith);
-              within = rw (w.spans-is, x.spans-is) inv.within;
-              apart = rw (w.spans-is, x.spans-is) inv.apart;
-              before = rw (w.spans-is, x.spans-is, w.from-is) (before_later c.loop-i.spans.items c.loop-i.from (c.loop-i.i + 1) inv.before (omega arith));
-            }
-      ]
-      | else-byte-eq32 w ↦
-          record {
-            started = omega arith;
-            so_far = rw (w.spans-is, w.from-is) inv.so_far;
-            none = λ k le lt. no_blank_more line c.loop-i.from c.loop-i.i inv.none w.if-byte-eq32.false k (omega arith) lt;
-            within = rw w.spans-is inv.within;
-            apart = rw w.spans-is inv.apart;
-            before = rw (w.spans-is, w.from-is) inv.before;
+    let inv = c.loop-from.invariant in
+    let spans = c.loop-from.spans.items in
+    let from = c.loop-from.from in
+    let to = c.first_from-to.result in
+    let found = c.first_from-to.ensures in
+    elim c.if-from-to.branch [
+      | then-from-to+in_ok-push w ↦
+          let s : Span = record { from = from; to = to } in
+          let left = word_by line from to w.if-from-to.true found.within found.none found.found in
+          rw (w.spans-is, w.in_ok-push.ensures.items) record {
+            inside = omega arith;
+            so_far = one_more line spans s (words_of (drop from line)) (words_of (drop (to + 1) line)) (words_of line) inv.so_far left;
+            within = within_more line spans s inv.within found.order found.within;
+            apart = apart_more spans s inv.apart inv.before;
+            before = before_more spans s (to + 1) inv.before (omega arith) (omega arith);
+          }
+      | else-from-to w ↦
+          let below : to < length line = omega arith in
+          let skip = words_skip line from to (omega arith) below (found.found below) in
+          rw w.spans-is record {
+            inside = omega arith;
+            so_far = ap (λ (ts : List (List ℕ)). parts line spans ++ ts) (sym skip) ∙ inv.so_far;
+            within = inv.within;
+            apart = inv.apart;
+            before = before_later spans from (to + 1) inv.before (omega arith);
           }
     ]
 
 pub returns-clause-words : goal.returns-clause-words
 returns-clause-words c =
     let line = c.args.line.now in
-    let inv = c.loop-i.invariant in
-    elim c.if-from-line.branch [
-      | then-from-line+in_ok-push-2 w ↦
-          let none = λ (k : ℕ) (le : c.loop-i.from ≤ k) (lt : k < length line). inv.none k le (omega arith) in
-          let s : Span = record { from = c.loop-i.from; to = length line } in
-          let at = words_last line c.loop-i.from (omega arith) none in
-          let more = one_more line c.loop-i.spans.items s (words_of (drop c.loop-i.from line)) [] (words_of line) inv.so_far at in
-          rw (w.spans-is, w.in_ok-push-2.ensures.items) (sym (append-nil (parts line (c.loop-i.spans.items ++ s ∷ []))) ∙ more)
-      | else-from-line w ↦
-          rw w.spans-is (sym (append-nil (parts line c.loop-i.spans.items))
-          ∙ ap (λ (ts : List (List ℕ)). parts line c.loop-i.spans.items ++ ts)
-          (sym (words_none line c.loop-i.from (omega arith))) ∙ inv.so_far)
-    ]
-
-pub returns-clause-apart : goal.returns-clause-apart
-returns-clause-apart c =
-    let inv = c.loop-i.invariant in
-    elim c.if-from-line.branch [
-      | then-from-line+in_ok-push-2 w ↦
-          let s : Span = record { from = c.loop-i.from; to = length c.args.line.now } in
-          rw (w.spans-is, w.in_ok-push-2.ensures.items) (apart_more c.loop-i.spans.items s inv.apart inv.before)
-      | else-from-line w ↦ rw w.spans-is inv.apart
-    ]
+    let spans = c.loop-from.spans.items in
+    sym (append-nil (parts line spans))
+    ∙ ap (λ (ts : List (List ℕ)). parts line spans ++ ts) (sym (words_none line c.loop-from.from c.loop-from-test.false))
+    ∙ c.loop-from.invariant.so_far

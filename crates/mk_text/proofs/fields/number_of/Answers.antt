@@ -1,6 +1,6 @@
 use Rattle.std.proofs.Common.{arith, ◌+◌, sym}
 use Rattle.mk_text.proofs.DigitLemmas.{value_small, value_more}
-use Rattle.mk_text.proofs.fields.unsigned.Goals as goal
+use Rattle.mk_text.proofs.fields.number_of.Goals as goal
 
 pub overflow_mul-number : goal.overflow_mul-number
 overflow_mul-number c =
