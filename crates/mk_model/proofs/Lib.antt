@@ -1,6 +1,7 @@
 pub mod PlaceLemmas
 pub mod EdgesLemmas
 pub mod FlatLemmas
+pub mod CountLemmas
 pub mod FillingLemmas
 pub mod GraphsLemmas
 pub mod MoleculesLemmas

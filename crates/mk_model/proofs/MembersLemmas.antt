@@ -27,7 +27,23 @@ use Rattle.mk_model.proofs.FewLemmas.{pairs_none}
 use Rattle.mk_model.proofs.LogicLemmas.{passes_some, some_passes}
 use Rattle.mk_model.proofs.NumbersLemmas.{IsPlaceOf, RisesWithin, contains_has, count_all, count_le, count_next, count_none, count_or, count_rising, count_same, count_some, filter_rising, has, has_contains, nth_of_range, one_if, or_false, place_found, rises_within}
 use Rattle.mk_model.proofs.SizesLemmas.{greatest_contains}
-use Rattle.mk_model.proofs.PlaceLemmas.{all_at, at_place, place_is, place_within}
+use Rattle.mk_model.proofs.PlaceLemmas.{all_at, at_place, place_is, place_past, place_within}
+
+-- ---- members of groups
+
+-- the members of a group that is found
+pub members_there : (query : QueryView) (g : ℕ) (groups : List Group) (k : ℕ) (group : Group) → groups ≡ query.groups → k ≡ g - 1
+    → k < length groups → group ≡ get_or groups k group → group.members ≡ members_of query g
+members_there query g groups k group are is below here =
+    let found : slice_get query.groups (g - 1) ≡ Some group = rw (sym are, sym is) (at_place groups k group below ∙ ap (λ (x : Group). Some x) (sym here)) in
+    rw found refl
+
+-- and where none is, there are none
+pub members_past : (query : QueryView) (g : ℕ) (groups : List Group) (k : ℕ) → groups ≡ query.groups → k ≡ g - 1
+    → length groups ≤ k → [] ≡ members_of query g
+members_past query g groups k are is past =
+    let none : slice_get query.groups (g - 1) ≡ None = rw (sym are, sym is) (place_past groups k past) in
+    rw none refl
 
 -- ---- members of labels
 

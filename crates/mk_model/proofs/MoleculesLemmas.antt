@@ -1,11 +1,12 @@
 -- The bond between two atoms of a molecule is the one that is found among the bonds of one of them.
-use Rattle.std.proofs.Common.{◌≡◌, ◌≤◌, ◌<◌, ◌-◌, ℕ, zero, suc, true, List, [], ◌∷◌, Option, Some, None, refl, ap, sym, subst, ◌∙◌, length, get_or, arith}
-use Rattle.std.specs.Prelude.{All, map, slice_get, ◌↔◌}
+use Rattle.std.proofs.Common.{◌≡◌, ◌≤◌, ◌<◌, ◌+◌, ◌-◌, ℕ, zero, suc, Bool, true, false, List, [], ◌∷◌, Option, Some, None, refl, ap, sym, subst, ◌∙◌, length, get_or, inl, inr, arith}
+use Rattle.std.specs.Prelude.{All, Contains, map, slice_get, ◌↔◌}
+use Rattle.std.proofs.lemmas.Bool.{cases_lt, true≢false}
 use Rattle.std.proofs.lemmas.List.{length-map, get_or-map, get_or_default}
 use Rattle.std.proofs.lemmas.List.Elements.{All-from_get_or}
 use Rattle.mk_model.specs.declared.edge.Edge.{Edge}
 use Rattle.mk_model.specs.declared.molecule.MolBond.{MolBond}
-use Rattle.mk_model.specs.Edges.{Joins, numbers_at, touches}
+use Rattle.mk_model.specs.Edges.{HasEnds, Joins, numbers_at, touches}
 use Rattle.mk_model.specs.Molecules.{Molecule, IsMolecule, IsBondOf, BondAmong, edge_of, edges}
 use Rattle.mk_model.proofs.EdgesLemmas.{touches-ends}
 use Rattle.mk_model.proofs.ForCallers.{numbers_at-each, numbers_at-all}
@@ -29,6 +30,34 @@ joins mol a b bond is = record {
   at = slice_get-edges mol.bonds is.0.0 bond is.0.1;
   ends = rw is.0.2 is.1;
 }
+
+-- ---- the search among some numbered bonds
+
+-- a bond with these ends is found
+pub found_among : (bonds : List MolBond) (k : ℕ) (d : MolBond) (edge : Edge) (a b : ℕ) → k < length bonds
+    → edge ≡ edge_of (get_or bonds k d) → HasEnds edge a b → Contains bonds (get_or bonds k d) × HasEnds (edge_of (get_or bonds k d)) a b
+found_among bonds k d edge a b below is ends = ((k, below, get_or_default bonds k (get_or bonds k d) d below), subst (λ (e : Edge). HasEnds e a b) is ends)
+
+-- none of the first so many has these ends
+abbrev pub AreOthers : List MolBond → List ℕ → ℕ → ℕ → ℕ → Type 0
+AreOthers bonds numbers a b n = (i : ℕ) (bond : MolBond) → i < n → HasEnds (edge_of (get_or bonds (get_or numbers i 0 - 1) bond)) a b → ⊥
+
+-- nor has the next
+pub none_among_more : (bonds : List MolBond) (numbers : List ℕ) (n : ℕ) (d : MolBond) (edge : Edge) (a b : ℕ) (is_so : Bool)
+    → get_or numbers n 0 - 1 < length bonds → edge ≡ edge_of (get_or bonds (get_or numbers n 0 - 1) d)
+    → (HasEnds edge a b → is_so ≡ true) → is_so ≡ false → AreOthers bonds numbers a b n → AreOthers bonds numbers a b (n + 1)
+none_among_more bonds numbers n d edge a b is_so within is found not_so none i bond below ends =
+    elim (cases_lt i n) [
+      | inl before ↦ none i bond before ends
+      | inr last ↦
+          let same : i ≡ n = omega arith in
+          let there : get_or bonds (get_or numbers i 0 - 1) bond ≡ get_or bonds (get_or numbers n 0 - 1) d =
+          ap (λ (j : ℕ). get_or bonds (get_or numbers j 0 - 1) bond) same ∙ get_or_default bonds (get_or numbers n 0 - 1) bond d within in
+          let here : HasEnds edge a b = subst (λ (e : Edge). HasEnds e a b) (sym is) (subst (λ (x : MolBond). HasEnds (edge_of x) a b) there ends) in
+          true≢false (sym (found here) ∙ not_so)
+    ]
+
+-- ---- the bond between two atoms
 
 -- the bond that is found is the one between the atoms
 pub bond-exact : (mol : Molecule) (a b : ℕ) (r : Option MolBond) → IsMolecule mol

@@ -3,7 +3,7 @@
 --     all_at            what holds of each holds of it
 --     drawn_between     the ends of each bond of a graph are two of its atoms
 --     bonds_between     and those of each bond of a molecule two of its
-use Rattle.std.proofs.Common.{◌≡◌, ℕ, zero, suc, ◌<◌, ◌≤◌, List, [], ◌∷◌, Some, length, get_or, map, refl, subst, arith, All}
+use Rattle.std.proofs.Common.{◌≡◌, ℕ, zero, suc, ◌<◌, ◌≤◌, List, [], ◌∷◌, None, Some, length, get_or, map, refl, subst, arith, All}
 use Rattle.std.specs.Prelude.{slice_get}
 use Rattle.std.proofs.lemmas.List.{length-map, get_or-map}
 use Rattle.mk_model.specs.Edges.{IsBetween}
@@ -25,6 +25,12 @@ place_within (y ∷ xs) (suc k) x at = (let below = place_within xs k x at in om
 -- and it is what is read there
 pub place_is : {X : Type 0} (xs : List X) (k : ℕ) (x d : X) → slice_get xs k ≡ Some x → get_or xs k d ≡ x
 place_is xs k x d at = (let there = at_place xs k d (place_within xs k x at) in cc)
+
+-- and where nothing does, the list has ended
+pub place_past : {X : Type 0} (xs : List X) (k : ℕ) → length xs ≤ k → slice_get xs k ≡ None
+place_past [] k past = refl
+place_past (x ∷ xs) zero past = absurd (omega arith)
+place_past (x ∷ xs) (suc k) past = place_past xs k (omega arith)
 
 -- what holds of each, at a place
 pub all_at : {X : Type 0} (P : X → Type 0) (xs : List X) (k : ℕ) (x : X) → All P xs → slice_get xs k ≡ Some x → P x

@@ -49,7 +49,6 @@ impl Elements {
         ensures ok { OnOk result (self.new ≡ self.old ++ element ∷ []) }
         ensures err { OnErr result (self.new ≡ self.old) }
     {
-        self.items.push(element)?;
-        Ok(())
+        self.items.extend_from_slice(&[element])
     }
 }

@@ -49,8 +49,7 @@ impl Range {
         ensures ok { OnOk result (self.new ≡ self.old ++ interval ∷ []) }
         ensures err { OnErr result (self.new ≡ self.old) }
     {
-        self.items.push(interval)?;
-        Ok(())
+        self.items.extend_from_slice(&[interval])
     }
 }
 

@@ -53,7 +53,7 @@ impl Query {
 
 /// How many sites of a group stand in the templates that a code chooses, and how many of them are
 /// filled.
-#[derive(Clone, Copy, Debug, PartialEq, Eq)]
+#[derive(Clone, Copy, Debug)]
 pub struct Count {
     pub sites: u32,
     pub filled: u32,

@@ -7,7 +7,7 @@ use std::marker::Model;
 
 /// A bond of a query: 1 to 4 the types, 5 single or double, 6 single or aromatic, 7 double or
 /// aromatic, 8 any; topology 0 either, 1 a ring bond, 2 another.
-#[derive(Clone, Copy, Debug, PartialEq, Eq)]
+#[derive(Clone, Copy, Debug)]
 pub struct QueryBond {
     pub first: u32,
     pub second: u32,

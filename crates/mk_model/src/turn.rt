@@ -2,7 +2,7 @@
 
 /// What a turn comes to: the first item still to come is taken out; or none is, and the place is
 /// further on; or none is to come.
-#[derive(Clone, Copy, Debug, PartialEq)]
+#[derive(Clone, Copy)]
 pub enum Turn {
     Item,
     Moved,

@@ -1,7 +1,7 @@
-use Rattle.std.proofs.Common.{◌≡◌, ◌+◌, ◌-◌, ◌∙◌, Some, ap, sym, length, arith}
+use Rattle.std.proofs.Common.{◌≡◌, ◌+◌, ◌-◌, ◌∙◌, Some, ap, subst, sym, length, arith}
 use Rattle.std.specs.Prelude.{slice_get}
 use Rattle.mk_model.specs.Edges.{rows_of, numbers_at}
-use Rattle.mk_model.specs.Graphs.{graph_edge, graph_edges}
+use Rattle.mk_model.specs.Graphs.{IsGraph, graph_edge, graph_edges}
 use Rattle.mk_model.proofs.EdgesLemmas.{length-rows_of, slice_get-rows_of}
 use Rattle.mk_model.proofs.MoleculesLemmas.{numbers_within}
 use Rattle.mk_model.proofs.graph.Graph.bonds_at.Goals as goal
@@ -29,3 +29,6 @@ returns-clause-numbers c = numbers c
 
 pub returns-clause-within : goal.returns-clause-within
 returns-clause-within c = numbers_within graph_edge c.args.self.now.bonds c.args.x _ (numbers c)
+
+pub returns-clause-kept : goal.returns-clause-kept
+returns-clause-kept c = subst IsGraph c.self.view_is c.self.invariant.holds
