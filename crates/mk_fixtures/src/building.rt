@@ -3,7 +3,7 @@ ghost use Rattle.std.specs.Prelude.{◌≡◌, ◌<◌, All, AllPairs, IfOk, IsT
 ghost use Rattle.mk_model.specs.Edges.{IsEdgeBefore};
 ghost use Rattle.mk_model.specs.Molecules.{edges, IsElement};
 ghost use Rattle.mk_model.specs.Tests.{IsBondInRange, IsKindInRange, IsListOfElements, IsTestInRange};
-ghost use Rattle.mk_rings.specs.Bare.{bare_bonds};
+ghost use Rattle.mk_marks.specs.Bare.{bare_bonds};
 
 use crate::checks::is_graph;
 use mk_model::{

@@ -20,7 +20,7 @@ use Rattle.mk_mol.specs.Checks.{IsKnownAtom, IsOfMolecules}
 use Rattle.mk_mol.specs.Filled.{AreGains, AreWrittenAtoms, IsWrittenAtom, hydrogen_atom, hydrogen_bonds, owners}
 use Rattle.mk_text.specs.Items.{IsLeastFailing}
 use Rattle.mk_mol.specs.FirstFault.{MoleculeCheck, MoleculeDemands}
-use Rattle.mk_rings.specs.Laws.{OneListOfMolBonds}
+use Rattle.mk_marks.specs.Laws.{OneListOfMolBonds}
 use Rattle.mk_mol.specs.Laws.{OneFirstFault, NoFaultWhereAllPass, OneFilledMolecule, PassingTablesKeepTheirText}
 use Rattle.mk_mol.proofs.FaultLemmas.{number-once}
 use Rattle.std.proofs.lemmas.Option.{get_or_from_slice_get, slice_get-get_or}

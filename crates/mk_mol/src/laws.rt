@@ -2,7 +2,7 @@
 // that it rests on.
 ghost use Rattle.mk_mol.specs.Laws.{NoFaultWhereAllPass, OneFilledMolecule, OneFirstFault, PassingTablesKeepTheirText};
 
-use mk_rings::marks_determine_bonds;
+use mk_marks::marks_determine_bonds;
 
 /// A table has at most one first fault, and none where every check passes.
 pub fn one_first_fault()

@@ -2,8 +2,8 @@
 --     one_graph      a code has one expansion alone
 --     some_graph     and has one
 --     short          a code and a hit of its expansion together have at most 512 numbers
---     kept_template .. template_kept     all else serves the code of mk_expand
-use Rattle.mk_rings.proofs.ForCallers.{graph_bonds_have_marks, one_list_of_graph_bonds}
+--     kept_template .. template_kept     all else serves the code of mk_layout and mk_expand
+use Rattle.mk_marks.proofs.ForCallers.{graph_bonds_have_marks, one_list_of_graph_bonds}
 use Rattle.mk_pieces.specs.Laws.{EachCodeHasExpansion, OneExpansion}
 use Rattle.mk_pieces.proofs.HaveExpansionLemmas.{has_expansion}
 use Rattle.mk_pieces.proofs.OneExpansionLemmas.{one_expansion}

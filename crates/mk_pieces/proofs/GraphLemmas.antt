@@ -23,8 +23,8 @@ use Rattle.mk_model.specs.QueryFits.{QueryFits}
 use Rattle.mk_model.specs.Tests.{IsBondInRange}
 use Rattle.mk_model.proofs.ForCallers.{one_choice}
 use Rattle.mk_model.proofs.ForCallers.{place_is, place_within}
-use Rattle.mk_rings.specs.Bare.{bare_bond, bare_bonds}
-use Rattle.mk_rings.proofs.ForCallers.{same_at, same_length}
+use Rattle.mk_marks.specs.Bare.{bare_bond, bare_bonds}
+use Rattle.mk_marks.proofs.ForCallers.{same_at, same_length}
 use Rattle.mk_pieces.specs.Begun.{Begins, IsExpanded}
 use Rattle.mk_pieces.specs.Rooms.{IsSmallTemplate}
 use Rattle.mk_pieces.specs.Fragments.{HasOrdered, HasRange, IsFragment, IsLowerFirst, bare}

@@ -12,8 +12,8 @@ use Rattle.mk_model.specs.declared.template.QueryBond.{QueryBond}
 use Rattle.mk_model.specs.Codes.{spelling}
 use Rattle.mk_model.specs.Expansions.{expansion}
 use Rattle.mk_model.specs.Graphs.{GraphView, IsBefore, IsGraph}
-use Rattle.mk_rings.specs.Laws.{GraphBondsHaveMarks}
-use Rattle.mk_rings.proofs.ForCallers.{marked_sketch}
+use Rattle.mk_marks.specs.Laws.{GraphBondsHaveMarks}
+use Rattle.mk_marks.proofs.ForCallers.{marked_sketch}
 use Rattle.mk_pieces.specs.Begun.{IsExpanded}
 use Rattle.mk_pieces.specs.Fragments.{AreApart, HasOrdered, bare}
 use Rattle.mk_pieces.specs.Laws.{EachCodeHasExpansion}

@@ -11,8 +11,8 @@ use Rattle.mk_model.specs.Expansions.{IsExpansion, expansion, unmarked}
 use Rattle.mk_model.specs.Graphs.{GraphView, IsBefore}
 use Rattle.mk_model.specs.Queries.{QueryView, slots_of}
 use Rattle.mk_model.proofs.ForCallers.{one_choice}
-use Rattle.mk_rings.specs.Bare.{bare_bond, bare_bonds}
-use Rattle.mk_rings.specs.Laws.{OneListOfGraphBonds}
+use Rattle.mk_marks.specs.Bare.{bare_bond, bare_bonds}
+use Rattle.mk_marks.specs.Laws.{OneListOfGraphBonds}
 use Rattle.mk_pieces.specs.Fragments.{bare}
 use Rattle.mk_pieces.specs.Laws.{OneExpansion}
 use Rattle.mk_pieces.proofs.OrderLemmas.{AreIn, one_order}

@@ -2,7 +2,7 @@
 --     IsSlotOf template slot     a slot of the template: a link, or a site between the neighbours
 --                                that it names
 --     IsTemplate template        all that is kept of a template
-use Rattle.std.specs.Prelude.{◌≤◌, ◌<◌, ℕ, length, All, AllPairs, Contains}
+use Rattle.std.specs.Prelude.{◌≤◌, ◌<◌, length, All, AllPairs, Contains}
 use Rattle.mk_model.specs.declared.template.Slot.{Slot}
 use Rattle.mk_model.specs.declared.template.Slot.TheVariants.{Link, Site}
 use Rattle.mk_model.specs.Edges.{IsSimple}

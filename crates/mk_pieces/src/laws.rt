@@ -2,7 +2,7 @@
 ghost use Rattle.mk_pieces.specs.Drawn.{LinksThatStandOnce, WithoutSlots};
 ghost use Rattle.mk_pieces.specs.Laws.{CodeAndHitAreShort, EachCodeHasExpansion, ExpansionIsNamed, OneExpansion};
 
-use mk_rings::{bonds_have_marks, marks_determine_bonds};
+use mk_marks::{bonds_have_marks, marks_determine_bonds};
 
 /// A code and a hit of its expansion together have at most 512 numbers.
 pub fn code_and_hit_are_short()

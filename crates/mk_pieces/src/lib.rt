@@ -6,7 +6,8 @@
 //! member at a site, a hydrogen at a site.
 //!
 //! Beside it stand that each code has one expansion, and what every expansion keeps. The graph
-//! itself is made in mk_expand, which rests on the lemmas here (`proofs/ForCallers.antt`).
+//! itself is made in mk_layout and mk_expand, which rest on the lemmas here
+//! (`proofs/ForCallers.antt`).
 #![tactic(auto)]
 
 mod laws;

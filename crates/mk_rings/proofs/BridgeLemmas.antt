@@ -7,12 +7,12 @@ use Rattle.mk_model.specs.declared.edge.Edge.{Edge}
 use Rattle.mk_model.specs.Edges.{AreBetween, HasKind, Joins, numbers_at, numbers_from, rows_of, touches}
 use Rattle.mk_model.specs.Aromatic.{IsAromatic, IsClosed, IsSixCycle}
 use Rattle.mk_model.specs.Rings.{IsRingBond}
+use Rattle.mk_marks.specs.Marks.{Marks}
 use Rattle.mk_rings.specs.Bridges.{AreWithoutBridges, label_if}
-use Rattle.mk_rings.specs.Marks.{Marks}
-use Rattle.mk_rings.proofs.RoundLemmas.{nth_round}
-use Rattle.mk_rings.proofs.SixLemmas.{IsRound, round_of_rule}
-use Rattle.mk_rings.proofs.WalkLemmas.{get_or-from_get, joins_within, slice_get-at}
-use Rattle.mk_rings.proofs.WayLemmas.{IsRingBond-linked, Linked, joins_back, linked_by, linked_on, same_ends}
+use Rattle.mk_marks.proofs.ClosedLemmas.{nth_round}
+use Rattle.mk_marks.proofs.SixLemmas.{IsRound, round_of_rule}
+use Rattle.mk_marks.proofs.JoinLemmas.{get_or-from_get, joins_within, slice_get-at}
+use Rattle.mk_marks.proofs.WayLemmas.{IsRingBond-linked, Linked, joins_back, linked_by, linked_on, same_ends}
 
 -- ---- cycles
 

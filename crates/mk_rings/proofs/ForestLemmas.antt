@@ -10,8 +10,8 @@ use Rattle.mk_model.specs.Edges.{Joins}
 use Rattle.mk_model.specs.Rings.{IsRingBond}
 use Rattle.mk_rings.specs.declared.node.Node.{Node}
 use Rattle.mk_rings.specs.Forests.{node, IsGrown, is_among, is_over, HangsBy}
-use Rattle.mk_rings.specs.Marks.{Parts}
-use Rattle.mk_rings.proofs.WayLemmas.{Linked, joins_back, same_ends, linked_here, linked_by, linked_on, linked_back, IsRingBond-linked, same_along}
+use Rattle.mk_rings.specs.Walks.{Parts}
+use Rattle.mk_marks.proofs.WayLemmas.{Linked, joins_back, same_ends, linked_here, linked_by, linked_on, linked_back, IsRingBond-linked, same_along}
 
 module _ (bonds : List Edge) (nodes : List Node) (grown : IsGrown bonds nodes) where
   -- ---- who stands over whom

@@ -11,8 +11,8 @@ use Rattle.mk_model.specs.Edges.{AreBetween, IsBetween, Joins, HasEnds, numbers_
 use Rattle.mk_rings.specs.declared.node.Node.{Node}
 use Rattle.mk_rings.specs.Forests.{node, nowhere, Hangs, IsGrown, unreached}
 use Rattle.mk_rings.specs.Growing.{HasEndsInTree, IsInTree, IsReaching, StayReached}
-use Rattle.mk_rings.proofs.WayLemmas.{joins_back, same_ends}
-use Rattle.mk_rings.proofs.WalkLemmas.{joins_within, slice_get-at, get_or-from_get}
+use Rattle.mk_marks.proofs.WayLemmas.{joins_back, same_ends}
+use Rattle.mk_marks.proofs.JoinLemmas.{joins_within, slice_get-at, get_or-from_get}
 use Rattle.mk_model.proofs.ForCallers.{numbers_at-all, numbers_at-each, IsNumberOf}
 use Rattle.mk_model.proofs.ForCallers.{touches-ends}
 

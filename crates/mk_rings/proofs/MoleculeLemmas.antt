@@ -8,7 +8,7 @@ use Rattle.mk_model.specs.Molecules.{edge_of, edges, HasMarks}
 use Rattle.mk_model.specs.Rings.{IsRingBond}
 use Rattle.mk_model.specs.Aromatic.{IsAromatic}
 use Rattle.mk_model.proofs.ForCallers.{place_is, place_within}
-use Rattle.mk_rings.specs.Marks.{Marks}
+use Rattle.mk_marks.specs.Marks.{Marks}
 
 -- the bonds are these edges, with the marks at their places
 pub record HaveMarks (plain : List Edge) (rings aromatics : List Bool) (bonds : List MolBond) : Type 0 where

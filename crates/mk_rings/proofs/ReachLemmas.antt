@@ -9,10 +9,11 @@ use Rattle.mk_model.specs.declared.edge.Edge.{Edge}
 use Rattle.mk_model.specs.Edges.{Joins, numbers_at}
 use Rattle.mk_model.specs.Aromatic.{Takes}
 use Rattle.mk_model.proofs.ForCallers.{numbers_at-all}
+use Rattle.mk_marks.specs.SixRings.{CanClose}
 use Rattle.mk_rings.specs.Reach.{Further, IsReached, KeepsStamps, LeadsToStamped, MaySkip, Tells}
-use Rattle.mk_rings.specs.SixRings.{AllBelow, CanClose}
-use Rattle.mk_rings.proofs.WayLemmas.{joins_back, same_ends}
-use Rattle.mk_rings.proofs.WalkLemmas.{joins_within}
+use Rattle.mk_rings.specs.Rounds.{AllBelow}
+use Rattle.mk_marks.proofs.WayLemmas.{joins_back, same_ends}
+use Rattle.mk_marks.proofs.JoinLemmas.{joins_within}
 use Rattle.mk_rings.proofs.GrowLemmas.{touches_joined}
 
 -- ---- the bonds of an atom, one after another

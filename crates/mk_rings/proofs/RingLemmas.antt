@@ -6,12 +6,14 @@ use Rattle.std.proofs.lemmas.List.{get_or-set_other}
 use Rattle.mk_model.specs.declared.edge.Edge.{Edge}
 use Rattle.mk_model.specs.Edges.{AreBetween, Joins}
 use Rattle.mk_model.specs.Rings.{IsRingBond}
+use Rattle.mk_marks.specs.Marks.{Marks, IsMarked}
 use Rattle.mk_rings.specs.declared.node.Node.{Node}
 use Rattle.mk_rings.specs.Forests.{node, IsGrown, IsForest, is_over, HangsBy}
-use Rattle.mk_rings.specs.Marks.{Marks, Parts, IsMarked, MarksWay}
-use Rattle.mk_rings.proofs.WayLemmas.{same_ends}
+use Rattle.mk_rings.specs.Walks.{Parts, MarksWay}
+use Rattle.mk_marks.proofs.WayLemmas.{same_ends}
+use Rattle.mk_marks.proofs.JoinLemmas.{joins_ends, joins_within}
 use Rattle.mk_rings.proofs.ForestLemmas.{over-other, ring-outside, ring-parted, no-ring}
-use Rattle.mk_rings.proofs.WalkLemmas.{joins_ends, joins_within, marked-here, marked-kept, end_reached}
+use Rattle.mk_rings.proofs.WalkLemmas.{marked-here, marked-kept, end_reached}
 
 -- no atom hangs by the bond
 pub record IsOutside (nodes : List Node) (b : ℕ) : Type 0 where

@@ -7,9 +7,9 @@ use Rattle.mk_model.specs.declared.edge.Edge.{Edge}
 use Rattle.mk_model.specs.Edges.{Joins, numbers_at, touches}
 use Rattle.mk_model.specs.Aromatic.{Takes}
 use Rattle.mk_model.proofs.ForCallers.{numbers_at-all}
-use Rattle.mk_rings.specs.SixRings.{CanClose, ClosesBy, NotAmong}
-use Rattle.mk_rings.proofs.WayLemmas.{same_ends}
-use Rattle.mk_rings.proofs.WalkLemmas.{joins_within}
+use Rattle.mk_marks.specs.SixRings.{CanClose, ClosesBy, NotAmong}
+use Rattle.mk_marks.proofs.WayLemmas.{same_ends}
+use Rattle.mk_marks.proofs.JoinLemmas.{joins_within}
 use Rattle.mk_rings.proofs.GrowLemmas.{touches_joined}
 
 module _ (bonds : List Edge) (s : ℕ → Bool) (start : ℕ) (path : List ℕ) (at label b y : ℕ) (joined : Joins bonds b at y) where

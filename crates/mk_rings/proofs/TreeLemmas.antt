@@ -10,7 +10,7 @@ use Rattle.mk_model.specs.Edges.{AreBetween, IsBetween}
 use Rattle.mk_rings.specs.declared.node.Node.{Node}
 use Rattle.mk_rings.specs.Forests.{node, nowhere, IsGrown, IsForest, unreached}
 use Rattle.mk_rings.specs.Growing.{HasEndsInTree, IsInTree, AllDone, IsReaching, StayReached}
-use Rattle.mk_rings.proofs.WalkLemmas.{joins_within, get_or-from_get}
+use Rattle.mk_marks.proofs.JoinLemmas.{joins_within, get_or-from_get}
 use Rattle.mk_rings.proofs.GrowLemmas.{node-here, node-other, unreached-set, unreached_flat, StayReached-set, IsDone-set, IsGrown-set}
 
 -- ---- a tree is begun and done

@@ -1,14 +1,16 @@
 -- Two atoms of one tree go up until they meet, and the bonds on the way are marked.
-use Rattle.std.proofs.Common.{◌≡◌, ◌≢◌, ◌≤◌, ◌<◌, ◌+◌, ℕ, zero, suc, Bool, true, false, List, [], ◌∷◌, Some, refl, ap, sym, ◌∙◌, subst, inl, inr, ⊎_elim, arith, length, get_or, set}
-use Rattle.std.specs.Prelude.{◌⊎◌, slice_get}
+use Rattle.std.proofs.Common.{◌≡◌, ◌≢◌, ◌≤◌, ◌<◌, ◌+◌, ℕ, Bool, true, false, List, refl, ap, sym, ◌∙◌, subst, inl, inr, ⊎_elim, arith, length, get_or, set}
+use Rattle.std.specs.Prelude.{◌⊎◌}
 use Rattle.std.proofs.lemmas.Bool.{cases_eq, cases_lt, true≢false}
-use Rattle.std.proofs.lemmas.List.{get_or-set_same, get_or-set_other, get_or_past}
+use Rattle.std.proofs.lemmas.List.{get_or-set_same, get_or-set_other}
 use Rattle.mk_model.specs.declared.edge.Edge.{Edge}
+use Rattle.mk_marks.specs.Marks.{IsMarked}
 use Rattle.mk_rings.specs.declared.node.Node.{Node}
 use Rattle.mk_rings.specs.Forests.{node, IsGrown, IsForest, is_over, HangsBy}
-use Rattle.mk_rings.specs.Marks.{Parts, IsMarked, MarksWay}
+use Rattle.mk_rings.specs.Walks.{Parts, MarksWay}
 use Rattle.mk_model.specs.Edges.{AreBetween, IsBetween, Joins}
-use Rattle.mk_rings.proofs.WayLemmas.{same_ends}
+use Rattle.mk_marks.proofs.JoinLemmas.{get_or-from_get, joins_within}
+use Rattle.mk_marks.proofs.WayLemmas.{same_ends}
 use Rattle.mk_rings.proofs.ForestLemmas.{over-self, over-other, over-parent, over-no_deeper}
 
 -- a mark that is set is there
@@ -148,36 +150,11 @@ module _ (bonds : List Edge) (nodes : List Node) (u v a c deep other : ℕ) (old
 
 -- ---- the ends of a bond
 
--- a bond that joins something is in the list
-pub joins_within : (bonds : List Edge) (b x y : ℕ) → Joins bonds b x y → b < length bonds
-joins_within bonds b x y j = within bonds b j.edge j.at
-  where
-    within : (xs : List Edge) (k : ℕ) (e : Edge) → slice_get xs k ≡ Some e → k < length xs
-    within [] k e is = cc
-    within (x ∷ xs) zero e is = omega arith
-    within (x ∷ xs) (suc k) e is = omega (arith, within xs k e is)
-
--- what stands at a place, as `slice_get` has it
-pub slice_get-at : (xs : List Edge) (k : ℕ) (d : Edge) → k < length xs → slice_get xs k ≡ Some (get_or xs k d)
-slice_get-at [] k d below = absurd (omega arith)
-slice_get-at (x ∷ xs) zero d below = refl
-slice_get-at (x ∷ xs) (suc k) d below = slice_get-at xs k d (omega arith)
-
--- a bond in the list joins its ends
-pub joins_ends : (bonds : List Edge) (b : ℕ) (d : Edge) → b < length bonds → Joins bonds b (get_or bonds b d).first (get_or bonds b d).second
-joins_ends bonds b d below = record { edge = get_or bonds b d; at = slice_get-at bonds b d below; ends = inl (refl, refl) }
-
 -- the bond by which an atom hangs is in the list
 pub hangs_within : (bonds : List Edge) (nodes : List Node) (x b : ℕ) → IsGrown bonds nodes → HangsBy nodes x b → b < length bonds
 hangs_within bonds nodes x b grown by =
     let within = joins_within bonds (node nodes x).via x (node nodes x).parent (grown.hang x by.0).joined in
     omega (arith, within, by.1)
-
--- what `slice_get` gives at a place, at any default
-pub get_or-from_get : (xs : List Edge) (k : ℕ) (d e : Edge) → slice_get xs k ≡ Some e → get_or xs k d ≡ e
-get_or-from_get [] k d e is = cc
-get_or-from_get (x ∷ xs) zero d e is = cc
-get_or-from_get (x ∷ xs) (suc k) d e is = get_or-from_get xs k d e is
 
 -- the ends of a bond were reached
 pub end_reached : (atoms : ℕ) (bonds : List Edge) (nodes : List Node) (x y : ℕ) {b : ℕ} → AreBetween atoms bonds → IsForest atoms bonds nodes → Joins bonds b x y → (node nodes x).root ≢ 0

@@ -1,8 +1,6 @@
 pub mod Forests
 pub mod Growing
-pub mod Marks
-pub mod SixRings
-pub mod Bare
-pub mod Laws
+pub mod Walks
+pub mod Rounds
 pub mod Bridges
 pub mod Reach

@@ -13,7 +13,7 @@ use Rattle.std.specs.Prelude.{◌≡◌, ◌-◌, ℕ, zero, suc, Bool, List, �
 use Rattle.mk_model.specs.declared.edge.Edge.{Edge}
 use Rattle.mk_model.specs.Edges.{Joins}
 use Rattle.mk_model.specs.Aromatic.{Takes}
-use Rattle.mk_rings.specs.SixRings.{CanClose}
+use Rattle.mk_marks.specs.SixRings.{CanClose}
 
 -- the bonds from z that take the label lead to stamped atoms
 abbrev pub LeadsToStamped : List Edge → (ℕ → Bool) → ℕ → List ℕ → ℕ → ℕ → Type 0

@@ -3,8 +3,8 @@ ghost use Rattle.std.specs.Prelude.{◌≡◌, ◌<◌, ◌+◌, ◌↔◌, ℕ,
 ghost use Rattle.mk_model.specs.Edges.{AreBetween, HasKind, IsSimple, rows_of};
 ghost use Rattle.mk_model.specs.Aromatic.{IsAromatic};
 ghost use Rattle.mk_model.specs.Rings.{IsRingBond};
-ghost use Rattle.mk_rings.specs.Marks.{IsMarked, Marks};
-ghost use Rattle.mk_rings.specs.SixRings.{AllBelow};
+ghost use Rattle.mk_marks.specs.Marks.{IsMarked, Marks};
+ghost use Rattle.mk_rings.specs.Rounds.{AllBelow};
 ghost use Rattle.mk_rings.specs.Bridges.{AreWithoutBridges, label_if};
 
 use crate::marking::{neighbours_of, ring_bonds_over};

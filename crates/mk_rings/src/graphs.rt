@@ -2,7 +2,7 @@
 ghost use Rattle.std.specs.Prelude.{◌≡◌, ◌<◌, ℕ, false, IfOk, length, slice_index_or};
 ghost use Rattle.mk_model.specs.declared.graph.GraphBond.{GraphBond as Drawn};
 ghost use Rattle.mk_model.specs.Graphs.{IsUnmarked};
-ghost use Rattle.mk_rings.specs.Bare.{bare_bonds};
+ghost use Rattle.mk_marks.specs.Bare.{bare_bonds};
 
 use crate::aromatic::aromatic_bonds_over;
 use crate::marking::{neighbours_of, ring_bonds_over};

@@ -19,7 +19,6 @@
 mod aromatic;
 mod forest;
 mod graphs;
-mod laws;
 mod marking;
 mod molecules;
 mod node;
@@ -32,6 +31,6 @@ mod steps;
 
 pub use aromatic::aromatic_bonds;
 pub use graphs::marked_graph;
-pub use laws::{bonds_have_marks, marks_determine_bonds};
 pub use marking::ring_bonds;
+pub use mk_marks::{bonds_have_marks, marks_determine_bonds};
 pub use molecules::marked_bonds;

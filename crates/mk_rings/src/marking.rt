@@ -2,8 +2,9 @@
 ghost use Rattle.std.specs.Prelude.{◌≡◌, ◌≢◌, ◌≤◌, ◌<◌, ◌-◌, ◌↔◌, ◌⊎◌, ℕ, IfOk, IsTrue, length};
 ghost use Rattle.mk_model.specs.Edges.{AreBetween, IsSimple, Joins, rows_of};
 ghost use Rattle.mk_model.specs.Rings.{IsRingBond};
+ghost use Rattle.mk_marks.specs.Marks.{IsMarked, Marks};
 ghost use Rattle.mk_rings.specs.Forests.{HangsBy, IsForest, node};
-ghost use Rattle.mk_rings.specs.Marks.{IsMarked, Marks, MarksWay};
+ghost use Rattle.mk_rings.specs.Walks.{MarksWay};
 
 use crate::forest::forest_of;
 use crate::node::Node;

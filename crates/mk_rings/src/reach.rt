@@ -2,8 +2,9 @@
 // stamp of the search, so that nothing has to be wiped between two searches.
 ghost use Rattle.std.specs.Prelude.{◌≡◌, ◌≤◌, ◌<◌, ◌+◌, ◌-◌, ◌⊎◌, length};
 ghost use Rattle.mk_model.specs.Edges.{AreBetween, rows_of};
+ghost use Rattle.mk_marks.specs.SixRings.{set_of};
 ghost use Rattle.mk_rings.specs.Reach.{Further, IsReached, KeepsStamps, LeadsToStamped};
-ghost use Rattle.mk_rings.specs.SixRings.{AllBelow, set_of};
+ghost use Rattle.mk_rings.specs.Rounds.{AllBelow};
 
 use crate::six_rings::takes;
 use crate::steps::{numbers_of, step_over};

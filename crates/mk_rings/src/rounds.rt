@@ -2,7 +2,7 @@
 ghost use Rattle.std.specs.Prelude.{◌≡◌, ◌≤◌, ◌<◌, ◌+◌, ◌^◌, ◌⊎◌, ℕ, Some, false, length, slice_get};
 ghost use Rattle.mk_model.specs.declared.edge.Edge.{Edge};
 ghost use Rattle.mk_model.specs.Edges.{AreBetween, rows_of};
-ghost use Rattle.mk_rings.specs.SixRings.{AllBelow, Grows, IsDone};
+ghost use Rattle.mk_rings.specs.Rounds.{AllBelow, Grows, IsDone};
 
 use crate::reach::reach;
 use crate::six_rings::closes_ring;

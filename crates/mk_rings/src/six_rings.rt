@@ -3,8 +3,8 @@ ghost use Rattle.std.specs.Prelude.{◌≡◌, ◌≢◌, ◌≤◌, ◌<◌, �
 ghost use Rattle.mk_model.specs.declared.edge.Edge.{Edge};
 ghost use Rattle.mk_model.specs.Edges.{AreBetween, Joins, rows_of};
 ghost use Rattle.mk_model.specs.Aromatic.{Takes};
+ghost use Rattle.mk_marks.specs.SixRings.{CanClose, ClosesBy, ClosesRing, NotAmong, set_of};
 ghost use Rattle.mk_rings.specs.Reach.{IsReached, MaySkip};
-ghost use Rattle.mk_rings.specs.SixRings.{CanClose, ClosesBy, ClosesRing, NotAmong, set_of};
 
 use crate::steps::{Step, numbers_of, step_over};
 use mk_model::{Edge, Neighbours};

@@ -3,7 +3,8 @@
 ghost use Rattle.std.specs.Prelude.{◌≡◌, ◌≤◌, ◌<◌, ◌+◌, ◌⊎◌, ℕ, IfSome, IsTrue, length, slice_index};
 ghost use Rattle.mk_model.specs.Aromatic.{Takes};
 ghost use Rattle.mk_model.specs.Edges.{AreBetween, Joins, rows_of};
-ghost use Rattle.mk_rings.specs.SixRings.{AllBelow, Follows, Spreads, set_of};
+ghost use Rattle.mk_marks.specs.SixRings.{set_of};
+ghost use Rattle.mk_rings.specs.Rounds.{AllBelow, Follows, Spreads};
 
 use crate::ring_search::{Spot, ring_along, spot_all};
 use crate::six_rings::takes;

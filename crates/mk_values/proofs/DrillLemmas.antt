@@ -11,7 +11,7 @@ use Rattle.mk_model.specs.Keys.{IsKey, Remains}
 use Rattle.mk_model.specs.Molecules.{Molecule}
 use Rattle.mk_model.specs.Queries.{QueryView}
 use Rattle.mk_model.specs.QueryFits.{QueryFits}
-use Rattle.mk_rings.proofs.ForCallers.{one_list_of_mol_bonds}
+use Rattle.mk_marks.proofs.ForCallers.{one_list_of_mol_bonds}
 use Rattle.mk_ctab.specs.declared.raw.RawTable.{RawTable}
 use Rattle.mk_ctab.specs.KeptTables.{KeepsItsText}
 use Rattle.mk_sdfile.specs.declared.raw_record.RawRecord.{RawRecord}

@@ -24,7 +24,7 @@ use Rattle.mk_query.proofs.KnownLemmas.{Known, known_bytes}
 use Rattle.mk_mol.specs.Filled.{IsFilled}
 use Rattle.mk_mol.specs.FirstFault.{MeetsAllChecks}
 use Rattle.mk_mol.proofs.ForCallers.{no_fault, one_filled}
-use Rattle.mk_rings.proofs.ForCallers.{one_list_of_mol_bonds}
+use Rattle.mk_marks.proofs.ForCallers.{one_list_of_mol_bonds}
 use Rattle.mk_values.proofs.TableMoleculeLemmas.{fault_or_molecule}
 
 -- ---- SDfiles

@@ -23,7 +23,7 @@ use Rattle.mk_model.specs.declared.molecule.Atom.{Atom}
 use Rattle.mk_model.specs.declared.molecule.MolBond.{MolBond}
 use Rattle.mk_model.specs.Edges.{IsBetween, IsSimple, degree}
 use Rattle.mk_model.specs.Molecules.{HasMarks, IsElement, IsMolecule, Molecule, edges}
-use Rattle.mk_rings.proofs.ForCallers.{mol_bonds_have_marks}
+use Rattle.mk_marks.proofs.ForCallers.{mol_bonds_have_marks}
 use Rattle.mk_valence.specs.Hydrogens.{added_hydrogens, bond_orders_sum, marked_valence, radical_share, up_to_valence}
 use Rattle.mk_ctab.specs.declared.raw.RawAtom.{RawAtom}
 use Rattle.mk_ctab.specs.declared.raw.RawBond.{RawBond}

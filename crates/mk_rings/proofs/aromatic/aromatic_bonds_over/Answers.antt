@@ -4,7 +4,7 @@ use Rattle.mk_model.specs.declared.edge.Edge.{Edge}
 use Rattle.mk_model.specs.Edges.{AreBetween, rows_of}
 use Rattle.mk_model.proofs.ForCallers.{length-rows_of}
 use Rattle.mk_model.specs.Aromatic.{IsAromatic}
-use Rattle.mk_rings.specs.Marks.{Marks}
+use Rattle.mk_marks.specs.Marks.{Marks}
 use Rattle.mk_rings.specs.Bridges.{AreWithoutBridges}
 use Rattle.mk_rings.proofs.BridgeLemmas.{IsAromatic-rings, between_rings, rows_rings}
 use Rattle.mk_rings.proofs.aromatic.aromatic_bonds_over.Goals as goal

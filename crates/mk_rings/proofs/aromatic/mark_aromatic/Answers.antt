@@ -1,5 +1,6 @@
 use Rattle.std.proofs.Common.{◌∙◌, ◌<◌, length, arith}
-use Rattle.mk_rings.proofs.RoundLemmas.{Marks-done, kind_within, marked_within}
+use Rattle.mk_marks.proofs.ClosedLemmas.{Marks-done, kind_within}
+use Rattle.mk_rings.proofs.RoundLemmas.{marked_within}
 use Rattle.mk_rings.proofs.aromatic.mark_aromatic.Goals as goal
 
 pub loop-marks-init : goal.loop-marks-init

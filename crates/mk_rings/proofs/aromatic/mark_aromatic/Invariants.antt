@@ -1,8 +1,9 @@
 use Rattle.std.proofs.Common.{ℕ, Bool, length}
 use Rattle.mk_model.specs.Edges.{HasKind}
 use Rattle.mk_model.specs.Aromatic.{IsClosed}
-use Rattle.mk_rings.specs.Marks.{IsMarked}
-use Rattle.mk_rings.specs.SixRings.{AllBelow, LieIn, unmarked}
+use Rattle.mk_marks.specs.Marks.{IsMarked}
+use Rattle.mk_marks.specs.SixRings.{LieIn, unmarked}
+use Rattle.mk_rings.specs.Rounds.{AllBelow}
 use Rattle.mk_rings.proofs.aromatic.mark_aromatic.Given as goal
 
 abbrev pub invariant-loop-marks : goal.invariant-loop-marks

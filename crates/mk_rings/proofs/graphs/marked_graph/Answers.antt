@@ -4,8 +4,8 @@ use Rattle.mk_model.specs.Aromatic.{IsAromatic}
 use Rattle.mk_model.specs.Edges.{rows_of}
 use Rattle.mk_model.specs.Graphs.{graph_edges}
 use Rattle.mk_model.specs.Rings.{IsRingBond}
-use Rattle.mk_rings.specs.Marks.{Marks}
-use Rattle.mk_rings.proofs.BareLemmas.{same_edges}
+use Rattle.mk_marks.specs.Marks.{Marks}
+use Rattle.mk_marks.proofs.BareLemmas.{same_edges}
 use Rattle.mk_rings.proofs.GraphLemmas.{marked_drawing}
 use Rattle.mk_rings.proofs.graphs.marked_graph.Goals as goal
 

@@ -1,7 +1,7 @@
 use Rattle.std.proofs.Common.{sym, ◌∙◌, arith}
 use Rattle.std.proofs.lemmas.Bool.{true≢false}
+use Rattle.mk_marks.proofs.JoinLemmas.{joins_ends}
 use Rattle.mk_rings.proofs.RingLemmas.{IsMarkedUpTo-inside, IsMarkedUpTo-outside, IsOutside-ends, Marks-all}
-use Rattle.mk_rings.proofs.WalkLemmas.{joins_ends}
 use Rattle.mk_rings.proofs.marking.mark_rings.Goals as goal
 
 pub loop-b-preserved-then-hangs_by : goal.loop-b-preserved-then-hangs_by

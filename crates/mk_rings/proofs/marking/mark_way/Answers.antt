@@ -1,6 +1,7 @@
 use Rattle.std.proofs.Common.{◌<◌, ℕ, refl, length, arith}
 use Rattle.mk_rings.specs.Forests.{HangsBy}
-use Rattle.mk_rings.proofs.WalkLemmas.{IsWalked-none, IsWalked-more, IsWalked-all, MarksWay-ends, joins_ends, hangs_within, deep_hangs, end_reached}
+use Rattle.mk_marks.proofs.JoinLemmas.{joins_ends}
+use Rattle.mk_rings.proofs.WalkLemmas.{IsWalked-none, IsWalked-more, IsWalked-all, MarksWay-ends, hangs_within, deep_hangs, end_reached}
 use Rattle.mk_rings.proofs.marking.mark_way.Goals as goal
 
 pub loop-a-init : goal.loop-a-init

@@ -1,8 +1,8 @@
 use Rattle.std.proofs.Common.{◌≡◌, ◌-◌, ◌∙◌, ℕ, arith, length, subst, sym, ⊎_elim}
 use Rattle.std.proofs.lemmas.Bool.{true≢false}
 use Rattle.std.specs.Prelude.{◌⊎◌}
+use Rattle.mk_marks.specs.SixRings.{set_of}
 use Rattle.mk_rings.specs.Reach.{Further, LeadsToStamped}
-use Rattle.mk_rings.specs.SixRings.{set_of}
 use Rattle.mk_rings.proofs.GrowLemmas.{end_within}
 use Rattle.mk_rings.proofs.ReachLemmas.{EachTo-all, EachTo-more, EachTo-none, EachTo-skip, Further-none}
 use Rattle.mk_rings.proofs.reach.reach.Goals as goal

@@ -1,6 +1,7 @@
 use Rattle.std.proofs.Common.{◌+◌, ◌-◌}
+use Rattle.mk_marks.specs.SixRings.{set_of}
 use Rattle.mk_rings.specs.Reach.{Further, LeadsToStamped}
-use Rattle.mk_rings.specs.SixRings.{AllBelow, set_of}
+use Rattle.mk_rings.specs.Rounds.{AllBelow}
 use Rattle.mk_rings.proofs.ReachLemmas.{EachTo}
 use Rattle.mk_rings.proofs.reach.reach.Given as goal
 

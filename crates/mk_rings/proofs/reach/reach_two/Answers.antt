@@ -1,6 +1,6 @@
 use Rattle.std.proofs.Common.{◌≡◌, ◌<◌, ◌-◌, ◌∙◌, arith, get_or, length, set, sym}
 use Rattle.std.proofs.lemmas.Bool.{true≢false}
-use Rattle.mk_rings.specs.SixRings.{set_of}
+use Rattle.mk_marks.specs.SixRings.{set_of}
 use Rattle.mk_rings.proofs.GrowLemmas.{end_within}
 use Rattle.mk_rings.proofs.ReachLemmas.{EachTo-all, EachTo-more, EachTo-skip, Further-more, below-set, stamp-here, stamps-kept}
 use Rattle.mk_rings.proofs.reach.reach_two.Goals as goal

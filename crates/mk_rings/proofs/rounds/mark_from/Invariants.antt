@@ -1,4 +1,4 @@
-use Rattle.mk_rings.specs.SixRings.{Grows}
+use Rattle.mk_rings.specs.Rounds.{Grows}
 use Rattle.mk_rings.proofs.RoundLemmas.{AreDoneFrom}
 use Rattle.mk_rings.proofs.rounds.mark_from.Given as goal
 

@@ -1,5 +1,5 @@
 use Rattle.std.proofs.Common.{◌+◌, ◌*◌}
-use Rattle.mk_rings.specs.SixRings.{AllBelow, Grows}
+use Rattle.mk_rings.specs.Rounds.{AllBelow, Grows}
 use Rattle.mk_rings.proofs.RoundLemmas.{AreDone}
 use Rattle.mk_rings.proofs.rounds.mark_round.Given as goal
 

@@ -1,5 +1,5 @@
 use Rattle.std.proofs.Common.{◌-◌, ℕ, List, arith, refl, subst, sym}
-use Rattle.mk_rings.specs.SixRings.{CanClose, set_of}
+use Rattle.mk_marks.specs.SixRings.{CanClose, set_of}
 use Rattle.mk_rings.proofs.ReachLemmas.{MaySkip-less, stamped_out}
 use Rattle.mk_rings.proofs.SearchLemmas.{none_closes, on_from_new, path_longer, path_rest}
 use Rattle.mk_rings.proofs.six_rings.+search.Goals as goal

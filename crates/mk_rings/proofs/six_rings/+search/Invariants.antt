@@ -1,6 +1,6 @@
 use Rattle.std.proofs.Common.{◌<◌, ◌+◌, ◌-◌, ◌*◌, ℕ, drop, get_or}
+use Rattle.mk_marks.specs.SixRings.{ClosesBy, set_of}
 use Rattle.mk_rings.specs.Reach.{MaySkip}
-use Rattle.mk_rings.specs.SixRings.{ClosesBy, set_of}
 use Rattle.mk_rings.proofs.six_rings.+search.Given as goal
 
 abbrev pub decreases-can_close : goal.decreases-can_close

@@ -1,4 +1,4 @@
-use Rattle.mk_rings.specs.SixRings.{set_of}
+use Rattle.mk_marks.specs.SixRings.{set_of}
 use Rattle.mk_rings.proofs.RoundLemmas.{closes_none}
 use Rattle.mk_rings.proofs.six_rings.closes_ring.Goals as goal
 

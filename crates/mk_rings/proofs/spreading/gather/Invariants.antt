@@ -1,5 +1,5 @@
 use Rattle.std.proofs.Common.{◌≤◌, length}
-use Rattle.mk_rings.specs.SixRings.{AllBelow}
+use Rattle.mk_rings.specs.Rounds.{AllBelow}
 use Rattle.mk_rings.proofs.spreading.gather.Given as goal
 
 abbrev pub invariant-loop-b : goal.invariant-loop-b

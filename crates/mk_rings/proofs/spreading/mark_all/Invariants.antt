@@ -1,5 +1,5 @@
 use Rattle.std.proofs.Common.{◌≤◌, length}
-use Rattle.mk_rings.specs.SixRings.{AllBelow, Spreads}
+use Rattle.mk_rings.specs.Rounds.{AllBelow, Spreads}
 use Rattle.mk_rings.proofs.spreading.mark_all.Given as goal
 
 abbrev pub invariant-loop-i : goal.invariant-loop-i

@@ -1,9 +1,9 @@
 use Rattle.std.proofs.Common.{◌+◌, ◌%◌, ℕ, [], ◌∷◌, List, get_or}
 use Rattle.mk_model.specs.Aromatic.{Takes}
 use Rattle.mk_model.specs.Edges.{Joins}
-use Rattle.mk_rings.specs.SixRings.{set_of}
+use Rattle.mk_marks.specs.SixRings.{set_of}
+use Rattle.mk_marks.proofs.SixLemmas.{below_six, label}
 use Rattle.mk_rings.proofs.RoundLemmas.{Follows-round}
-use Rattle.mk_rings.proofs.SixLemmas.{below_six, label}
 use Rattle.mk_rings.proofs.spreading.mark_ring.Goals as goal
 
 pub mark_all-requires-clause-follow : goal.mark_all-requires-clause-follow

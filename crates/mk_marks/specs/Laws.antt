@@ -18,8 +18,8 @@ use Rattle.mk_model.specs.Edges.{IsSimple}
 use Rattle.mk_model.specs.Graphs.{HasGraphMarks, graph_edges}
 use Rattle.mk_model.specs.Molecules.{HasMarks, edges}
 use Rattle.mk_model.specs.Rings.{IsRingBond}
-use Rattle.mk_rings.specs.Bare.{bare_bonds}
-use Rattle.mk_rings.specs.Marks.{Marks}
+use Rattle.mk_marks.specs.Bare.{bare_bonds}
+use Rattle.mk_marks.specs.Marks.{Marks}
 
 -- ---- edges
 

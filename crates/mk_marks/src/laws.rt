@@ -1,6 +1,6 @@
 // Laws over the definitions alone, each carried by a function that does nothing.
-ghost use Rattle.mk_rings.specs.Laws.{EdgesHaveMarks, GraphBondsHaveMarks, MolBondsHaveMarks, OneListOfMarks};
-ghost use Rattle.mk_rings.specs.Laws.{OneListOfGraphBonds, OneListOfMolBonds};
+ghost use Rattle.mk_marks.specs.Laws.{EdgesHaveMarks, GraphBondsHaveMarks, MolBondsHaveMarks, OneListOfMarks};
+ghost use Rattle.mk_marks.specs.Laws.{OneListOfGraphBonds, OneListOfMolBonds};
 
 /// Every simple list of edges has marks by the definitions, and one list of marks alone; so it is
 /// that of marked bonds of a molecule, and bonds of a graph can be marked.

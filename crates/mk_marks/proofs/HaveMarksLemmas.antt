@@ -18,16 +18,16 @@ use Rattle.mk_model.specs.Molecules.{HasMarks, edge_of, edges}
 use Rattle.mk_model.specs.Rings.{IsRingBond, IsWay, Step}
 use Rattle.mk_model.specs.Aromatic.{IsAromatic}
 use Rattle.mk_model.proofs.ForCallers.{place_within}
-use Rattle.mk_rings.specs.Bare.{bare_bond, bare_bonds}
-use Rattle.mk_rings.specs.Laws.{EdgesHaveMarks, GraphBondsHaveMarks, MolBondsHaveMarks, OneListOfMarks}
-use Rattle.mk_rings.specs.Marks.{IsMarked, Marks}
-use Rattle.mk_rings.specs.SixRings.{ClosesRing, set_of, unmarked}
-use Rattle.mk_rings.proofs.BareLemmas.{same_edges, same_length}
-use Rattle.mk_rings.proofs.DecisionLemmas.{Closure, Decided, closed_from, decided_as, decided_both, decided_closes, decided_either, decided_joins, decided_kind, decided_some, end_within, marks_by}
-use Rattle.mk_rings.proofs.LawLemmas.{same_test}
-use Rattle.mk_rings.proofs.RoundLemmas.{Marks-done, closed_ring, kind_within}
-use Rattle.mk_rings.proofs.WalkLemmas.{get_or-from_get, joins_ends, joins_within}
-use Rattle.mk_rings.proofs.WayLemmas.{IsRingBond-linked, Linked, joins_back, linked_by, linked_here, linked_on}
+use Rattle.mk_marks.specs.Bare.{bare_bond, bare_bonds}
+use Rattle.mk_marks.specs.Laws.{EdgesHaveMarks, GraphBondsHaveMarks, MolBondsHaveMarks, OneListOfMarks}
+use Rattle.mk_marks.specs.Marks.{IsMarked, Marks}
+use Rattle.mk_marks.specs.SixRings.{ClosesRing, set_of, unmarked}
+use Rattle.mk_marks.proofs.BareLemmas.{same_edges, same_length}
+use Rattle.mk_marks.proofs.DecisionLemmas.{Closure, Decided, closed_from, decided_as, decided_both, decided_closes, decided_either, decided_joins, decided_kind, decided_some, end_within, marks_by}
+use Rattle.mk_marks.proofs.LawLemmas.{same_test}
+use Rattle.mk_marks.proofs.ClosedLemmas.{Marks-done, closed_ring, kind_within}
+use Rattle.mk_marks.proofs.JoinLemmas.{get_or-from_get, joins_ends, joins_within}
+use Rattle.mk_marks.proofs.WayLemmas.{IsRingBond-linked, Linked, joins_back, linked_by, linked_here, linked_on}
 
 -- ---- no marks
 

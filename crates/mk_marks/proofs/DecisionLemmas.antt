@@ -12,10 +12,10 @@ use Rattle.std.proofs.lemmas.Bool.{cases_eq, true≢false}
 use Rattle.mk_model.specs.declared.edge.Edge.{Edge}
 use Rattle.mk_model.specs.Edges.{AreBetween, HasEnds, HasKind, Joins}
 use Rattle.mk_model.specs.Aromatic.{Takes}
-use Rattle.mk_rings.specs.Marks.{IsMarked}
-use Rattle.mk_rings.specs.SixRings.{CanClose, ClosesBy, ClosesRing, NotAmong, unmarked}
-use Rattle.mk_rings.proofs.RoundLemmas.{unmarked-set}
-use Rattle.mk_rings.proofs.WalkLemmas.{get_or-from_get, joins_within}
+use Rattle.mk_marks.specs.Marks.{IsMarked}
+use Rattle.mk_marks.specs.SixRings.{CanClose, ClosesBy, ClosesRing, NotAmong, unmarked}
+use Rattle.mk_marks.proofs.ClosedLemmas.{unmarked-set}
+use Rattle.mk_marks.proofs.JoinLemmas.{get_or-from_get, joins_within}
 
 -- the fact holds, or it doesn't
 abbrev pub Decided : Type 0 → Type 0

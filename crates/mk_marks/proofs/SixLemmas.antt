@@ -9,8 +9,8 @@ use Rattle.std.proofs.lemmas.Bool.{cases_order}
 use Rattle.mk_model.specs.declared.edge.Edge.{Edge}
 use Rattle.mk_model.specs.Edges.{Joins}
 use Rattle.mk_model.specs.Aromatic.{IsSixCycle, Takes, TakesLabels, IsClosed}
-use Rattle.mk_rings.specs.SixRings.{CanClose, NotAmong}
-use Rattle.mk_rings.proofs.WayLemmas.{joins_back}
+use Rattle.mk_marks.specs.SixRings.{CanClose, NotAmong}
+use Rattle.mk_marks.proofs.WayLemmas.{joins_back}
 
 -- a fact of each of six numbers
 pub below_six : (P : ℕ → Type 0) → P 0 → P 1 → P 2 → P 3 → P 4 → P 5 → (i : ℕ) → i < 6 → P i

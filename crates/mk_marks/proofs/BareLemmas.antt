@@ -5,7 +5,7 @@ use Rattle.std.proofs.lemmas.List.{length-map, get_or-map}
 use Rattle.mk_model.specs.declared.edge.Edge.{Edge}
 use Rattle.mk_model.specs.declared.graph.GraphBond.{GraphBond}
 use Rattle.mk_model.specs.Graphs.{graph_edge, graph_edges}
-use Rattle.mk_rings.specs.Bare.{bare_bond, bare_bonds}
+use Rattle.mk_marks.specs.Bare.{bare_bond, bare_bonds}
 
 -- how many there are
 pub same_length : (old new : List GraphBond) → bare_bonds new ≡ bare_bonds old → length new ≡ length old

@@ -3,7 +3,7 @@
 --     marked_sketch                         a sketch is one whatever its marks are
 --     one_list_of_mol_bonds, one_list_of_graph_bonds      with the marks of a molecule, or of a graph, there is one such list
 --     mol_bonds_have_marks, graph_bonds_have_marks        and there is one
-pub use Rattle.mk_rings.proofs.BareLemmas.{same_length, same_at, same_edges}
-pub use Rattle.mk_rings.proofs.GraphLemmas.{marked_sketch}
-pub use Rattle.mk_rings.proofs.LawLemmas.{one_list_of_graph_bonds, one_list_of_mol_bonds}
-pub use Rattle.mk_rings.proofs.HaveMarksLemmas.{graph_bonds_have_marks, mol_bonds_have_marks}
+pub use Rattle.mk_marks.proofs.BareLemmas.{same_length, same_at, same_edges}
+pub use Rattle.mk_marks.proofs.SketchLemmas.{marked_sketch}
+pub use Rattle.mk_marks.proofs.LawLemmas.{one_list_of_graph_bonds, one_list_of_mol_bonds}
+pub use Rattle.mk_marks.proofs.HaveMarksLemmas.{graph_bonds_have_marks, mol_bonds_have_marks}

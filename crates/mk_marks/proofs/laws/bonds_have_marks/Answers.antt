@@ -1,5 +1,5 @@
-use Rattle.mk_rings.proofs.HaveMarksLemmas.{edges_have_marks, graph_bonds_have_marks, mol_bonds_have_marks, one_list_of_marks}
-use Rattle.mk_rings.proofs.laws.bonds_have_marks.Goals as goal
+use Rattle.mk_marks.proofs.HaveMarksLemmas.{edges_have_marks, graph_bonds_have_marks, mol_bonds_have_marks, one_list_of_marks}
+use Rattle.mk_marks.proofs.laws.bonds_have_marks.Goals as goal
 
 pub returns-clause-edges : goal.returns-clause-edges
 returns-clause-edges c = edges_have_marks

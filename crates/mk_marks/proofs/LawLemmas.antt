@@ -8,9 +8,9 @@ use Rattle.mk_model.specs.declared.graph.GraphBond.{GraphBond}
 use Rattle.mk_model.specs.Graphs.{HasGraphMarks, graph_edges}
 use Rattle.mk_model.specs.Molecules.{HasMarks, edge_of, edges}
 use Rattle.mk_model.proofs.ForCallers.{at_place}
-use Rattle.mk_rings.specs.Bare.{bare_bond}
-use Rattle.mk_rings.specs.Laws.{OneListOfGraphBonds, OneListOfMolBonds}
-use Rattle.mk_rings.proofs.BareLemmas.{same_at, same_edges, same_length}
+use Rattle.mk_marks.specs.Bare.{bare_bond}
+use Rattle.mk_marks.specs.Laws.{OneListOfGraphBonds, OneListOfMolBonds}
+use Rattle.mk_marks.proofs.BareLemmas.{same_at, same_edges, same_length}
 
 -- tests that are true for one reason are one
 pub same_test : (p q : Bool) (P : Type 0) → IsTrue p ↔ P → IsTrue q ↔ P → p ≡ q

@@ -1,0 +1,10 @@
+pub mod BareLemmas
+pub mod SketchLemmas
+pub mod LawLemmas
+pub mod WayLemmas
+pub mod JoinLemmas
+pub mod SixLemmas
+pub mod ClosedLemmas
+pub mod DecisionLemmas
+pub mod HaveMarksLemmas
+pub mod ForCallers

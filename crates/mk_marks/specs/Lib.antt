@@ -1,0 +1,4 @@
+pub mod Marks
+pub mod SixRings
+pub mod Bare
+pub mod Laws
