@@ -10,7 +10,7 @@ use Rattle.mk_model.specs.Pieces.Piece.{Copies, Member, Hydrogens, Nothing}
 use Rattle.mk_model.specs.Templates.{TemplateView}
 use Rattle.mk_model.specs.Pieces.{piece, room, width}
 use Rattle.mk_model.specs.Expansions.{free_ends, copies, atoms_of, atoms_of_piece, anything}
-use Rattle.mk_expand.specs.Laid.{AreFrees, piece_atoms, with_frees}
+use Rattle.mk_expand.specs.Frees.{AreFrees, piece_atoms, with_frees}
 use Rattle.mk_pieces.proofs.ForCallers.{atoms_more, mapped_more, room_more, room_within}
 
 pub with_none : (frees : List ℕ) (test : AtomTest) (x : ℕ) → with_frees frees test x 0 ≡ []

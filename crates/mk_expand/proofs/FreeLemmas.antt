@@ -12,7 +12,7 @@ use Rattle.mk_model.specs.declared.template.Slot.TheVariants.{Link, Site}
 use Rattle.mk_model.specs.Templates.{TemplateView}
 use Rattle.mk_model.specs.Pieces.{room}
 use Rattle.mk_model.specs.Expansions.{ends_there, frees_of, free_ends}
-use Rattle.mk_expand.specs.Laid.{AreFrees}
+use Rattle.mk_expand.specs.Frees.{AreFrees}
 use Rattle.mk_pieces.specs.Rooms.{HaveRoom}
 
 -- of the free ends those of the first k slots stand in the list, and those of the others are to come

@@ -1,9 +1,5 @@
-pub mod LaidLemmas
-pub mod BondLemmas
 pub mod FreeLemmas
 pub mod AtomLemmas
-pub mod LabelLemmas
-pub mod BlockLemmas
 pub mod ChosenLemmas
 pub mod SlotLemmas
 pub mod ForCallers

@@ -1,4 +1,2 @@
-pub mod Shapes
-pub mod Laid
-pub mod Blocks
+pub mod Frees
 pub mod Choosing

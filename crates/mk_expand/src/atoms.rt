@@ -1,14 +1,14 @@
 // The atoms of an expansion.
-ghost use Rattle.std.specs.Prelude.{◌≡◌, ◌≤◌, ◌+◌, ◌++◌, All, IfOk, OnOk, length, map, replicate};
+ghost use Rattle.std.specs.Prelude.{◌≡◌, ◌≤◌, ◌+◌, ◌++◌, IfOk, OnOk, length, replicate};
 ghost use Rattle.mk_model.specs.Expansions.{atoms_of, hydrogen};
-ghost use Rattle.mk_model.specs.Pieces.{before, piece_numbered, width};
-ghost use Rattle.mk_model.specs.QueryFits.{IsAtomOf};
-ghost use Rattle.mk_expand.specs.Laid.{AreFrees, piece_atoms, with_frees};
+ghost use Rattle.mk_model.specs.Pieces.{piece_numbered, width};
+ghost use Rattle.mk_expand.specs.Frees.{AreFrees, piece_atoms, with_frees};
 
-use crate::part::Shape;
-use crate::piece::Piece;
-use crate::places::Layout;
-use mk_model::{AtomTest, GraphAtom, Kind, Memory};
+use mk_layout::atoms::hydrogen;
+use mk_layout::part::Shape;
+use mk_layout::piece::Piece;
+use mk_layout::places::Layout;
+use mk_model::{AtomTest, GraphAtom, Memory};
 use std::alloc::Global;
 
 /// What the atoms of the template become.
@@ -99,26 +99,4 @@ fn put_hydrogens(out: &mut Vec<GraphAtom>, count: u32) -> Result<(), Memory>
         out.push(hydrogen())?;
     }
     Ok(())
-}
-
-/// A hydrogen, with every other test off.
-pub fn hydrogen() -> GraphAtom
-    ensures { result ≡ hydrogen }
-{
-    GraphAtom {
-        test: AtomTest::of_kind(Kind::Element(1)),
-        free: 0,
-    }
-}
-
-/// The atoms with attachment point 1 and 2.
-pub fn expanded_points(alloc: Global, layout: &Layout) -> Result<Vec<u32>, Memory>
-    requires { All (IsAtomOf layout.now.template) layout.now.template.points }
-    ensures { IfOk result (λ points. points.items ≡ map (λ x. before layout.now.template layout.now.pieces x + 1) layout.now.template.points) }
-{
-    let mut points = Vec::with_capacity(alloc, 2)?;
-    for x in layout.template().points() {
-        points.push(layout.before(*x) + 1)?;
-    }
-    Ok(points)
 }

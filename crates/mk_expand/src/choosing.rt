@@ -1,15 +1,16 @@
 // What a code chooses.
 ghost use Rattle.std.specs.Prelude.{◌≡◌, ◌≤◌, ◌∷◌, [], IfOk, length, drop};
-ghost use Rattle.mk_model.specs.Labels.{asks_rest_hydrogens, draws_rest_hydrogens};
 ghost use Rattle.mk_model.specs.Queries.{slots_of};
 ghost use Rattle.mk_model.specs.QueryFits.{QueryFits};
-ghost use Rattle.mk_expand.specs.Choosing.{AreChosen, MayBeFilledSmall, left_open_by};
 ghost use Rattle.mk_pieces.specs.Begun.{Begins, IsExpanded};
 ghost use Rattle.mk_pieces.specs.Rooms.{IsSmallTemplate};
+ghost use Rattle.mk_layout.specs.Sites.{MayBeFilledSmall};
+ghost use Rattle.mk_expand.specs.Choosing.{AreChosen};
 
 use crate::joining::joined;
-use crate::part::{Part, Shape};
-use crate::piece::Piece;
+use mk_layout::part::{Part, Shape};
+use mk_layout::piece::Piece;
+use mk_layout::sites::{draws_rest_hydrogens, left_open};
 use mk_model::{Memory, Query, Slot};
 use std::alloc::Global;
 
@@ -91,37 +92,5 @@ fn chosen_at(
             let rest = draws_rest_hydrogens(query, slot);
             Ok((left_open(rest, *second), at + 1))
         }
-    }
-}
-
-/// What an unfilled site becomes.
-pub fn left_open(rest: bool, second: u32) -> Piece
-    ensures { result ≡ left_open_by rest second }
-{
-    if !rest {
-        return Piece::of(Shape::Nothing);
-    }
-    Piece::of(Shape::Hydrogens(if second == 0 { 1 } else { 2 }))
-}
-
-/// Hydrogens stand in the place of an unfilled site where one of its labels says so.
-pub fn draws_rest_hydrogens(query: &Query, slot: &Slot) -> bool
-    ensures { result ≡ draws_rest_hydrogens query.now slot.now }
-{
-    for g in slot.labels() {
-        if asks_rest_hydrogens(query, *g) {
-            return true;
-        }
-    }
-    false
-}
-
-// Group g asks for hydrogens.
-fn asks_rest_hydrogens(query: &Query, g: u32) -> bool
-    ensures { result ≡ asks_rest_hydrogens query.now g }
-{
-    match query.groups().get((g as usize).saturating_sub(1)) {
-        Some(group) => group.rest_hydrogen,
-        None => false,
     }
 }

@@ -1,12 +1,12 @@
 // The free ends of an expansion's atoms.
 ghost use Rattle.std.specs.Prelude.{◌≡◌, ◌≤◌, ◌<◌, ◌+◌, ◌==◌, ℕ, All, IfOk, length, slice_index, if◌then◌else◌};
 ghost use Rattle.mk_model.specs.Expansions.{ends_there, frees_of};
-ghost use Rattle.mk_expand.specs.Laid.{AreFrees};
+ghost use Rattle.mk_expand.specs.Frees.{AreFrees};
 ghost use Rattle.mk_pieces.specs.Rooms.{HasNeighbours};
 
-use crate::part::Shape;
-use crate::piece::Piece;
-use crate::places::Layout;
+use mk_layout::part::Shape;
+use mk_layout::piece::Piece;
+use mk_layout::places::Layout;
 use mk_model::{Memory, Slot};
 use std::alloc::Global;
 

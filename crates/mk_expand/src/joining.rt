@@ -4,13 +4,14 @@ ghost use Rattle.mk_model.specs.Expansions.{joined};
 ghost use Rattle.mk_pieces.specs.Kept.{IsTemplate};
 ghost use Rattle.mk_pieces.specs.Rooms.{HaveRoom};
 
-use crate::atoms::{expanded_atoms, expanded_points};
-use crate::blocks::takers_of;
-use crate::bonds::{put_all_within, put_template_bonds};
+use crate::atoms::expanded_atoms;
 use crate::frees::frees_of;
-use crate::part::Part;
-use crate::piece::Piece;
-use crate::places::{Layout, befores_of};
+use mk_layout::atoms::expanded_points;
+use mk_layout::blocks::takers_of;
+use mk_layout::bonds::{put_all_within, put_template_bonds};
+use mk_layout::part::Part;
+use mk_layout::piece::Piece;
+use mk_layout::places::{Layout, befores_of};
 use mk_model::{Memory, Template};
 use std::alloc::Global;
 

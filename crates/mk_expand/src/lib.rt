@@ -5,24 +5,18 @@
 //! ends; its bonds, in order; and their marks, which are those of the graph itself. The rules are
 //! told in docs/MEANING.md, "Expansions".
 //!
-//! A code is read once from the left (`choosing`). What a template becomes is laid out in flat
-//! lists: for each atom the slot that takes it (`blocks`) and how many atoms stand before it
-//! (`places`). A `Layout` has both, and each list of the graph is written by it in one go (`atoms`,
-//! `bonds`, `frees`). Bonds are put in order and get their marks once, for the whole.
+//! A code is read once from the left (`choosing`). Where the atoms of a template stand says a
+//! `Layout` of mk_layout, and the atoms and their free ends are written by it in one go (`atoms`,
+//! `frees`), as mk_layout writes the bonds. Bonds are put in order and get their marks once, for
+//! the whole.
 //!
-//! Which codes are valid isn't known here, nor is any molecule. The modules of its parts serve mk_open
-//! too, which makes the graphs of open codes; no other crate uses them.
+//! Which codes are valid isn't known here, nor is any molecule.
 #![tactic(auto)]
 
-pub mod atoms;
-pub mod blocks;
-pub mod bonds;
-pub mod choosing;
+mod atoms;
+mod choosing;
 mod expanding;
 mod frees;
 mod joining;
-pub mod part;
-pub mod piece;
-pub mod places;
 
 pub use expanding::expand;

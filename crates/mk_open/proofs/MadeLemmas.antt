@@ -15,7 +15,7 @@ use Rattle.mk_model.specs.Graphs.{GraphView, IsBefore, IsGraph, IsUnmarked}
 use Rattle.mk_model.specs.Pieces.{Fragment}
 use Rattle.mk_model.specs.Queries.{QueryView, slots_of}
 use Rattle.mk_model.specs.QueryFits.{QueryFits}
-use Rattle.mk_rings.specs.Bare.{bare_bonds}
+use Rattle.mk_marks.specs.Bare.{bare_bonds}
 use Rattle.mk_pieces.specs.Fragments.{HasOrdered, IsFragment, IsLowerFirst, bare}
 use Rattle.mk_pieces.proofs.GraphLemmas.{fragment_sketch}
 use Rattle.mk_pieces.proofs.OrderLemmas.{ordered_of, pairs_once}

@@ -11,7 +11,7 @@ use Rattle.mk_model.specs.Expansions.{left_open}
 use Rattle.mk_model.specs.Labels.{member, members_at}
 use Rattle.mk_model.specs.Pieces.{Fragment}
 use Rattle.mk_model.specs.Queries.{QueryView, slots_of}
-use Rattle.mk_expand.proofs.SlotLemmas.{goes_on}
+use Rattle.mk_layout.proofs.SlotLemmas.{goes_on}
 use Rattle.mk_open.specs.OpenCodes.{OpenChoice, IsOpenChoice, open_spelling}
 use Rattle.mk_open.specs.OpenCodes.OpenChoice.{no_more, undecided, repeats, vacates, fills}
 use Rattle.mk_open.specs.OpenGraphs.{open_expansion, open_pieces}

@@ -11,7 +11,7 @@ use Rattle.mk_model.specs.Pieces.Piece.{Copies, Member, Hydrogens, Nothing}
 use Rattle.mk_model.specs.Templates.{TemplateView}
 use Rattle.mk_pieces.proofs.NumberLemmas.{flat_more}
 use Rattle.mk_pieces.proofs.SpanLemmas.{room_more, room_none, room_within}
-use Rattle.mk_expand.specs.Laid.{AreTakers}
+use Rattle.mk_layout.specs.Laid.{AreTakers}
 use Rattle.mk_open.specs.Opening.{AreLoose}
 use Rattle.mk_open.specs.OpenGraphs.{bare_atoms, bare_atoms_of, loose_ends, loosened}
 

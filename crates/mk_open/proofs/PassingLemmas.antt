@@ -19,7 +19,7 @@ use Rattle.mk_model.specs.Queries.{QueryView, slots_of}
 use Rattle.mk_model.specs.QueryFits.{AreRisingLabels, QueryFits}
 use Rattle.mk_model.proofs.ForCallers.{chooses_of, code_is_short}
 use Rattle.mk_pieces.proofs.ForCallers.{labels_known}
-use Rattle.mk_expand.proofs.SlotLemmas.{goes_on}
+use Rattle.mk_layout.proofs.SlotLemmas.{goes_on}
 use Rattle.mk_open.specs.Alone.{ArePlaces, IsPlaceOf}
 use Rattle.mk_open.specs.Fronts.{IsFrontCode, front_code}
 use Rattle.mk_open.specs.OpenCodes.{IsOpenChoice, IsOpenCode, OpenChoice, open_spelling}

@@ -4,8 +4,8 @@ ghost use Rattle.mk_pieces.specs.Rooms.{IsWithin};
 ghost use Rattle.mk_open.specs.OpenGraphs.{is_loose};
 ghost use Rattle.mk_open.specs.Opening.{AreLoose};
 
-use mk_expand::bonds::is_nothing;
-use mk_expand::places::Layout;
+use mk_layout::bonds::is_nothing;
+use mk_layout::places::Layout;
 use mk_model::{Memory, QueryBond};
 use std::alloc::Global;
 

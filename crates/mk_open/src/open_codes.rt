@@ -2,14 +2,14 @@
 ghost use Rattle.std.specs.Prelude.{◌≡◌, ◌≤◌, ◌<◌, ◌∷◌, [], IfOk, length, drop};
 ghost use Rattle.mk_model.specs.Queries.{slots_of};
 ghost use Rattle.mk_model.specs.QueryFits.{QueryFits};
-ghost use Rattle.mk_expand.specs.Choosing.{MayBeFilledSmall};
+ghost use Rattle.mk_layout.specs.Sites.{MayBeFilledSmall};
 ghost use Rattle.mk_pieces.specs.Rooms.{IsSmallTemplate};
 ghost use Rattle.mk_open.specs.Opening.{AreOpenChosen, IsOpened, OpenBegins};
 
 use crate::parts::opened;
-use mk_expand::choosing::{draws_rest_hydrogens, left_open};
-use mk_expand::part::{Part, Shape};
-use mk_expand::piece::Piece;
+use mk_layout::part::{Part, Shape};
+use mk_layout::piece::Piece;
+use mk_layout::sites::{draws_rest_hydrogens, left_open};
 use mk_model::{Memory, Query, Slot};
 use std::alloc::Global;
 

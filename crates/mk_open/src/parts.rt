@@ -2,19 +2,19 @@
 ghost use Rattle.std.specs.Prelude.{◌≡◌, ◌≤◌, ◌<◌, ◌+◌, ◌++◌, ◌∷◌, [], IfOk, OnOk, length, replicate, slice_index};
 ghost use Rattle.mk_model.specs.Expansions.{hydrogen};
 ghost use Rattle.mk_model.specs.Pieces.{piece_numbered, room};
-ghost use Rattle.mk_expand.specs.Laid.{AreTakers};
+ghost use Rattle.mk_layout.specs.Laid.{AreTakers};
 ghost use Rattle.mk_pieces.specs.Kept.{IsTemplate};
 ghost use Rattle.mk_pieces.specs.Rooms.{HaveRoom};
 ghost use Rattle.mk_open.specs.OpenGraphs.{bare_atoms, bare_atoms_of, loose_ends, loosened, opened};
 ghost use Rattle.mk_open.specs.Opening.{AreLoose};
 
 use crate::loose::loose_of;
-use mk_expand::atoms::{expanded_points, hydrogen};
-use mk_expand::blocks::takers_of;
-use mk_expand::bonds::{put_all_within, put_template_bonds};
-use mk_expand::part::{Part, Shape};
-use mk_expand::piece::Piece;
-use mk_expand::places::{Layout, befores_of};
+use mk_layout::atoms::{expanded_points, hydrogen};
+use mk_layout::blocks::takers_of;
+use mk_layout::bonds::{put_all_within, put_template_bonds};
+use mk_layout::part::{Part, Shape};
+use mk_layout::piece::Piece;
+use mk_layout::places::{Layout, befores_of};
 use mk_model::{AtomTest, GraphAtom, Memory, Template};
 use std::alloc::Global;
 

@@ -4,9 +4,10 @@ use Rattle.mk_model.specs.declared.template.Slot.TheVariants.{Link}
 use Rattle.mk_model.specs.Expansions.{expansion}
 use Rattle.mk_model.specs.Labels.{members_at}
 use Rattle.mk_model.specs.Queries.{slots_of}
+use Rattle.mk_layout.proofs.SlotLemmas.{member_small, slots_read, template_read, filled_small, is_within}
+use Rattle.mk_layout.proofs.LaidLemmas.{slot_at}
 use Rattle.mk_expand.proofs.ChosenLemmas.{left_none, left_begins, left_more, left_all}
-use Rattle.mk_expand.proofs.SlotLemmas.{there_is, link_chosen, open_chosen, member_begins, member_chosen, member_small, slots_read, template_read, filled_small, is_within}
-use Rattle.mk_expand.proofs.LaidLemmas.{slot_at}
+use Rattle.mk_expand.proofs.SlotLemmas.{there_is, link_chosen, open_chosen, member_begins, member_chosen}
 use Rattle.mk_pieces.proofs.ForCallers.{have_room, kept_template}
 use Rattle.mk_expand.proofs.choosing.+expansion.Goals as goal
 

@@ -1,6 +1,6 @@
 use Rattle.mk_model.specs.declared.template.Slot.TheVariants.{Link}
+use Rattle.mk_layout.proofs.LaidLemmas.{slot_at}
 use Rattle.mk_expand.proofs.FreeLemmas.{left_none, left_more, left_all}
-use Rattle.mk_expand.proofs.LaidLemmas.{slot_at}
 use Rattle.mk_expand.proofs.frees.frees_of.Goals as goal
 
 pub loop-k-init : goal.loop-k-init

@@ -5,8 +5,8 @@ use Rattle.mk_open.specs.OpenGraphs.{open_expansion}
 use Rattle.mk_model.specs.Labels.{members_at}
 use Rattle.mk_model.specs.Queries.{slots_of}
 use Rattle.mk_open.proofs.OpenChosenLemmas.{left_none, left_begins, left_more, left_all}
-use Rattle.mk_expand.proofs.SlotLemmas.{filled_small, is_within, member_small, slots_read, template_read}
-use Rattle.mk_expand.proofs.LaidLemmas.{slot_at}
+use Rattle.mk_layout.proofs.SlotLemmas.{filled_small, is_within, member_small, slots_read, template_read}
+use Rattle.mk_layout.proofs.LaidLemmas.{slot_at}
 use Rattle.mk_open.proofs.OpenSlotLemmas.{slot_there, link_chosen, undecided_chosen, vacant_chosen, member_begins, member_chosen}
 use Rattle.mk_open.proofs.CompletionLemmas.{open_room}
 use Rattle.mk_pieces.proofs.ForCallers.{kept_template}

@@ -1,6 +1,6 @@
 use Rattle.std.proofs.Common.{◌≡◌, ◌∙◌, ◌≤◌, ℕ, length, get_or, sym, ap, arith}
 use Rattle.mk_model.specs.Pieces.{piece_numbered, width}
-use Rattle.mk_expand.proofs.LaidLemmas.{numbered_is}
+use Rattle.mk_layout.proofs.LaidLemmas.{numbered_is}
 use Rattle.mk_open.proofs.OpenedLemmas.{fits_there}
 use Rattle.mk_open.proofs.parts.put_atoms.Goals as goal
 

@@ -1,6 +1,6 @@
 use Rattle.std.proofs.Common.{rules, ◌<◌, ◌≤◌, length, arith}
 use Rattle.mk_model.specs.Queries.{slots_of}
-use Rattle.mk_expand.proofs.LaidLemmas.{slot_at}
+use Rattle.mk_layout.proofs.LaidLemmas.{slot_at}
 use Rattle.mk_open.proofs.ForCallers.{root_there}
 use Rattle.mk_open.proofs.PassingLemmas.{labels_at, place_few, places_all, places_more, places_none}
 use Rattle.mk_open.proofs.places.root_places.Goals as goal

@@ -1,8 +1,8 @@
 use Rattle.std.proofs.Common.{rules, ◌≡◌, ◌+◌, ◌≤◌, ◌<◌, ◌∙◌, inl, inr, length, get_or, arith}
 use Rattle.mk_model.specs.Labels.{members_at}
 use Rattle.mk_model.specs.Queries.{slots_of}
-use Rattle.mk_expand.proofs.LaidLemmas.{slot_at}
-use Rattle.mk_expand.proofs.SlotLemmas.{slots_read}
+use Rattle.mk_layout.proofs.LaidLemmas.{slot_at}
+use Rattle.mk_layout.proofs.SlotLemmas.{slots_read}
 use Rattle.mk_open.proofs.PassingLemmas.{labels_at, passes_all, passes_member, passes_more, passes_none, passes_one}
 use Rattle.mk_open.proofs.slots.+passing.Goals as goal
 

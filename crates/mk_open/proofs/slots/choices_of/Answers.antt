@@ -1,6 +1,6 @@
 use Rattle.std.proofs.Common.{◌<◌, length}
 use Rattle.mk_model.specs.Queries.{slots_of}
-use Rattle.mk_expand.proofs.LaidLemmas.{slot_at}
+use Rattle.mk_layout.proofs.LaidLemmas.{slot_at}
 use Rattle.mk_open.proofs.ForCallers.{root_there}
 use Rattle.mk_open.proofs.PassingLemmas.{labels_at}
 use Rattle.mk_open.proofs.slots.choices_of.Goals as goal

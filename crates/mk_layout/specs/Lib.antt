@@ -1,0 +1,4 @@
+pub mod Shapes
+pub mod Laid
+pub mod Blocks
+pub mod Sites
