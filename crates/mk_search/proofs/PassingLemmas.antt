@@ -23,8 +23,8 @@ use Rattle.mk_model.proofs.ForCallers.{below_more, below_next, code_of_valid, fe
 use Rattle.mk_choice.specs.Codes.{CodesLeft, IsMadeFrom, IsNext}
 use Rattle.mk_pieces.specs.Rooms.{IsSmall, IsSmallTemplate}
 use Rattle.mk_pieces.proofs.ForCallers.{have_room, root_small}
-use Rattle.mk_expand.specs.Choosing.{MayBeFilledSmall}
-use Rattle.mk_expand.proofs.SlotLemmas.{filled_small, member_small}
+use Rattle.mk_layout.specs.Sites.{MayBeFilledSmall}
+use Rattle.mk_layout.proofs.SlotLemmas.{filled_small, member_small}
 use Rattle.mk_fronts.specs.Fronts.{BeginsWithNone}
 use Rattle.mk_search.specs.declared.occurrences.Open.{Open}
 use Rattle.mk_search.specs.Occurrences.{HitsBehind, IsCodeFrom, IsOpenedAt, Leaves, LeavesBy, is_open}

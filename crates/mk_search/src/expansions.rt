@@ -18,7 +18,7 @@ use std::collections::VecDeque;
 const MOST_KEPT: usize = 64;
 
 /// The graph of a code, what it asks for, and what it needs of a screen.
-#[derive(Debug, Drop)]
+#[derive(Drop)]
 pub struct Expansion {
     pub code: Vec<u32>,
     pub graph: Graph,
@@ -45,15 +45,23 @@ pub fn expansion_by(
     if let Some(expansion) = taken(code, kept) {
         return Ok(expansion);
     }
+    let own = Vec::from_slice(alloc, code)?;
     let graph = expand(alloc, query, code)?;
-    let asked = counts_asked(alloc, &graph)?;
-    let need = need_of(&graph);
-    Ok(Expansion {
-        code: Vec::from_slice(alloc, code)?,
-        graph,
-        asked,
-        need,
-    })
+    match counts_asked(alloc, &graph) {
+        Ok(asked) => {
+            let need = need_of(&graph);
+            Ok(Expansion {
+                code: own,
+                graph,
+                asked,
+                need,
+            })
+        }
+        Err(memory) => {
+            drop(graph);
+            Err(memory)
+        }
+    }
 }
 
 // Takes the first of those that are kept, where it is that of the code.

@@ -4,19 +4,15 @@ ghost use Rattle.mk_search.specs.Occurrences.{reached};
 ghost use Rattle.mk_search.specs.Turns.{IsHigher};
 
 use crate::finding::{following, next_key, next_turn};
-use crate::needs::need_of_all;
 use crate::occurrences::Occurrences;
-use crate::passing::{fronts_of, need_by};
 use crate::stages::{Came, Stage};
 use crate::starts::{first_number, is_below};
-use mk_choice::Codes;
 use mk_index::Shelf;
 use mk_model::{Key, Memory, Place, Query, Screen, Steps, Turn};
 use std::alloc::Global;
-use std::collections::VecDeque;
 use std::marker::Model;
-use std::mem;
 use std::sync::ledger::Ledger;
+use std::{fmt, mem};
 
 // How many numbers a place has at most where all places before it have no more.
 const MOST_NUMBERS: usize = 514;
@@ -24,7 +20,7 @@ const MOST_NUMBERS: usize = 514;
 /// The keys of a query on a shelf from a place on. It holds what is left of the record that is open,
 /// what all codes of the query need, the place, and where it stands. The next place is written
 /// beside the place, into room that stays.
-#[derive(Debug, Drop)]
+#[derive(Drop)]
 pub struct Hits<'a> {
     all: Occurrences<'a>,
     need: Option<Screen>,
@@ -32,6 +28,15 @@ pub struct Hits<'a> {
     beside: Vec<u32>,
     stage: Stage<'a>,
     shelf: &'a Shelf,
+}
+
+impl fmt::Debug for Hits<'_> {
+    // It shows the place alone.
+    fn fmt<W: fmt::Write>(&self, f: &mut fmt::Formatter<W>) -> fmt::Result {
+        f.debug_struct("Hits")
+            .field("place", &self.place)
+            .finish_non_exhaustive()
+    }
 }
 
 impl<'a> Model for Hits<'a> {
@@ -61,21 +66,9 @@ impl<'a> Hits<'a> {
         let from = first_number(place);
         let own = with_room(alloc, place)?;
         let beside = with_room(alloc, &[])?;
-        let mut codes = Codes::from_place(alloc, query, &[])?;
-        let mut kept = VecDeque::new(alloc);
-        let (common, several) = need_of_all(alloc, query, &mut codes, &mut kept)?;
-        let fronts = fronts_of(alloc, query, several)?;
-        let need = need_by(query, common, &fronts);
+        let (all, need) = Occurrences::of(alloc, query)?;
         Ok(Hits {
-            all: Occurrences {
-                codes,
-                open: None,
-                fronts,
-                kept,
-                numbers: Vec::new(alloc),
-                query,
-                owed: 0,
-            },
+            all,
             need,
             place: own,
             beside,

@@ -3,10 +3,13 @@ ghost use Rattle.std.specs.Prelude.{◌≡◌, [], All, IfOk, IfSome};
 ghost use Rattle.mk_model.specs.Screens.{Covers};
 ghost use Rattle.mk_screen.specs.Covering.{CoversBits, CoversCounts};
 ghost use Rattle.mk_search.specs.Kept.{IsKept};
+ghost use Rattle.mk_search.specs.Passing.{FrontsOf};
 ghost use Rattle.mk_open.specs.Fronts.{IsNeedOfAll};
 
 use crate::expansions::{Expansion, expansion_by, keep};
+use crate::passing::{fronts_of, need_by};
 use mk_choice::Codes;
+use mk_fronts::Fronts;
 use mk_model::{Memory, Query, Screen};
 use std::alloc::Global;
 use std::collections::VecDeque;
@@ -14,9 +17,30 @@ use std::collections::VecDeque;
 // How many codes may share a need at most: as many as there are expansions that are kept.
 const MOST_CODES: usize = 64;
 
-/// What the expansions of all codes need, where there are few codes, and whether there are several.
-/// These expansions are kept.
-pub fn need_of_all(
+/// The fronts that are asked, and what all codes need of a screen. The expansions of few codes are kept.
+pub fn fronts_and_need<'a>(
+    alloc: Global,
+    query: &'a Query,
+    codes: &mut Codes<'_>,
+    kept: &mut VecDeque<Expansion>,
+) -> Result<(Option<Fronts<'a>>, Option<Screen>), Memory>
+    requires query { codes.old.query ≡ query.now }
+    requires first { codes.old.place ≡ [] }
+    requires kept { All (IsKept query.now) kept.old.items }
+    ensures query { IfOk result (λ _. codes.new.query ≡ query.now) }
+    ensures kept { IfOk result (λ _. All (IsKept query.now) kept.new.items) }
+    ensures fronts { IfOk result (λ found. FrontsOf query.now found.0) }
+    ensures need { IfOk result (λ found. IfSome found.1 (IsNeedOfAll query.now)) }
+{
+    let (common, several) = need_of_all(alloc, query, codes, kept)?;
+    let fronts = fronts_of(alloc, query, several)?;
+    let need = need_by(query, common, &fronts);
+    Ok((fronts, need))
+}
+
+// What the expansions of all codes need, where there are few codes, and whether there are several.
+// These expansions are kept.
+fn need_of_all(
     alloc: Global,
     query: &Query,
     codes: &mut Codes<'_>,

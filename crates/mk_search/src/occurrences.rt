@@ -1,13 +1,16 @@
 // The occurrences of a query in one molecule after another: codes, and behind each the hits of its
 // expansion.
-ghost use Rattle.std.specs.Prelude.{◌≡◌, ◌≤◌, ◌++◌, ℕ, List, IfOk, IfSome, None};
+ghost use Rattle.std.specs.Prelude.{◌≡◌, ◌≤◌, ◌+◌, ◌++◌, ℕ, List, IfOk, IfSome, IsTrue, None, false};
 ghost use Rattle.mk_model.specs.Molecules.{Molecule};
 ghost use Rattle.mk_model.specs.Screens.{IsScreenOf};
+ghost use Rattle.mk_match.specs.Maps.{IsMadeFrom};
+ghost use Rattle.mk_open.specs.Fronts.{IsNeedOfAll};
 ghost use Rattle.mk_search.specs.Occurrences.{BelongsTo, IsOpened, IsOpenOf, IsTakenHere, Leaves, TakesNext, given};
-ghost use Rattle.mk_search.specs.Passing.{KnowOf};
-ghost use Rattle.mk_search.specs.Turns.{IsAtCode, IsCodeShown, IsHigher, OwesFew, StandsBy};
+ghost use Rattle.mk_search.specs.Passing.{FrontsOf, KnowOf};
+ghost use Rattle.mk_search.specs.Turns.{IsAtCode, IsCodeShown, IsHigher, IsRefused, OwesFew, StandsBy};
 
 use crate::expansions::{Expansion, expansion_by, keep, may_hold};
+use crate::needs::fronts_and_need;
 use crate::passing::{forget, passed, put_behind_front};
 use crate::stages::Row;
 use crate::starts::{behind, start};
@@ -21,7 +24,7 @@ use std::mem;
 use std::sync::ledger::Ledger;
 
 /// A code that is open: its hits that are left, and what is kept of its expansion.
-#[derive(Debug, Drop)]
+#[derive(Drop)]
 pub struct Open<'a> {
     pub maps: Maps<'a>,
     pub code: Vec<u32>,
@@ -35,7 +38,7 @@ pub struct Open<'a> {
 ///
 /// `owed` is there for the proof of what turns pay alone. It is how many numbers of the place stand
 /// behind those from which codes are left, until a code is taken out.
-#[derive(Debug, Drop)]
+#[derive(Drop)]
 pub struct Occurrences<'a> {
     pub codes: Codes<'a>,
     pub open: Option<Open<'a>>,
@@ -47,6 +50,34 @@ pub struct Occurrences<'a> {
 }
 
 impl<'a> Occurrences<'a> {
+    /// Those of a query, of which none is left yet; and what all codes need of a screen.
+    pub fn of(alloc: Global, query: &'a Query) -> Result<(Occurrences<'a>, Option<Screen>), Memory>
+        ensures belongs { IfOk result (λ made. BelongsTo query.now made.0) }
+        ensures need { IfOk result (λ made. IfSome made.1 (IsNeedOfAll query.now)) }
+    {
+        let mut codes = Codes::from_place(alloc, query, &[])?;
+        let mut kept = VecDeque::new(alloc);
+        match fronts_and_need(alloc, query, &mut codes, &mut kept) {
+            Ok((fronts, need)) => {
+                let all = Occurrences {
+                    codes,
+                    open: None,
+                    fronts,
+                    kept,
+                    numbers: Vec::new(alloc),
+                    query,
+                    owed: 0,
+                };
+                Ok((all, need))
+            }
+            Err(memory) => {
+                drop(codes);
+                drop(kept);
+                Err(memory)
+            }
+        }
+    }
+
     /// Goes to those that aren't below the place, in any molecule. No code is open.
     pub fn restart(&mut self, place: &[u32]) -> Result<(), Memory>
         requires { BelongsTo self.old.query.now self.old }
@@ -58,7 +89,7 @@ impl<'a> Occurrences<'a> {
         ensures know { IfOk result (λ _. (mol : Molecule) → KnowOf mol self.new.fronts) }
         ensures belongs { BelongsTo self.old.query.now self.new }
     {
-        self.open = None;
+        drop(mem::replace(&mut self.open, None));
         forget(&mut self.fronts);
         let start = start(self.query, place);
         self.codes.rewind(start)?;
@@ -195,34 +226,79 @@ impl<'a> Occurrences<'a> {
         ensures belongs { BelongsTo self.old.query.now self.new }
         ensures steps { steps.old ≤ steps.new }
     {
-        let code = self.codes.item();
-        if let Some(n) = passed(alloc, self.query, code, row, &mut self.fronts)? {
-            put_behind_front(&mut self.numbers, &code[..n])?;
-            self.codes.rewind(&self.numbers)?;
+        let (codes, fronts) = (&mut self.codes, &mut self.fronts);
+        if passes_front(alloc, self.query, row, codes, fronts, &mut self.numbers)? {
             return Ok(false);
         }
+        let code = self.codes.item();
         let back = behind(code, place);
         let expansion = expansion_by(alloc, self.query, code, &mut self.kept)?;
         if !may_hold(&expansion, row.mol, row.screen) {
             keep(expansion, &mut self.kept)?;
             return Ok(false);
         }
-        let Expansion {
-            code,
-            graph,
-            asked,
-            need,
-        } = expansion;
-        let bare = graph.atom_count() == 0;
-        let maps = Maps::from_place(alloc, graph, row.mol, back, steps)?;
-        self.open = Some(Open {
-            maps,
-            code,
-            asked,
-            need,
-        });
+        let bare = expansion.graph.atom_count() == 0;
+        let its = opened(alloc, expansion, row, back, steps)?;
+        drop(mem::replace(&mut self.open, Some(its)));
         Ok(bare)
     }
+}
+
+// Passes over all codes that begin with a front of the code that was taken out last, where the
+// molecule can't hold one.
+fn passes_front<'a>(
+    alloc: Global,
+    query: &Query,
+    row: Row<'a>,
+    codes: &mut Codes<'a>,
+    fronts: &mut Option<Fronts<'a>>,
+    numbers: &mut Vec<u32>,
+) -> Result<bool, Memory>
+    requires code { IsAtCode query.now codes.old.place }
+    requires codes_of { codes.old.query ≡ query.now }
+    requires fronts_of { FrontsOf query.now fronts.old }
+    requires know { KnowOf row.mol.now fronts.old }
+    requires screen { IsScreenOf row.mol.now row.screen.now }
+    ensures passed { IfOk result (λ more. IsTrue more → (n : ℕ) → IsRefused query.now row.entry.mol.now codes.old codes.new None n n) }
+    ensures stays { IfOk result (λ more. more ≡ false → codes.new ≡ codes.old) }
+    ensures codes_of { codes.new.query ≡ query.now }
+    ensures fronts_of { FrontsOf query.now fronts.new }
+    ensures know { KnowOf row.entry.mol.now fronts.new }
+{
+    let code = codes.item();
+    let Some(n) = passed(alloc, query, code, row, fronts)? else {
+        return Ok(false);
+    };
+    put_behind_front(numbers, &code[..n])?;
+    codes.rewind(numbers)?;
+    Ok(true)
+}
+
+// Begins a matcher for an expansion, from what a place has behind its code.
+fn opened<'a, L: Ledger>(
+    alloc: Global,
+    expansion: Expansion,
+    row: Row<'a>,
+    back: &[u32],
+    steps: &mut Steps<L>,
+) -> Result<Open<'a>, Memory>
+    ensures made { IfOk result (λ its. IsMadeFrom expansion.graph row.entry.mol.now back.now its.maps) }
+    ensures same { IfOk result (λ its. its ≡ record { maps = its.maps; code = expansion.code; asked = expansion.asked; need = expansion.need }) }
+    ensures begin { steps.new ≡ steps.old + 1 }
+{
+    let Expansion {
+        code,
+        graph,
+        asked,
+        need,
+    } = expansion;
+    let maps = Maps::from_place(alloc, graph, row.mol, back, steps)?;
+    Ok(Open {
+        maps,
+        code,
+        asked,
+        need,
+    })
 }
 
 // Puts numbers, and others behind them.

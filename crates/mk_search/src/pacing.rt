@@ -37,7 +37,9 @@ pub fn page_within<L: Ledger, M: Ledger>(
     // The reader's clause says what every query keeps.
     let _fits = query.templates();
     let mut hits = Hits::from_place(alloc, shelf, query, place)?;
-    paced_of(alloc, &mut hits, limit, budget, begins, turns)
+    let paced = paced_of(alloc, &mut hits, limit, budget, begins, turns);
+    drop(hits);
+    paced
 }
 
 // The first keys that are left, at most so many, in at most so many turns; and the place from which the

@@ -29,7 +29,9 @@ pub fn page<L: Ledger>(
     ensures steps { steps.old ≤ steps.new }
 {
     let mut hits = Hits::from_place(alloc, shelf, query, place)?;
-    page_of(alloc, &mut hits, limit, steps)
+    let page = page_of(alloc, &mut hits, limit, steps);
+    drop(hits);
+    page
 }
 
 // The first keys that are left, at most so many, and the place behind them.
@@ -75,5 +77,7 @@ pub fn least_hit<L: Ledger>(
     ensures steps { steps.old ≤ steps.new }
 {
     let mut hits = Hits::from_place(alloc, shelf, query, place)?;
-    hits.next(alloc, steps)
+    let key = hits.next(alloc, steps);
+    drop(hits);
+    key
 }

@@ -6,8 +6,8 @@ use Rattle.mk_search.specs.Pages.{IsHeldIn}
 use Rattle.mk_search.proofs.HitsLemmas.{made_itself, of_made}
 use Rattle.mk_search.proofs.pacing.page_within.Goals as goal
 
-pub paced_of-requires : goal.paced_of-requires
-paced_of-requires g c =
+pub paced_of-paced-requires : goal.paced_of-paced-requires
+paced_of-paced-requires g c =
     let made = c.in_ok-hits.ensures.left in
     record {
       least = c.requires.least;
@@ -18,10 +18,10 @@ paced_of-requires g c =
 
 pub returns-clause-paced : goal.returns-clause-paced
 returns-clause-paced g c =
-    of_made (λ rows query place. IfOk c.paced_of.result (IsPacedPage (IsHeldIn rows) query place c.args.limit c.args.budget c.args.turns.now c.paced_of.new.turns))
-    c.args.shelf.now.rows c.args.query.now c.args.place.now c.in_ok-hits.hits c.in_ok-hits.ensures.left c.paced_of.ensures.paced
+    of_made (λ rows query place. IfOk c.paced_of-paced.result (IsPacedPage (IsHeldIn rows) query place c.args.limit c.args.budget c.args.turns.now c.paced_of-paced.new.turns))
+    c.args.shelf.now.rows c.args.query.now c.args.place.now c.in_ok-hits.hits c.in_ok-hits.ensures.left c.paced_of-paced.ensures.paced
 
 pub returns-clause-begins : goal.returns-clause-begins
 returns-clause-begins g c =
-    of_made (λ rows query place. IfOk c.paced_of.result (λ paced. BeginsOfPaced (IsHeldIn rows) query place paced c.args.begins.now c.paced_of.new.begins))
-    c.args.shelf.now.rows c.args.query.now c.args.place.now c.in_ok-hits.hits c.in_ok-hits.ensures.left c.paced_of.ensures.begins
+    of_made (λ rows query place. IfOk c.paced_of-paced.result (λ paced. BeginsOfPaced (IsHeldIn rows) query place paced c.args.begins.now c.paced_of-paced.new.begins))
+    c.args.shelf.now.rows c.args.query.now c.args.place.now c.in_ok-hits.hits c.in_ok-hits.ensures.left c.paced_of-paced.ensures.begins

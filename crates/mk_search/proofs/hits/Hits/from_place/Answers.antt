@@ -1,10 +1,9 @@
-use Rattle.std.proofs.Common.{refl}
-use Rattle.mk_search.proofs.StagesLemmas.{at_first}
+use Rattle.std.proofs.Common.{◌∙◌, ap, sym}
+use Rattle.mk_search.specs.Starts.{first_number}
+use Rattle.mk_search.proofs.SearchedLemmas.{standing_from}
 use Rattle.mk_search.proofs.hits.Hits.from_place.Goals as goal
 
 pub invariant_of-result : goal.invariant_of-result
-invariant_of-result c = record {
-  belongs = record { query_is = refl; codes_of = c.in_ok-common.ensures.query; fronts_of = c.in_ok-fronts.ensures; kept_are = c.in_ok-common.ensures.kept };
-  need_is = c.need_by-need.ensures;
-  ready = rw (c.in_ok-own.ensures, c.first_number-from.ensures) (at_first c.args.shelf.now.rows c.args.query.now c.args.place.now);
-}
+invariant_of-result c =
+    standing_from c.args.shelf.now.rows c.in_ok-own.own.items c.in_ok-all.need c.args.query.now c.in_ok-all.all c.in_ok-all.ensures.belongs c.in_ok-all.ensures.need
+    c.first_number-from.result (c.first_number-from.ensures ∙ ap first_number (sym c.in_ok-own.ensures))

@@ -8,11 +8,13 @@ use Rattle.mk_search.proofs.occurrences.Occurrences.restart.Goals as goal
 pub returns-clause-left : goal.returns-clause-left
 returns-clause-left c = λ mol.
     let made = c.in_ok-rewind.ensures.left in
-    leaves_start c.args.self.now.query.now mol c.args.place.now c.start-start.result.now c.rewind.new.self c.start-start.ensures (made.query_is ∙ c.requires.codes_of) made.place_is
+    let query = c.args.self.now.query.now in
+    rw c.replace.ensures.after
+    (leaves_start query mol c.args.place.now c.start-start.result.now c.rewind.new.self c.start-start.ensures (made.query_is ∙ c.requires.codes_of) made.place_is)
 
 pub returns-clause-stands : goal.returns-clause-stands
 returns-clause-stands c =
-    shut_start c.args.self.now.query.now c.args.place.now c.start-start.result.now c.rewind.new.self c.start-start.ensures c.in_ok-rewind.ensures.left.place_is
+    rw c.replace.ensures.after (shut_start c.args.self.now.query.now c.args.place.now c.start-start.result.now c.rewind.new.self c.start-start.ensures c.in_ok-rewind.ensures.left.place_is)
 
 pub returns-clause-within : goal.returns-clause-within
 returns-clause-within c =
