@@ -1,4 +1,5 @@
 pub mod Names
+pub mod Asked
 pub mod QueryText
 pub mod Saved
 pub mod Named
