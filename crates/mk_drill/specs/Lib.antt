@@ -3,3 +3,4 @@ pub mod DrillQuery
 pub mod Drill
 pub mod DrilledRecords
 pub mod Listing
+pub mod Answer

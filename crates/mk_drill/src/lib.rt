@@ -6,10 +6,13 @@
 //! query of one file (`specs/DrillQuery.antt`). It tells in a moment, on any machine, whether
 //! reading, filling, searching and removing give what they should, and how long they take.
 //!
+//! `drill_found` is what the command `drill` comes to (`IsDrillAnswer` in `specs/Answer.antt`).
+//!
 //! How files are read, what a molecule is and how keys are found is left to the crates below,
 //! through their promises alone.
 #![tactic(auto)]
 
+mod answering;
 mod draws;
 mod drill_query;
 mod drilled_records;
@@ -19,6 +22,7 @@ mod hits;
 mod laws;
 mod line;
 
+pub use answering::drill_found;
 pub use drilling::drill;
 pub use laws::one_drill;
 pub use mk_text::Memory;

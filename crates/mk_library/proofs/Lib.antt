@@ -7,6 +7,7 @@ pub mod LoadLemmas
 pub mod DemandLemmas
 pub mod EditLemmas
 pub mod OneMoleculeLemmas
+pub mod MoleculesAtLemmas
 pub mod StoredLemmas
 pub mod RebuiltLemmas
 pub mod TextLengthLemmas

@@ -3,6 +3,7 @@
 --     IsMoleculeOf text mol  the molecule is that record's, filled
 --     is_held n records      some record has the number
 --     text_under n records   the text under the number
+--     IsMoleculeAt records n mol     the molecule is that of the record under the number
 --     AreHeld records rows   beside each record stands its molecule, under its number
 --     AreRising records      each number is below all later ones
 use Rattle.std.specs.Prelude.{◌≡◌, ℕ, ◌+◌, ◌<◌, nat_eq, Bool, if◌then◌else◌, List, [], ◌∷◌, length, map, Option, Some, None, ⊤}
@@ -38,6 +39,12 @@ is_held n records = list_any (λ row. nat_eq row.number n) records
 abbrev pub text_under : ℕ → List RecordRow → Option (List ℕ)
 text_under n [] = None
 text_under n (row ∷ records) = if nat_eq row.number n then Some row.text else text_under n records
+
+-- the molecule is the filled molecule of the text of the record under the number
+pub record IsMoleculeAt (records : List RecordRow) (n : ℕ) (mol : Molecule) : Type 0 where
+  pub text : List ℕ
+  pub held : text_under n records ≡ Some text
+  pub is : IsMoleculeOf text mol
 
 -- beside each record stands its molecule, under its number
 abbrev pub AreHeld : List RecordRow → List (Numbered Molecule) → Type 0

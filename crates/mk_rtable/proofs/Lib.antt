@@ -4,4 +4,5 @@ pub mod TableLemmas
 pub mod RecordsLemmas
 pub mod SomeTableLemmas
 pub mod OnLiterals
+pub mod AnswerLemmas
 pub mod ForCallers

@@ -3,3 +3,4 @@ pub mod Table
 pub mod Begins
 pub mod Text
 pub mod Rows
+pub mod Answer

@@ -7,15 +7,19 @@
 //! a table (`table_text` in `specs/Text.antt`), and `members_of` says which members a code puts in
 //! (`AreMembers` in `specs/Members.antt`).
 //!
+//! `table_found` is what the command `table` comes to (`IsTableAnswer` in `specs/Answer.antt`).
+//!
 //! How keys are found is left to mk_search, and what a code is stands in mk_model.
 #![tactic(auto)]
 
+mod answering;
 mod members;
 mod rows;
 mod slots;
 mod table;
 mod text;
 
+pub use answering::table_found;
 pub use members::members_of;
 pub use mk_model::{Memory, Numbers};
 pub use rows::{TableRow, TableRows};
