@@ -2,7 +2,7 @@
 ghost use Rattle.std.specs.Prelude.{◌≡◌, map};
 ghost use Rattle.std.specs.String.{string_bytes};
 ghost use Rattle.sqlite_wal.specs.Files.{image_at};
-ghost use Rattle.mk_session.specs.Commands.{kind_of_words, store_path};
+ghost use Rattle.mk_words.specs.Commands.{kind_of_words, store_path};
 ghost use Rattle.mk_session.specs.Headline.{Headline};
 ghost use Rattle.mk_session.specs.Outcomes.{IsUntouched};
 ghost use Rattle.mk_sqlite.specs.Keeper.{kept_tables, IsKeptSound};

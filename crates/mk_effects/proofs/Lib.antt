@@ -3,9 +3,3 @@ pub mod ListingsLemmas
 pub mod MatchLemmas
 pub mod SearchingLemmas
 pub mod PacedLemmas
-pub mod OneSearchLemmas
-pub mod TableLemmas
-pub mod StructuresLemmas
-pub mod OneMatchLemmas
-pub mod GoingOnLemmas
-pub mod ForCallers

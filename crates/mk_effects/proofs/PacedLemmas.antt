@@ -17,13 +17,14 @@ use Rattle.mk_search.specs.Paced.{IsPacedPage, StopsSo}
 use Rattle.mk_rows.specs.declared.by_number.Numbered.{Numbered}
 use Rattle.mk_sdfile.specs.Sdfile.{HasOneValue}
 use Rattle.mk_mol.specs.Laws.{OneFilledMolecule}
-use Rattle.mk_library.specs.Records.{AreHeld}
+use Rattle.mk_library.specs.Records.{AreHeld, IsMoleculeAt}
 use Rattle.mk_search.specs.Pages.{IsHeldIn}
 use Rattle.mk_effects.specs.declared.hit_lines.Stop.{Stop}
 use Rattle.mk_effects.specs.Hits.{HaveParts, IsHitsText, stop_of_paced}
-use Rattle.mk_effects.specs.Searching.{ArePacedKeys, IsListing, IsMoleculeAt, StopsWithin}
+use Rattle.mk_effects.specs.Searching.{ArePacedKeys, IsListing, StopsWithin}
 use Rattle.mk_effects.proofs.ListingsLemmas.{key_of, pair_of}
-use Rattle.mk_effects.proofs.SearchingLemmas.{at_is_item, item_is_at, parts_over_records}
+use Rattle.mk_library.proofs.ForCallers.{at_is_item, item_is_at}
+use Rattle.mk_effects.proofs.SearchingLemmas.{parts_over_records}
 
 -- a page that may pause has no more keys than asked for
 few_keys : (Held : ℕ → Molecule → Type 0) (query : QueryView) (place : List ℕ) (limit b : ℕ) (keys : List (List ℕ)) (next : List ℕ) (spent : ℕ) (s : PacedStop)

@@ -1,8 +1,4 @@
 -- The commands `search NAME LIMIT` and `resume C LIMIT`, with a BUDGET behind these words or without.
---     IsLimit n                            so many hits can be asked for
---     IsBudget b                           so many turns can be allowed
---     IsMoleculeAt records n mol           the molecule is the filled one of the record under the
---                                          number
 --     AreListed records query place limit budget c keys stops next     the keys that are listed from a
 --                                          place on, where they stop, and the next place
 --     IsListing .. stops next text         such keys, and their lines
@@ -11,14 +7,13 @@
 use Rattle.std.specs.Prelude.{◌≡◌, ◌≢◌, ℕ, ◌-◌, ◌≤◌, false, List, [], ◌∷◌, length, nat_lt, Option, Some, None, codes, ◌<◌}
 use Rattle.mk_text.specs.Rising.{AreFirst, IsLeastFrom, place_behind}
 use Rattle.mk_model.specs.Keys.{IsKey, Remains}
-use Rattle.mk_model.specs.Molecules.{Molecule}
 use Rattle.mk_model.specs.Nodes.{Ahead}
 use Rattle.mk_model.specs.Queries.{QueryView}
 use Rattle.mk_outside.specs.declared.tables.Change.TheVariants.{PutCursor, DropCursor}
 use Rattle.mk_outside.specs.declared.tables.CursorRow.{CursorRow}
 use Rattle.mk_outside.specs.declared.tables.RecordRow.{RecordRow}
 use Rattle.mk_outside.specs.declared.tables.Tables.{Tables}
-use Rattle.mk_library.specs.Records.{IsMoleculeOf, text_under}
+use Rattle.mk_library.specs.Records.{IsMoleculeAt}
 use Rattle.mk_search.specs.Paced.{AreUpTo}
 use Rattle.mk_effects.specs.declared.hit_lines.Stop.{Stop}
 use Rattle.mk_effects.specs.declared.hit_lines.Stop.TheVariants as stop
@@ -28,22 +23,6 @@ use Rattle.mk_edits.specs.Queries.{no_query_text}
 use Rattle.mk_edits.specs.Records.{numbered_line}
 use Rattle.mk_kept.specs.Saved.{is_named, longest_place, HasSearchRoom}
 use Rattle.mk_kept.specs.Named.{IsQueryNamed, search_of}
-
--- so many hits can be asked for, or molecules drilled
-abbrev pub IsLimit : ℕ → Type 0
-IsLimit n = (1 ≤ n) × (n ≤ 10000)
-
--- so many turns can be allowed to a search
-abbrev pub IsBudget : ℕ → Type 0
-IsBudget b = (2048 ≤ b) × (b ≤ 999999999)
-
--- ---- what is searched
-
--- the molecule is the filled molecule of the text of the record under the number
-pub record IsMoleculeAt (records : List RecordRow) (n : ℕ) (mol : Molecule) : Type 0 where
-  pub text : List ℕ
-  pub held : text_under n records ≡ Some text
-  pub is : IsMoleculeOf text mol
 
 -- ---- what is listed
 

@@ -1,9 +1,8 @@
 -- The command `enum NAME LIMIT`, with a place FROM behind these words or without.
---     IsStructureLimit n                     so many structures can be asked for
 --     comma_numbers numbers                  the numbers, with a comma between each two
 --     place_line ended place                 the last line, by where the structures stop
 --     IsEnum queries name limit from effect  what `enum` comes to
-use Rattle.std.specs.Prelude.{◌≡◌, ℕ, ◌≤◌, Bool, false, List, [], ◌∷◌, ◌++◌, codes, decimal, if◌then◌else◌}
+use Rattle.std.specs.Prelude.{◌≡◌, ℕ, Bool, false, List, [], ◌∷◌, ◌++◌, codes, decimal, if◌then◌else◌}
 use Rattle.std.specs.List.{flat_map}
 use Rattle.mk_model.specs.Queries.{QueryView}
 use Rattle.mk_enum.specs.declared.listed.Structures.{Structures}
@@ -13,10 +12,6 @@ use Rattle.mk_kept.specs.Named.{IsQueryNamed}
 use Rattle.mk_kept.specs.Saved.{is_named}
 use Rattle.mk_edits.specs.Effects.{Answers, Effect, Refuses}
 use Rattle.mk_edits.specs.Queries.{no_query_text}
-
--- so many structures can be asked for
-abbrev pub IsStructureLimit : ℕ → Type 0
-IsStructureLimit n = (1 ≤ n) × (n ≤ 1000)
 
 -- each number behind a comma, byte 44
 abbrev pub behind_commas : List ℕ → List ℕ

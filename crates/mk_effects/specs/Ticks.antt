@@ -1,6 +1,5 @@
--- How often `search`, `resume` and `table` begin the matcher: once for each of some pairs, as
--- BeginsOfPage and BeginsOfPaced of mk_search and BeginsOfTable of mk_rtable say, over the molecules
--- of the records.
+-- How often `search` and `resume` begin the matcher: once for each of some pairs, as BeginsOfPage and
+-- BeginsOfPaced of mk_search say, over the molecules of the records.
 --     BeginsOfListed records query place limit budget c stops next text old new     the count goes up
 --                                            as for the page of the keys that are listed
 --     BeginsOfListing t name place limit budget c batch text old new     the same of the query of the
@@ -9,8 +8,6 @@
 --                                            search on
 --     BeginsOfSearch t name limit budget effect old new      how often `search` begins it
 --     BeginsOfResume t c limit budget effect old new         how often `resume` does
---     BeginsOfRows t name old new            the count goes up as for the table of the query
---     BeginsOfTableAnswer t name effect old new      how often `table` begins it
 use Rattle.std.specs.Prelude.{◌≡◌, ◌≢◌, ℕ, List, [], ◌∷◌, length, nat_lt, Option, Some, None}
 use Rattle.mk_model.specs.Queries.{QueryView}
 use Rattle.mk_outside.specs.declared.tables.Change.{Change}
@@ -21,13 +18,13 @@ use Rattle.mk_outside.specs.declared.tables.Tables.{Tables}
 use Rattle.mk_search.specs.declared.paced.Paced.{Paced}
 use Rattle.mk_search.specs.declared.pages.Page.{Page}
 use Rattle.mk_search.specs.Begins.{BeginsOfPaced, BeginsOfPage}
-use Rattle.mk_rtable.specs.Begins.{BeginsOfTable}
 use Rattle.mk_kept.specs.Named.{IsQueryNamed, search_of}
 use Rattle.mk_effects.specs.declared.hit_lines.Stop.{Stop}
 use Rattle.mk_effects.specs.declared.hit_lines.Stop.TheVariants as stop
 use Rattle.mk_edits.specs.Effects.{Answers, Effect, Refuses}
 use Rattle.mk_effects.specs.Hits.{stop_of_paced}
-use Rattle.mk_effects.specs.Searching.{IsListing, IsMoleculeAt}
+use Rattle.mk_library.specs.Records.{IsMoleculeAt}
+use Rattle.mk_effects.specs.Searching.{IsListing}
 
 -- Without a budget: the text lists a page of the first keys from the place on. The page has ended
 -- where they are fewer than asked for. The count goes up by one for each of a rising list of pairs of
@@ -79,16 +76,3 @@ BeginsOfSearch t name limit budget (Answers batch text) old new = BeginsOfListin
 abbrev pub BeginsOfResume : Tables → ℕ → ℕ → Option ℕ → Effect → ℕ → ℕ → Type 0
 BeginsOfResume t c limit budget (Refuses line) old new = new ≡ old
 BeginsOfResume t c limit budget (Answers batch text) old new = BeginsOfRest t c limit budget batch text old new
-
--- The count goes up by one for each of a rising list of pairs of a record and a code, for the query
--- of the name: none is above the least code that has a hit in the record, and the least codes are
--- among them.
-pub record BeginsOfRows (t : Tables) (name : List ℕ) (old new : ℕ) : Type 0 where
-  pub query : QueryView
-  pub named : IsQueryNamed t.queries name query
-  pub begins : BeginsOfTable (IsMoleculeAt t.records) query old new
-
--- nothing is begun for a refusal, and an answer writes the rows of the query
-abbrev pub BeginsOfTableAnswer : Tables → List ℕ → Effect → ℕ → ℕ → Type 0
-BeginsOfTableAnswer t name (Refuses line) old new = new ≡ old
-BeginsOfTableAnswer t name (Answers batch text) old new = BeginsOfRows t name old new

@@ -1,5 +1,4 @@
-//! What the commands that search come to: `match`, `search`, `resume`, `table`, `enum` and `drill`. It
-//! is found before anything is changed: a refusal with its line, or an answer and the changes that
+//! What `match`, `search`, `resume` and `enum` come to. It is found before anything is changed: a refusal with its line, or an answer and the changes that
 //! it makes.
 //!
 //! Callers use one promise for each command, that of `match_found`, `search_found` and the others:
@@ -11,17 +10,13 @@
 //! `mk_ctab`.
 #![tactic(auto)]
 
-mod drilling;
 mod hit_lines;
 mod matching;
 mod searching;
 mod structures;
-mod table;
 
-pub use drilling::drill_found;
 pub use hit_lines::Stop;
 pub use matching::match_found;
 pub use mk_text::Memory;
 pub use searching::{resume_found, search_found};
 pub use structures::enum_found;
-pub use table::table_found;

@@ -9,7 +9,8 @@ ghost use Rattle.mk_search.specs.Begins.{BeginsOfPaced};
 ghost use Rattle.mk_search.specs.Paced.{IsPacedPage};
 ghost use Rattle.mk_search.specs.Pages.{IsHeldIn};
 ghost use Rattle.mk_kept.specs.Saved.{IsSameSaved, longest_place, most_search_number};
-ghost use Rattle.mk_effects.specs.Searching.{IsBudget, IsLimit, HasListing, IsResume, IsSearch, full_searches_text, no_search_text};
+ghost use Rattle.mk_kept.specs.Asked.{IsBudget, IsLimit};
+ghost use Rattle.mk_effects.specs.Searching.{HasListing, IsResume, IsSearch, full_searches_text, no_search_text};
 
 use crate::hit_lines::{Stop, hits_answer, stop_of, stop_of_paced};
 use mk_edits::{Found, SessionEdit, no_query, put_numbered};

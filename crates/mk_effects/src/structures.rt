@@ -2,7 +2,8 @@
 ghost use Rattle.std.specs.Prelude.{◌≡◌, ◌++◌, IfOk, OnOk};
 ghost use Rattle.mk_library.specs.Library.{LibraryView};
 ghost use Rattle.mk_edits.specs.Findings.{FoundFits, effect_of};
-ghost use Rattle.mk_effects.specs.Structures.{IsEnum, IsStructureLimit, behind_commas, comma_numbers, place_line};
+ghost use Rattle.mk_kept.specs.Asked.{IsStructureLimit};
+ghost use Rattle.mk_effects.specs.Structures.{IsEnum, behind_commas, comma_numbers, place_line};
 
 use mk_edits::{Found, SessionEdit, no_query};
 use mk_enum::structures;

@@ -4,13 +4,13 @@ use Rattle.std.specs.Prelude.{IfSome, Err}
 use Rattle.std.specs.List.{list_any}
 use Rattle.mk_outside.specs.Counts.{Rose}
 use Rattle.mk_outside.specs.declared.tables.Tables.{Tables}
-use Rattle.mk_session.specs.declared.command.WordsKind.{WordsKind}
-use Rattle.mk_session.specs.declared.command.WordsKind.TheVariants as words_kind
+use Rattle.mk_words.specs.declared.command.WordsKind.{WordsKind}
+use Rattle.mk_words.specs.declared.command.WordsKind.TheVariants as words_kind
 use Rattle.mk_session.specs.declared.status.Status.{Status}
 use Rattle.mk_session.specs.declared.status.Status.TheVariants as status
 use Rattle.mk_session.specs.declared.work.Given.{Given}
 use Rattle.mk_session.specs.declared.work.Given.TheVariants as given
-use Rattle.mk_session.specs.Commands.{kind_of_words}
+use Rattle.mk_words.specs.Commands.{kind_of_words}
 use Rattle.mk_session.specs.Run.{ending_if, texts, IsOneLine, IsRun, Misses, OneLine, Commands, NotUnderstood, ScriptLong, BadStore}
 use Rattle.mk_edits.specs.Effects.{is_refusal}
 use Rattle.mk_session.specs.Ends.{Unwritten, PutFailed, PutNoMemory, Stopped, FileUnread, Uncommitted, OrderNoMemory, Unanswered, Halts, StoppedAt, NextNoMemory, Goes, AllDone, Halted, Ends, LineWritten, LineUnwritten, Unloaded, FirstNoMemory, Commands as EndsCommands}

@@ -1,6 +1,3 @@
-pub mod CommandLemmas
-pub mod CommandPartsLemmas
-pub mod StoreWordsLemmas
 pub mod OpeningLemmas
 pub mod SteppingLemmas
 pub mod TurnLemmas
@@ -8,10 +5,3 @@ pub mod RunningLemmas
 pub mod ReadingLemmas
 pub mod AnsweredLemmas
 pub mod HeadlineLemmas
-pub mod JoinLemmas
-pub mod OneRunLemmas
-pub mod GoingOnLemmas
-pub mod TextValueLemmas
-pub mod EffectValueLemmas
-pub mod KeptValueLemmas
-pub mod RunValueLemmas

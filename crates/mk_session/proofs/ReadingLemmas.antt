@@ -3,12 +3,12 @@ use Rattle.std.proofs.Common.{◌≡◌, ℕ, ◌≤◌, List, [], ◌++◌, len
 use Rattle.std.proofs.lemmas.List.{length-take-le}
 use Rattle.std.specs.Io.KnownBytes.{Consumes}
 use Rattle.std.proofs.KnownBytes.{Consumes-trans}
-use Rattle.mk_session.specs.declared.command.WordsKind.{WordsKind}
-use Rattle.mk_session.specs.declared.command.WordsKind.TheVariants as words_kind
-use Rattle.mk_session.specs.declared.command.Command.{Command}
+use Rattle.mk_words.specs.declared.command.WordsKind.{WordsKind}
+use Rattle.mk_words.specs.declared.command.WordsKind.TheVariants as words_kind
+use Rattle.mk_words.specs.declared.command.Command.{Command}
 use Rattle.mk_session.specs.declared.work.Given.TheVariants as given
 use Rattle.mk_session.specs.declared.work.Work.TheVariants as work
-use Rattle.mk_session.specs.Commands.{kind_of_words}
+use Rattle.mk_words.specs.Commands.{kind_of_words}
 use Rattle.mk_session.specs.Orders.{asked_of}
 use Rattle.mk_session.specs.Outcomes.{Agrees, IsInputTaken}
 use Rattle.mk_session.specs.Given.{IsGiven}

@@ -11,14 +11,14 @@ use Rattle.mk_outside.specs.Told.{Puts, AppendsPrefix}
 use Rattle.mk_session.specs.declared.status.Ended.{Ended}
 use Rattle.mk_edits.specs.declared.effect.StepFail.{StepFail}
 use Rattle.mk_edits.specs.declared.effect.StepFail.TheVariants as fail
-use Rattle.mk_session.specs.declared.command.Command.{Command}
-use Rattle.mk_session.specs.declared.command.WordsKind.{WordsKind}
-use Rattle.mk_session.specs.declared.command.WordsKind.TheVariants as words_kind
+use Rattle.mk_words.specs.declared.command.Command.{Command}
+use Rattle.mk_words.specs.declared.command.WordsKind.{WordsKind}
+use Rattle.mk_words.specs.declared.command.WordsKind.TheVariants as words_kind
 use Rattle.mk_kept.specs.declared.stored_rows.RowKind.{RowKind}
 use Rattle.mk_session.specs.declared.work.Given.TheVariants as given
 use Rattle.mk_session.specs.declared.work.Work.{Work}
 use Rattle.mk_session.specs.declared.work.Work.TheVariants as work
-use Rattle.mk_session.specs.Commands.{kind_of_words}
+use Rattle.mk_words.specs.Commands.{kind_of_words}
 use Rattle.mk_session.specs.Outcomes.{IsUntouched}
 use Rattle.mk_session.specs.declared.status.Status.{Status}
 use Rattle.mk_session.specs.declared.status.Status.TheVariants as status

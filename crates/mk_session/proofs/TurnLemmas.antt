@@ -16,8 +16,8 @@ use Rattle.mk_session.specs.Run.{after_effects, texts, Does, After, HasItsFiles,
 use Rattle.mk_session.specs.Ends.{Halts, StoppedAt, NextNoMemory, Stopped}
 use Rattle.mk_session.specs.Faults.{Faults}
 use Rattle.mk_edits.specs.Files.{Look}
-use Rattle.mk_session.specs.declared.command.LineKind.{LineKind}
-use Rattle.mk_session.specs.Commands.{kind_of_line}
+use Rattle.mk_words.specs.declared.command.LineKind.{LineKind}
+use Rattle.mk_words.specs.Commands.{kind_of_line}
 use Rattle.mk_session.specs.Orders.{Order, orders_of, orders_of_kind, orders_of_line}
 use Rattle.mk_session.specs.Turns.{IsDoneAll, IsHalted, Turns}
 use Rattle.mk_edits.specs.Findings.{MissesAt}

@@ -5,15 +5,15 @@
 use Rattle.std.specs.Prelude.{◌≡◌, ◌≢◌, ℕ, ◌<◌, ◌≤◌, List, [], ◌∷◌, length, Option, Some, None, Result, Ok, Err, IfSome, ⊤}
 use Rattle.mk_outside.specs.Counts.{Rose}
 use Rattle.mk_text.specs.Spans.{parts, AreWithin}
-use Rattle.mk_session.specs.declared.command.Command.{Command}
-use Rattle.mk_session.specs.declared.command.WordsKind.TheVariants as words_kind
+use Rattle.mk_words.specs.declared.command.Command.{Command}
+use Rattle.mk_words.specs.declared.command.WordsKind.TheVariants as words_kind
 use Rattle.mk_session.specs.declared.status.Status.{Status}
 use Rattle.mk_session.specs.declared.status.Status.TheVariants as status
 use Rattle.mk_session.specs.declared.work.Given.{Given}
 use Rattle.mk_session.specs.declared.work.Given.TheVariants as given
 use Rattle.mk_session.specs.declared.work.Work.{Work}
 use Rattle.mk_session.specs.declared.work.Work.TheVariants as work
-use Rattle.mk_session.specs.Commands.{CanAsk, kind_of_words}
+use Rattle.mk_words.specs.Commands.{CanAsk, kind_of_words}
 use Rattle.mk_session.specs.Outcomes.{Agrees}
 use Rattle.mk_session.specs.Orders.{Asked, NoCommand, Order, Orders, TooMuch, asked, orders_of, script_bytes}
 

@@ -2,10 +2,10 @@
 --     Headline ..     the statement
 use Rattle.std.specs.Prelude.{◌≡◌, ◌≢◌, ℕ, List, [], ◌++◌, Some, IfSome}
 use Rattle.mk_outside.specs.declared.tables.Tables.{Tables}
-use Rattle.mk_session.specs.declared.command.WordsKind.TheVariants as words_kind
+use Rattle.mk_words.specs.declared.command.WordsKind.TheVariants as words_kind
 use Rattle.mk_session.specs.declared.status.Status.{Status}
 use Rattle.mk_session.specs.declared.status.Status.TheVariants as status
-use Rattle.mk_session.specs.Commands.{kind_of_words}
+use Rattle.mk_words.specs.Commands.{kind_of_words}
 use Rattle.mk_session.specs.Orders.{Order, Orders, asked, orders_asked}
 use Rattle.mk_session.specs.Outcomes.{World, Agrees, WentSo, IsAnswered, IsWholeRun, IsQuiet, IsReadOut, IsAllDone, IsInputSame, IsInputTaken, IsRestSame}
 use Rattle.mk_session.specs.Run.{IsRun, Misses}

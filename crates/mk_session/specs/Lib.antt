@@ -1,5 +1,4 @@
 pub mod Status
-pub mod Commands
 pub mod Orders
 pub mod Step
 pub mod Run
@@ -13,5 +12,3 @@ pub mod Turns
 pub mod Opening
 pub mod Given
 pub mod Running
-pub mod Laws
-pub mod Values

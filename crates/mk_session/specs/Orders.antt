@@ -6,13 +6,13 @@
 use Rattle.std.specs.Prelude.{ℕ, List, [], ◌∷◌, length, ◌≡◌, Option, Some, None, nat_lt, if◌then◌else◌, ⊤}
 use Rattle.std.specs.List.{flat_map}
 use Rattle.mk_text.specs.Lines.{lines_of}
-use Rattle.mk_session.specs.declared.command.Command.{Command}
-use Rattle.mk_session.specs.declared.command.Command.TheVariants as variant
-use Rattle.mk_session.specs.declared.command.LineKind.{LineKind}
-use Rattle.mk_session.specs.declared.command.LineKind.TheVariants as line_kind
-use Rattle.mk_session.specs.declared.command.WordsKind.{WordsKind}
-use Rattle.mk_session.specs.declared.command.WordsKind.TheVariants as words_kind
-use Rattle.mk_session.specs.Commands.{kind_of_line, kind_of_words}
+use Rattle.mk_words.specs.declared.command.Command.{Command}
+use Rattle.mk_words.specs.declared.command.Command.TheVariants as variant
+use Rattle.mk_words.specs.declared.command.LineKind.{LineKind}
+use Rattle.mk_words.specs.declared.command.LineKind.TheVariants as line_kind
+use Rattle.mk_words.specs.declared.command.WordsKind.{WordsKind}
+use Rattle.mk_words.specs.declared.command.WordsKind.TheVariants as words_kind
+use Rattle.mk_words.specs.Commands.{kind_of_line, kind_of_words}
 
 -- what a line that isn't blank asks for: a command, or None, which is refused
 abbrev pub Order : Type 0

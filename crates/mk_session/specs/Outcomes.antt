@@ -14,11 +14,11 @@ use Rattle.std.specs.Io.KnownBytes.{Consumes}
 use Rattle.std.specs.Prelude.{◌≡◌, ℕ, ◌+◌, ◌<◌, ◌≤◌, List, [], length, Option, IfSome, ⊤}
 use Rattle.mk_outside.specs.Counts.{Rose}
 use Rattle.mk_outside.specs.declared.tables.Tables.{Tables}
-use Rattle.mk_session.specs.declared.command.WordsKind.{WordsKind}
-use Rattle.mk_session.specs.declared.command.WordsKind.TheVariants as words_kind
+use Rattle.mk_words.specs.declared.command.WordsKind.{WordsKind}
+use Rattle.mk_words.specs.declared.command.WordsKind.TheVariants as words_kind
 use Rattle.mk_session.specs.declared.status.Status.{Status}
 use Rattle.mk_session.specs.declared.status.Status.TheVariants as status
-use Rattle.mk_session.specs.Commands.{kind_of_words}
+use Rattle.mk_words.specs.Commands.{kind_of_words}
 use Rattle.mk_session.specs.Ends.{Ends}
 use Rattle.mk_session.specs.Faults.{Faults}
 use Rattle.mk_edits.specs.Files.{Look}

@@ -6,7 +6,7 @@
 --                                      refusal before its turn holds
 use Rattle.std.specs.Prelude.{◌≡◌, ℕ, List, [], Option, Some, None, codes}
 use Rattle.mk_outside.specs.declared.tables.Tables.{Tables}
-use Rattle.mk_session.specs.declared.command.Command.TheVariants as variant
+use Rattle.mk_words.specs.declared.command.Command.TheVariants as variant
 use Rattle.mk_edits.specs.Effects.{Answers, Effect, Refuses}
 use Rattle.mk_edits.specs.Files.{Look}
 use Rattle.mk_edits.specs.Loading.{IsLoad, IsReplace, IsTurnOfReplace}
@@ -16,8 +16,8 @@ use Rattle.mk_edits.specs.Queries.{IsForget, IsKeep, IsTurnOfKeep}
 use Rattle.mk_edits.specs.Records.{IsRemove, IsShow, list_text}
 use Rattle.mk_effects.specs.Searching.{IsResume, IsSearch}
 use Rattle.mk_effects.specs.Structures.{IsEnum}
-use Rattle.mk_effects.specs.Table.{IsTableAnswer}
-use Rattle.mk_effects.specs.Drilling.{IsDrillAnswer}
+use Rattle.mk_rtable.specs.Answer.{IsTableAnswer}
+use Rattle.mk_drill.specs.Answer.{IsDrillAnswer}
 
 abbrev pub no_command_text : List ℕ
 no_command_text = codes "refused 1 command\n"

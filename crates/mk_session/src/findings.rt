@@ -1,25 +1,27 @@
 // What a command comes to. A further command is a further function and a further arm here.
 ghost use Rattle.std.specs.Prelude.{◌≡◌, IfOk, Some};
-ghost use Rattle.mk_session.specs.Commands.{CanAsk};
-ghost use Rattle.mk_effects.specs.Searching.{IsBudget, IsLimit};
+ghost use Rattle.mk_words.specs.Commands.{CanAsk};
+ghost use Rattle.mk_kept.specs.Asked.{IsBudget, IsLimit};
 ghost use Rattle.mk_library.specs.Library.{IsSame};
 ghost use Rattle.mk_kept.specs.Saved.{IsSameSaved};
-ghost use Rattle.mk_effects.specs.Drilling.{IsDrillAnswer};
+ghost use Rattle.mk_drill.specs.Answer.{IsDrillAnswer};
 ghost use Rattle.mk_session.specs.Step.{Reaches};
 ghost use Rattle.mk_edits.specs.Findings.{FoundFits, MissesAt, effect_of, stands_for};
 ghost use Rattle.mk_session.specs.Stepping.{Seeks};
 ghost use Rattle.mk_session.specs.StepTicks.{BeginsOfCommand};
 
-use crate::Command;
+use mk_drill::drill_found;
 use mk_edits::{
     Found, StepFail, forget_found, keep_found, list_found, load_found, remove_found, replace_found,
     show_found,
 };
-use mk_effects::{drill_found, enum_found, match_found, resume_found, search_found, table_found};
+use mk_effects::{enum_found, match_found, resume_found, search_found};
 use mk_kept::Saved;
 use mk_library::Library;
 use mk_model::Steps;
 use mk_outside::Files;
+use mk_rtable::table_found;
+use mk_words::Command;
 use std::alloc::Global;
 use std::sync::ledger::Ledger;
 

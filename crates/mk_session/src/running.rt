@@ -2,7 +2,7 @@
 ghost use Rattle.std.specs.Prelude.{◌≡◌, ◌||◌, ℕ, List, Option, Some, None, IfOk, ⊤, map};
 ghost use Rattle.std.specs.String.{string_bytes};
 ghost use Rattle.mk_text.specs.Spans.{parts, AreWithin};
-ghost use Rattle.mk_session.specs.Commands.{kind_of_words};
+ghost use Rattle.mk_words.specs.Commands.{kind_of_words};
 ghost use Rattle.mk_session.specs.Run.{ending_if};
 ghost use Rattle.mk_edits.specs.Files.{Look};
 ghost use Rattle.mk_session.specs.Headline.{Headline};
@@ -13,7 +13,6 @@ ghost use Rattle.mk_session.specs.Given.{CanAskWork, orders_of_work};
 ghost use Rattle.mk_session.specs.Running.{IsUnread, IsUnreadGiven, IsUnreadWork, Leaves, Opens, SaysLine};
 ghost use Rattle.mk_session.specs.Turns.{Turns};
 
-use crate::command_reading::command_of_line;
 use crate::orders::do_order;
 use crate::reading::given_by;
 use crate::session::Session;
@@ -21,6 +20,7 @@ use crate::work::{Given, Work};
 use crate::{BeginFail, LineKind, RowKind, Status};
 use mk_outside::{Files, Keeper, Memory, PutFail, Sink, Source};
 use mk_text::{Span, put_number};
+use mk_words::command_of_line;
 use std::alloc::Global;
 
 /// Does the command of the words, or those of the input, and writes the answers.

@@ -5,7 +5,7 @@ ghost use Rattle.mk_library.specs.Library.{LibraryView};
 ghost use Rattle.mk_library.specs.Pending.{PendingFits};
 ghost use Rattle.mk_kept.specs.Saved.{SavedView};
 ghost use Rattle.mk_kept.specs.SavedPending.{SavedFits};
-ghost use Rattle.mk_session.specs.Commands.{CanAsk};
+ghost use Rattle.mk_words.specs.Commands.{CanAsk};
 ghost use Rattle.mk_session.specs.Step.{Reaches};
 ghost use Rattle.mk_session.specs.Stepping.{ChangeCounts, IsStepped, StepCounts};
 ghost use Rattle.mk_session.specs.StepTicks.{BeginsOfDone};

@@ -2,7 +2,8 @@ use Rattle.std.proofs.Common.{None, ap, ◌∙◌}
 use Rattle.mk_text.specs.Rising.{AreFirst}
 use Rattle.mk_model.specs.Keys.{Remains}
 use Rattle.mk_effects.specs.Hits.{stop_of}
-use Rattle.mk_effects.specs.Searching.{IsListing, IsMoleculeAt}
+use Rattle.mk_library.specs.Records.{IsMoleculeAt}
+use Rattle.mk_effects.specs.Searching.{IsListing}
 use Rattle.mk_effects.proofs.SearchingLemmas.{begins_over_records, first_over_records, parts_over_records}
 use Rattle.mk_effects.proofs.searching.list_first.Goals as goal
 

@@ -1,0 +1,11 @@
+pub mod OneMatchLemmas
+pub mod OneSearchLemmas
+pub mod OneListingLemmas
+pub mod CommandsGoOnLemmas
+pub mod JoinLemmas
+pub mod OneRunLemmas
+pub mod GoingOnLemmas
+pub mod TextValueLemmas
+pub mod EffectValueLemmas
+pub mod KeptValueLemmas
+pub mod RunValueLemmas

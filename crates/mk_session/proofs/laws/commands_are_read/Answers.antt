@@ -1,8 +1,0 @@
-use Rattle.mk_session.proofs.CommandLemmas.{commands_are_read, one_reading}
-use Rattle.mk_session.proofs.laws.commands_are_read.Goals as goal
-
-pub returns-clause-read : goal.returns-clause-read
-returns-clause-read c = commands_are_read
-
-pub returns-clause-one : goal.returns-clause-one
-returns-clause-one c = one_reading
