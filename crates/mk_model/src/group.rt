@@ -49,6 +49,7 @@ impl Range {
         ensures ok { OnOk result (self.new ≡ self.old ++ interval ∷ []) }
         ensures err { OnErr result (self.new ≡ self.old) }
     {
+        // For the proof alone: `push` would hand the item back where there is no room.
         self.items.extend_from_slice(&[interval])
     }
 }

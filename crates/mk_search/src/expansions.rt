@@ -58,6 +58,7 @@ pub fn expansion_by(
             })
         }
         Err(memory) => {
+            // For the proof alone: a call lets it go, and not the end of the block.
             drop(graph);
             Err(memory)
         }

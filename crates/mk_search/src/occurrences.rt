@@ -71,6 +71,7 @@ impl<'a> Occurrences<'a> {
                 Ok((all, need))
             }
             Err(memory) => {
+                // For the proof alone: a call lets it go, and not the end of the block.
                 drop(codes);
                 drop(kept);
                 Err(memory)

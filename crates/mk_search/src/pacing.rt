@@ -38,6 +38,7 @@ pub fn page_within<L: Ledger, M: Ledger>(
     let _fits = query.templates();
     let mut hits = Hits::from_place(alloc, shelf, query, place)?;
     let paced = paced_of(alloc, &mut hits, limit, budget, begins, turns);
+    // For the proof alone: a call lets it go, and not the end of the block.
     drop(hits);
     paced
 }

@@ -30,6 +30,7 @@ pub fn page<L: Ledger>(
 {
     let mut hits = Hits::from_place(alloc, shelf, query, place)?;
     let page = page_of(alloc, &mut hits, limit, steps);
+    // For the proof alone: a call lets it go, and not the end of the block.
     drop(hits);
     page
 }
@@ -78,6 +79,7 @@ pub fn least_hit<L: Ledger>(
 {
     let mut hits = Hits::from_place(alloc, shelf, query, place)?;
     let key = hits.next(alloc, steps);
+    // For the proof alone: a call lets it go, and not the end of the block.
     drop(hits);
     key
 }
