@@ -10,7 +10,7 @@ use Rattle.mk_outside.specs.declared.tables.Tables.{Tables}
 use Rattle.mk_outside.specs.Tables.{no_tables}
 use Rattle.mk_session.specs.declared.status.Status.{Status}
 use Rattle.mk_session.specs.declared.status.Status.TheVariants as status
-use Rattle.mk_edits.specs.Files.{Look}
+use Rattle.mk_found.specs.Files.{Look}
 use Rattle.mk_session.specs.Headline.{Headline}
 use Rattle.mk_session.specs.Outcomes.{World}
 use Rattle.mk_sqlite.specs.Keeps.{FilesStandFor}

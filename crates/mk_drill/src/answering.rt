@@ -1,11 +1,11 @@
 // The command `drill`.
 ghost use Rattle.std.specs.Prelude.{IfOk};
 ghost use Rattle.mk_drill.specs.Answer.{IsDrillAnswer};
-ghost use Rattle.mk_edits.specs.Findings.{effect_of};
+ghost use Rattle.mk_found.specs.Findings.{effect_of};
 ghost use Rattle.mk_kept.specs.Asked.{IsLimit};
 
 use crate::drilling::drill;
-use mk_edits::{Found, SessionEdit};
+use mk_found::{Found, SessionEdit};
 use mk_outside::{Bytes, Memory};
 use std::alloc::Global;
 

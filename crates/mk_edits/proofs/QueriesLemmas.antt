@@ -19,12 +19,12 @@ use Rattle.mk_outside.specs.Tables.{cursor_number}
 use Rattle.mk_library.specs.Library.{LibraryView}
 use Rattle.mk_library.specs.Pending.{InTurn}
 use Rattle.mk_kept.specs.Names.{IsName}
-use Rattle.mk_edits.specs.declared.effect.Found.{Found}
-use Rattle.mk_edits.specs.declared.effect.Found.TheVariants as found
-use Rattle.mk_edits.specs.Effects.{Effect, Refuses}
+use Rattle.mk_found.specs.declared.effect.Found.{Found}
+use Rattle.mk_found.specs.declared.effect.Found.TheVariants as found
+use Rattle.mk_found.specs.Effects.{Effect, Refuses}
 use Rattle.mk_edits.specs.Queries.{drop_of, forget_changes, full_queries_text, kept_text}
 use Rattle.mk_kept.specs.QueryText.{IsQueryOfText}
-use Rattle.mk_edits.specs.Findings.{FoundFits, effect_of}
+use Rattle.mk_found.specs.Findings.{FoundFits, effect_of}
 use Rattle.mk_kept.specs.Saved.{HasRoomFor, IsMeant, SavedView, is_named, is_waiting, kept_tables, most_queries}
 use Rattle.mk_kept.specs.SavedPending.{AreReady, IsInPlace, SavedFits, SavedPendingView}
 

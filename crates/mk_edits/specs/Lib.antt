@@ -1,10 +1,3 @@
-pub mod Effects
-pub mod Answers
-pub mod Files
-pub mod Fails
-pub mod QueryFiles
-pub mod MoleculeFiles
 pub mod Records
 pub mod Queries
 pub mod Loading
-pub mod Findings

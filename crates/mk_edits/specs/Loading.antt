@@ -11,10 +11,11 @@ use Rattle.mk_outside.specs.declared.tables.RecordRow.{RecordRow}
 use Rattle.mk_library.specs.Records.{is_held}
 use Rattle.mk_library.specs.Edits.{Edit, Load, Replace}
 use Rattle.mk_library.specs.FirstRefusal.{IsAllowedEdit, IsFirstRefusal}
-use Rattle.mk_edits.specs.Effects.{Answers, Effect, Refuses}
-use Rattle.mk_edits.specs.Files.{Look}
-use Rattle.mk_edits.specs.MoleculeFiles.{ComesByFile}
-use Rattle.mk_edits.specs.Records.{no_record_text, numbered_line}
+use Rattle.mk_found.specs.Effects.{Answers, Effect, Refuses}
+use Rattle.mk_found.specs.Files.{Look}
+use Rattle.mk_found.specs.MoleculeFiles.{ComesByFile}
+use Rattle.mk_edits.specs.Records.{no_record_text}
+use Rattle.mk_found.specs.Lines.{numbered_line}
 
 -- ---- the file of an edit
 

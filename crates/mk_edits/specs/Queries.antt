@@ -11,14 +11,11 @@ use Rattle.mk_outside.specs.declared.tables.Change.{Change}
 use Rattle.mk_outside.specs.declared.tables.Change.TheVariants.{PutQuery, DropQuery, DropCursor}
 use Rattle.mk_outside.specs.declared.tables.CursorRow.{CursorRow}
 use Rattle.mk_outside.specs.declared.tables.QueryRow.{QueryRow}
-use Rattle.mk_edits.specs.Effects.{Answers, Effect, Refuses}
-use Rattle.mk_edits.specs.Files.{Look}
-use Rattle.mk_edits.specs.QueryFiles.{IsQueryHeld, IsQueryRefused}
+use Rattle.mk_found.specs.Effects.{Answers, Effect, Refuses}
+use Rattle.mk_found.specs.Files.{Look}
+use Rattle.mk_found.specs.Lines.{named_line, no_query_text}
+use Rattle.mk_found.specs.QueryFiles.{IsQueryHeld, IsQueryRefused}
 use Rattle.mk_kept.specs.Saved.{HasRoomFor, greatest_number, is_named, most_queries}
-
--- a word, a name, and the end of the line
-abbrev pub named_line : List ℕ → List ℕ → List ℕ
-named_line word name = word ++ (name ++ codes "\n")
 
 -- ---- query NAME FILE
 
@@ -55,10 +52,6 @@ pub record IsTurnOfKeep (queries : List QueryRow) (name file n : List ℕ) : Typ
   pub is : n ≡ file
 
 -- ---- forget NAME
-
--- the line for a query that isn't held
-abbrev pub no_query_text : List ℕ → List ℕ
-no_query_text name = named_line (codes "refused 8 query ") name
 
 -- the change that drops a saved search
 abbrev pub drop_of : CursorRow → Change

@@ -12,11 +12,8 @@ use Rattle.mk_outside.specs.declared.tables.CursorRow.{CursorRow}
 use Rattle.mk_outside.specs.declared.tables.Tables.{Tables}
 use Rattle.mk_rows.specs.declared.by_number.Numbered.{Numbered}
 use Rattle.mk_library.specs.Records.{is_held, text_under}
-use Rattle.mk_edits.specs.Effects.{Answers, Effect, Refuses}
-
--- a word, a number, and the end of the line
-abbrev pub numbered_line : List ℕ → ℕ → List ℕ
-numbered_line word n = word ++ (decimal n ++ codes "\n")
+use Rattle.mk_found.specs.Effects.{Answers, Effect, Refuses}
+use Rattle.mk_found.specs.Lines.{numbered_line}
 
 -- ---- show N
 

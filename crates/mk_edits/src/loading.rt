@@ -6,14 +6,14 @@ ghost use Rattle.mk_library.specs.Edits.{Replace};
 ghost use Rattle.mk_library.specs.Library.{IsSame};
 ghost use Rattle.mk_library.specs.Limits.{file_bytes};
 ghost use Rattle.mk_library.specs.Records.{is_held};
-ghost use Rattle.mk_edits.specs.Files.{IsFoundAs, IsTurnOf, Look};
+ghost use Rattle.mk_found.specs.Files.{IsFoundAs, IsTurnOf, Look};
 ghost use Rattle.mk_edits.specs.Loading.{IsEdited, IsLoad, IsReplace, IsTurnOfReplace, loaded_text, replaced_text};
-ghost use Rattle.mk_edits.specs.Findings.{FoundFits, MissesAt, SeeksSo, effect_of};
+ghost use Rattle.mk_found.specs.Findings.{FoundFits, MissesAt, SeeksSo, effect_of};
 
-use crate::answers::long_molecules;
-use crate::files::{file_line, read_within};
-use crate::records::{no_record, put_numbered};
-use crate::{Found, SessionEdit, StepFail};
+use crate::records::no_record;
+use mk_found::{
+    Found, SessionEdit, StepFail, file_line, long_molecules, put_numbered, read_within,
+};
 use mk_library::{FILE_BYTES, Library};
 use mk_outside::{Bytes, Files, Memory};
 use mk_text::put_number;

@@ -2,17 +2,19 @@
 ghost use Rattle.std.specs.Prelude.{◌≡◌, ◌≤◌, ℕ, List, Option, [], ◌∷◌, IfOk, length};
 ghost use Rattle.mk_outside.specs.declared.tables.Change.TheVariants.{PutQuery};
 ghost use Rattle.mk_library.specs.Library.{LibraryView};
-ghost use Rattle.mk_edits.specs.declared.effect.Found.TheVariants as found;
+ghost use Rattle.mk_found.specs.declared.effect.Found.TheVariants as found;
 ghost use Rattle.mk_kept.specs.Names.{IsName};
-ghost use Rattle.mk_edits.specs.Files.{IsFoundAs, IsShort, IsWithin, Look};
-ghost use Rattle.mk_edits.specs.Queries.{IsForget, IsFree, IsKeep, IsTurnOfKeep, forget_changes, full_queries_text, name_held_text, named_line, no_query_text};
+ghost use Rattle.mk_found.specs.Files.{IsFoundAs, IsShort, IsWithin, Look};
+ghost use Rattle.mk_edits.specs.Queries.{IsForget, IsFree, IsKeep, IsTurnOfKeep, forget_changes, full_queries_text, name_held_text};
+ghost use Rattle.mk_found.specs.Lines.{named_line, no_query_text};
 ghost use Rattle.mk_kept.specs.QueryText.{IsQueryOfText};
-ghost use Rattle.mk_edits.specs.QueryFiles.{query_bytes};
-ghost use Rattle.mk_edits.specs.Findings.{FoundFits, MissesAt, SeeksSo, effect_of};
+ghost use Rattle.mk_found.specs.QueryFiles.{query_bytes};
+ghost use Rattle.mk_found.specs.Findings.{FoundFits, MissesAt, SeeksSo, effect_of};
 ghost use Rattle.mk_kept.specs.Saved.{IsMeant, IsSameSaved};
 
-use crate::files::{HeldQuery, QUERY_BYTES, judge_query, read_within};
-use crate::{Found, SessionEdit, StepFail};
+use mk_found::{
+    Found, HeldQuery, QUERY_BYTES, SessionEdit, StepFail, judge_query, named, no_query, read_within,
+};
 use mk_kept::{Saved, SavedPending};
 use mk_model::Query;
 use mk_outside::{Bytes, Change, Files, Memory};
@@ -159,26 +161,9 @@ fn name_held(alloc: Global, name: &str) -> Result<Found, Memory>
     Ok(Found::Refused(named(alloc, b"refused 7 name ", name)?))
 }
 
-/// The refusal of a name that isn't held.
-pub fn no_query(alloc: Global, name: &str) -> Result<Found, Memory>
-    ensures { IfOk result (λ f. f ≡ found.Refused (no_query_text name.now)) }
-{
-    Ok(Found::Refused(named(alloc, b"refused 8 query ", name)?))
-}
-
 // The refusal of a further query.
 fn full_queries(alloc: Global) -> Result<Found, Memory>
     ensures { IfOk result (λ f. f ≡ found.Refused full_queries_text) }
 {
     Ok(Found::Refused(Bytes::of(Vec::from_slice(alloc, b"refused 10 queries\n")?)))
-}
-
-// A word, a name, and the end of the line.
-fn named(alloc: Global, word: &[u8], name: &str) -> Result<Bytes, Memory>
-    ensures { IfOk result (λ text. text ≡ named_line word.now name.now) }
-{
-    let mut text = Vec::from_slice(alloc, word)?;
-    text.extend_from_slice(name.as_bytes())?;
-    text.extend_from_slice(b"\n")?;
-    Ok(Bytes::of(text))
 }

@@ -2,14 +2,15 @@
 ghost use Rattle.std.specs.Prelude.{◌≡◌, ◌++◌, [], IfOk, OnOk, codes, length};
 ghost use Rattle.std.specs.List.{flat_map};
 ghost use Rattle.mk_library.specs.Library.{IsSame};
-ghost use Rattle.mk_edits.specs.declared.effect.Found.TheVariants as found;
-ghost use Rattle.mk_edits.specs.Effects.{Answers};
-ghost use Rattle.mk_edits.specs.Records.{IsRemove, IsShow, cursor_line, list_text, name_line, next_line, no_record_text, numbered_line, query_line, record_line, record_text, row_line};
-ghost use Rattle.mk_edits.specs.Findings.{FoundFits, effect_of, stands_for};
+ghost use Rattle.mk_found.specs.declared.effect.Found.TheVariants as found;
+ghost use Rattle.mk_found.specs.Effects.{Answers};
+ghost use Rattle.mk_edits.specs.Records.{IsRemove, IsShow, cursor_line, list_text, name_line, next_line, no_record_text, query_line, record_line, record_text, row_line};
+ghost use Rattle.mk_found.specs.Lines.{numbered_line};
+ghost use Rattle.mk_found.specs.Findings.{FoundFits, effect_of, stands_for};
 ghost use Rattle.mk_kept.specs.Saved.{SavedView, cursor_row, cursors_of, rows_of};
 
-use crate::{Found, SessionEdit};
 use indexmap::IndexMap;
+use mk_found::{Found, SessionEdit, put_numbered};
 use mk_kept::{Kept, Saved, SavedSearch};
 use mk_library::{Library, LoadRefusal};
 use mk_outside::{Bytes, Memory};
@@ -156,19 +157,5 @@ fn put_next(
     put_number(alloc, text, u64::from(record_number))?;
     text.extend_from_slice(b" ")?;
     put_number(alloc, text, u64::from(cursor_number))?;
-    text.extend_from_slice(b"\n")
-}
-
-/// A word, a number, and the end of the line.
-pub fn put_numbered(
-    alloc: Global,
-    text: &mut Vec<u8>,
-    word: &[u8],
-    number: u64,
-) -> Result<(), Memory>
-    ensures { OnOk result (text.new.items ≡ text.old.items ++ numbered_line word.now number) }
-{
-    text.extend_from_slice(word)?;
-    put_number(alloc, text, number)?;
     text.extend_from_slice(b"\n")
 }

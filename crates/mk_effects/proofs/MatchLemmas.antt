@@ -5,15 +5,15 @@ use Rattle.std.proofs.Common.{◌≡◌, ℕ, ◌≤◌, List, Option, refl, sym
 use Rattle.std.specs.Prelude.{Result, Ok, Err, IfOk}
 use Rattle.mk_outside.specs.Counts.{Rose}
 use Rattle.mk_model.specs.Queries.{QueryView}
-use Rattle.mk_edits.specs.declared.effect.Found.{Found}
-use Rattle.mk_edits.specs.declared.effect.StepFail.{StepFail}
-use Rattle.mk_edits.specs.declared.effect.StepFail.TheVariants as fail
+use Rattle.mk_found.specs.declared.effect.Found.{Found}
+use Rattle.mk_found.specs.declared.effect.StepFail.{StepFail}
+use Rattle.mk_found.specs.declared.effect.StepFail.TheVariants as fail
 use Rattle.mk_library.specs.Limits.{file_bytes}
-use Rattle.mk_edits.specs.Files.{IsShort, IsThere, IsTurnOf, Look}
+use Rattle.mk_found.specs.Files.{IsShort, IsThere, IsTurnOf, Look}
 use Rattle.mk_effects.specs.Match.{IsMatch, IsSearchOfFile, IsTurnOfMatch, ListsKeys, Searches, TurnOfMolecules, TurnOfQuery}
-use Rattle.mk_edits.specs.MoleculeFiles.{GoesByMolecules}
-use Rattle.mk_edits.specs.QueryFiles.{IsQueryHeld}
-use Rattle.mk_edits.specs.Findings.{MissesAt, SeeksSo, effect_of}
+use Rattle.mk_found.specs.MoleculeFiles.{GoesByMolecules}
+use Rattle.mk_found.specs.QueryFiles.{IsQueryHeld}
+use Rattle.mk_found.specs.Findings.{MissesAt, SeeksSo, effect_of}
 
 -- the list of keys is what the molecules' file comes to
 pub lists_of_file : {E : Type 0} (wanted : QueryView) (files : Option Look) (name bytes : List ℕ) (r : Result Found E) → IsShort files file_bytes name bytes

@@ -19,11 +19,11 @@ use Rattle.mk_library.proofs.ForCallers.{at_is_item, item_is_at}
 use Rattle.mk_search.specs.declared.pages.Page.{Page}
 use Rattle.mk_search.specs.Begins.{BeginsOfPage}
 use Rattle.mk_search.specs.Pages.{IsHeldIn}
-use Rattle.mk_edits.specs.declared.effect.Found.{Found}
-use Rattle.mk_edits.specs.declared.effect.Found.TheVariants as found
-use Rattle.mk_edits.specs.Effects.{Effect, Refuses}
+use Rattle.mk_found.specs.declared.effect.Found.{Found}
+use Rattle.mk_found.specs.declared.effect.Found.TheVariants as found
+use Rattle.mk_found.specs.Effects.{Effect, Refuses}
 use Rattle.mk_effects.specs.Hits.{HaveParts}
-use Rattle.mk_edits.specs.Findings.{effect_of}
+use Rattle.mk_found.specs.Findings.{effect_of}
 use Rattle.mk_kept.specs.Saved.{SavedView, is_named}
 use Rattle.mk_kept.specs.SavedPending.{SavedFits, SavedPendingView}
 use Rattle.mk_effects.proofs.HitLinesLemmas.{have_parts}

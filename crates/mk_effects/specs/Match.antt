@@ -11,11 +11,11 @@ use Rattle.mk_model.specs.Keys.{IsKey}
 use Rattle.mk_model.specs.Molecules.{Molecule}
 use Rattle.mk_model.specs.Queries.{QueryView}
 use Rattle.mk_library.specs.FirstRefusal.{HoldsMolecule, IsFirstFileRefusal}
-use Rattle.mk_edits.specs.Effects.{Answers, Effect, Refuses}
-use Rattle.mk_edits.specs.Files.{Look}
+use Rattle.mk_found.specs.Effects.{Answers, Effect, Refuses}
+use Rattle.mk_found.specs.Files.{Look}
 use Rattle.mk_effects.specs.Hits.{IsHitsText, stop_of}
-use Rattle.mk_edits.specs.MoleculeFiles.{ComesByFile}
-use Rattle.mk_edits.specs.QueryFiles.{IsQueryHeld, IsQueryRefused}
+use Rattle.mk_found.specs.MoleculeFiles.{ComesByFile}
+use Rattle.mk_found.specs.QueryFiles.{IsQueryHeld, IsQueryRefused}
 
 -- the molecule is held under the number 1, and no other is held
 abbrev pub IsRecord1 : Molecule → ℕ → Molecule → Type 0

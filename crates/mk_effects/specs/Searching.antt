@@ -17,10 +17,10 @@ use Rattle.mk_library.specs.Records.{IsMoleculeAt}
 use Rattle.mk_search.specs.Paced.{AreUpTo}
 use Rattle.mk_effects.specs.declared.hit_lines.Stop.{Stop}
 use Rattle.mk_effects.specs.declared.hit_lines.Stop.TheVariants as stop
-use Rattle.mk_edits.specs.Effects.{Answers, Effect, Refuses}
+use Rattle.mk_found.specs.Effects.{Answers, Effect, Refuses}
 use Rattle.mk_effects.specs.Hits.{IsHitsText, stop_of}
-use Rattle.mk_edits.specs.Queries.{no_query_text}
-use Rattle.mk_edits.specs.Records.{numbered_line}
+use Rattle.mk_found.specs.Lines.{no_query_text}
+use Rattle.mk_found.specs.Lines.{numbered_line}
 use Rattle.mk_kept.specs.Saved.{is_named, longest_place, HasSearchRoom}
 use Rattle.mk_kept.specs.Named.{IsQueryNamed, search_of}
 

@@ -10,8 +10,8 @@ use Rattle.mk_enum.specs.Enumerations.{IsEnumeration}
 use Rattle.mk_outside.specs.declared.tables.QueryRow.{QueryRow}
 use Rattle.mk_kept.specs.Named.{IsQueryNamed}
 use Rattle.mk_kept.specs.Saved.{is_named}
-use Rattle.mk_edits.specs.Effects.{Answers, Effect, Refuses}
-use Rattle.mk_edits.specs.Queries.{no_query_text}
+use Rattle.mk_found.specs.Effects.{Answers, Effect, Refuses}
+use Rattle.mk_found.specs.Lines.{no_query_text}
 
 -- each number behind a comma, byte 44
 abbrev pub behind_commas : List ℕ → List ℕ

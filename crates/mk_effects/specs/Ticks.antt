@@ -21,7 +21,7 @@ use Rattle.mk_search.specs.Begins.{BeginsOfPaced, BeginsOfPage}
 use Rattle.mk_kept.specs.Named.{IsQueryNamed, search_of}
 use Rattle.mk_effects.specs.declared.hit_lines.Stop.{Stop}
 use Rattle.mk_effects.specs.declared.hit_lines.Stop.TheVariants as stop
-use Rattle.mk_edits.specs.Effects.{Answers, Effect, Refuses}
+use Rattle.mk_found.specs.Effects.{Answers, Effect, Refuses}
 use Rattle.mk_effects.specs.Hits.{stop_of_paced}
 use Rattle.mk_library.specs.Records.{IsMoleculeAt}
 use Rattle.mk_effects.specs.Searching.{IsListing}

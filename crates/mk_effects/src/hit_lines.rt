@@ -3,8 +3,8 @@ ghost use Rattle.std.specs.Prelude.{◌≡◌, ◌∷◌, ◌++◌, IfOk, OnOk};
 ghost use Rattle.mk_effects.specs.Hits.{AreHitLines, HasParts, HaveParts, IsHitsText, PutsLine, hit_line, stop_line, stop_of, stop_of_paced};
 
 use mk_choice::code_within;
-use mk_edits::put_numbered;
 use mk_enum::put_numbers;
+use mk_found::put_numbered;
 use mk_model::{Key, Query};
 use mk_search::{Page, Stop as PacedStop};
 use mk_text::{Memory, put_number};

@@ -5,7 +5,8 @@
 //! the effect is exactly that of the command on the tables (`IsMatch` in `specs/Match.antt`,
 //! `IsSearch` in `specs/Searching.antt`, and so on), and the change that it makes fits.
 //!
-//! What the commands that edit and list come to stands in `mk_edits`. It knows no words of a
+//! What the commands that edit and list come to stands in `mk_edits`, and what a file holds is
+//! judged in `mk_found`. It knows no words of a
 //! command, commits nothing and writes nothing: see `mk_session`. It reads no columns: see
 //! `mk_ctab`.
 #![tactic(auto)]

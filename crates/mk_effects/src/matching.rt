@@ -2,13 +2,13 @@
 ghost use Rattle.std.specs.Prelude.{◌≡◌, ◌∷◌, [], ℕ, List, Option, IfOk};
 ghost use Rattle.mk_library.specs.FirstRefusal.{HoldsMolecule};
 ghost use Rattle.mk_library.specs.Limits.{file_bytes};
-ghost use Rattle.mk_edits.specs.Files.{IsFoundAs, IsTurnOf, IsWithin, Look};
+ghost use Rattle.mk_found.specs.Files.{IsFoundAs, IsTurnOf, IsWithin, Look};
 ghost use Rattle.mk_effects.specs.Match.{IsMatch, IsSearchOfFile, IsTurnOfMatch, ListsKeys};
-ghost use Rattle.mk_edits.specs.QueryFiles.{IsHeldQuery, query_bytes};
-ghost use Rattle.mk_edits.specs.Findings.{MissesAt, SeeksSo, effect_of};
+ghost use Rattle.mk_found.specs.QueryFiles.{IsHeldQuery, query_bytes};
+ghost use Rattle.mk_found.specs.Findings.{MissesAt, SeeksSo, effect_of};
 
 use crate::hit_lines::{hits_answer, stop_of};
-use mk_edits::{
+use mk_found::{
     Found, HeldQuery, QUERY_BYTES, SessionEdit, StepFail, file_line, judge_query, long_molecules,
     read_within,
 };

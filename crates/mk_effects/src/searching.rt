@@ -1,9 +1,9 @@
 // The commands `search` and `resume`.
 ghost use Rattle.std.specs.Prelude.{◌≡◌, ℕ, ◌<◌, ◌≤◌, ◌∷◌, [], None, Some, IfOk, IfSome, length};
 ghost use Rattle.mk_outside.specs.declared.tables.Change.TheVariants.{PutCursor, DropCursor};
-ghost use Rattle.mk_edits.specs.declared.effect.Found.TheVariants as found;
+ghost use Rattle.mk_found.specs.declared.effect.Found.TheVariants as found;
 ghost use Rattle.mk_kept.specs.Names.{IsHeldNumber, IsName};
-ghost use Rattle.mk_edits.specs.Findings.{FoundFits, effect_of, stands_for};
+ghost use Rattle.mk_found.specs.Findings.{FoundFits, effect_of, stands_for};
 ghost use Rattle.mk_effects.specs.Ticks.{BeginsOfListed, BeginsOfResume, BeginsOfSearch};
 ghost use Rattle.mk_search.specs.Begins.{BeginsOfPaced};
 ghost use Rattle.mk_search.specs.Paced.{IsPacedPage};
@@ -13,7 +13,7 @@ ghost use Rattle.mk_kept.specs.Asked.{IsBudget, IsLimit};
 ghost use Rattle.mk_effects.specs.Searching.{HasListing, IsResume, IsSearch, full_searches_text, no_search_text};
 
 use crate::hit_lines::{Stop, hits_answer, stop_of, stop_of_paced};
-use mk_edits::{Found, SessionEdit, no_query, put_numbered};
+use mk_found::{Found, SessionEdit, no_query, put_numbered};
 use mk_index::Shelf;
 use mk_kept::{Saved, SavedPending};
 use mk_library::Library;

@@ -1,12 +1,12 @@
 // The command `enum`.
 ghost use Rattle.std.specs.Prelude.{◌≡◌, ◌++◌, IfOk, OnOk};
 ghost use Rattle.mk_library.specs.Library.{LibraryView};
-ghost use Rattle.mk_edits.specs.Findings.{FoundFits, effect_of};
+ghost use Rattle.mk_found.specs.Findings.{FoundFits, effect_of};
 ghost use Rattle.mk_kept.specs.Asked.{IsStructureLimit};
 ghost use Rattle.mk_effects.specs.Structures.{IsEnum, behind_commas, comma_numbers, place_line};
 
-use mk_edits::{Found, SessionEdit, no_query};
 use mk_enum::structures;
+use mk_found::{Found, SessionEdit, no_query};
 use mk_kept::Saved;
 use mk_outside::{Bytes, Memory};
 use mk_text::put_number;

@@ -26,12 +26,12 @@ use Rattle.mk_library.specs.Records.{IsMoleculeAt, is_held}
 use Rattle.mk_library.proofs.ForCallers.{kept_lines_are_short}
 use Rattle.mk_kept.specs.Names.{IsName}
 use Rattle.mk_effects.specs.declared.hit_lines.Stop.{Stop}
-use Rattle.mk_edits.specs.Effects.{Answers, Effect, Refuses, after_effect}
-use Rattle.mk_edits.specs.Files.{Look}
+use Rattle.mk_found.specs.Effects.{Answers, Effect, Refuses, after_effect}
+use Rattle.mk_found.specs.Files.{Look}
 use Rattle.mk_kept.specs.StoredRows.{CanGoOn, EachReads, ReadsCursor, ReadsQuery}
 use Rattle.mk_edits.specs.Loading.{IsEditMade, IsEdited, IsReplace, NoRecordReplaced, ReplacesHeld}
 use Rattle.mk_effects.specs.Match.{IsMatch, ListsKeys, QueryRefused, Searches}
-use Rattle.mk_edits.specs.MoleculeFiles.{ComesByFile, GoesByMolecules, MoleculesRefused, MoleculesTooLong}
+use Rattle.mk_found.specs.MoleculeFiles.{ComesByFile, GoesByMolecules, MoleculesRefused, MoleculesTooLong}
 use Rattle.mk_edits.specs.Queries.{FileIsRefused, Forgets, IsForget, IsKeep, Keeps, NameIsHeld, NoQueryForgotten, QueriesAreFull, TextsAreFull, drop_of, forget_changes, kept_text}
 use Rattle.mk_edits.specs.Records.{IsRemove, IsShow, NoRecordRemoved, NoRecordShown, Removes, Shows}
 use Rattle.mk_kept.specs.Saved.{IsMeant, greatest_number, kept_tables, longest_place}

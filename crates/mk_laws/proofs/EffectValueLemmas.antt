@@ -43,24 +43,26 @@ use Rattle.mk_enum.proofs.ForCallers.{some_enumeration}
 use Rattle.mk_rtable.proofs.ForCallers.{some_table, table_over}
 use Rattle.mk_values.proofs.ForCallers.{drill_has_line, edit_is_judged, file_is_judged, list_by, rows_hold, rows_of, taken_first}
 use Rattle.mk_words.specs.declared.command.Command.TheVariants as variant
-use Rattle.mk_edits.specs.declared.files.HeldQuery.{HeldQuery}
-use Rattle.mk_edits.specs.declared.files.HeldQuery.TheVariants.{Query, Refused}
-use Rattle.mk_edits.specs.Answers.{bad_line_text, check_text, full_text, long_molecules_text, records_text, v3000_text}
-use Rattle.mk_edits.specs.Effects.{Answers, Refuses}
-use Rattle.mk_edits.specs.Effects.{Effect}
-use Rattle.mk_edits.specs.Files.{IsLong, IsShort, Look}
+use Rattle.mk_found.specs.declared.files.HeldQuery.{HeldQuery}
+use Rattle.mk_found.specs.declared.files.HeldQuery.TheVariants.{Query, Refused}
+use Rattle.mk_found.specs.Answers.{bad_line_text, check_text, full_text, long_molecules_text, records_text, v3000_text}
+use Rattle.mk_found.specs.Effects.{Answers, Refuses}
+use Rattle.mk_found.specs.Effects.{Effect}
+use Rattle.mk_found.specs.Files.{IsLong, IsShort, Look}
 use Rattle.mk_effects.specs.declared.hit_lines.Stop.{Stop}
 use Rattle.mk_effects.specs.declared.hit_lines.Stop.TheVariants as stop
 use Rattle.mk_effects.specs.Hits.{AreHitLines, HasParts, HaveParts, IsHitsText, hit_line, stop_line, stop_of, stop_of_paced}
 use Rattle.mk_edits.specs.Loading.{NoRecordReplaced, ReplacesHeld}
 use Rattle.mk_edits.specs.Loading.{IsEditMade, IsEdited, IsReplace, loaded_text, replaced_text}
 use Rattle.mk_effects.specs.Match.{IsMatch, IsRecord1, IsSearchOfFile, ListsKeys, QueryRefused, Searches, TurnOfMolecules, TurnOfQuery}
-use Rattle.mk_edits.specs.MoleculeFiles.{ComesByFile, GoesByMolecules, IsFileLine, MoleculesRefused, MoleculesTooLong}
+use Rattle.mk_found.specs.MoleculeFiles.{ComesByFile, GoesByMolecules, IsFileLine, MoleculesRefused, MoleculesTooLong}
 use Rattle.mk_edits.specs.Queries.{FileIsRefused, Forgets, Keeps, NameIsHeld, NoQueryForgotten, QueriesAreFull, TextsAreFull}
-use Rattle.mk_edits.specs.Queries.{IsForget, IsFree, IsKeep, forget_changes, full_queries_text, kept_text, name_held_text, named_line, no_query_text}
-use Rattle.mk_edits.specs.QueryFiles.{IsQueryHeldBy}
+use Rattle.mk_edits.specs.Queries.{IsForget, IsFree, IsKeep, forget_changes, full_queries_text, kept_text, name_held_text}
+use Rattle.mk_found.specs.Lines.{named_line, no_query_text}
+use Rattle.mk_found.specs.QueryFiles.{IsQueryHeldBy}
 use Rattle.mk_kept.specs.QueryText.{IsQueryOfText}
-use Rattle.mk_edits.specs.Records.{IsRemove, IsShow, list_text, no_record_text, numbered_line, record_text}
+use Rattle.mk_edits.specs.Records.{IsRemove, IsShow, list_text, no_record_text, record_text}
+use Rattle.mk_found.specs.Lines.{numbered_line}
 use Rattle.mk_edits.specs.Records.{NoRecordRemoved, NoRecordShown, Removes, Shows}
 use Rattle.mk_kept.specs.Saved.{HasMeaning, HasRoomFor, greatest_number, is_named, longest_place, most_queries, most_query_number, most_search_number, most_searches, most_text_bytes, bytes_of_texts}
 use Rattle.mk_kept.specs.Saved.{HasSearchRoom}

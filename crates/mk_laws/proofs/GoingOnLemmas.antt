@@ -14,9 +14,9 @@ use Rattle.mk_words.specs.declared.command.LineKind.TheVariants as line_kind
 use Rattle.mk_words.specs.declared.command.WordsKind.{WordsKind}
 use Rattle.mk_words.specs.declared.command.WordsKind.TheVariants as words_kind
 use Rattle.mk_words.specs.Commands.{CanAsk, CanAskLine, CanAskWords, kind_of_line, kind_of_words}
-use Rattle.mk_edits.specs.Effects.{Effect, after_effect}
+use Rattle.mk_found.specs.Effects.{Effect, after_effect}
 use Rattle.mk_session.specs.Run.{after_effects, Commands, Does, OneLine}
-use Rattle.mk_edits.specs.Files.{Look}
+use Rattle.mk_found.specs.Files.{Look}
 use Rattle.mk_kept.specs.StoredRows.{CanGoOn}
 use Rattle.mk_laws.specs.Laws.{RunsKeepReading}
 use Rattle.mk_session.specs.Orders.{Asked, Order, Orders, TooMuch, asked_of, asked_of_script, orders_of, orders_of_kind, script_bytes}

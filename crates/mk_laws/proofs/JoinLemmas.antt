@@ -8,9 +8,9 @@ use Rattle.mk_outside.specs.declared.tables.Tables.{Tables}
 use Rattle.mk_text.specs.Lines.{lines_of, pieces, onto_first_piece, without_cr}
 use Rattle.mk_session.specs.declared.status.Status.{Status}
 use Rattle.mk_session.specs.Orders.{Asked, Order, Orders, asked_of_script, orders_of, orders_of_line, script_bytes}
-use Rattle.mk_edits.specs.Effects.{Effect, is_refusal}
+use Rattle.mk_found.specs.Effects.{Effect, is_refusal}
 use Rattle.mk_session.specs.Run.{after_effects, status_behind, ending_if, texts, Does, IsOneLine, IsRun, OneLine, Commands, NotUnderstood, ScriptLong, BadStore}
-use Rattle.mk_edits.specs.Files.{Look}
+use Rattle.mk_found.specs.Files.{Look}
 use Rattle.mk_session.specs.Outcomes.{IsAllDone, AllCommandsDone, SomeRefused}
 use Rattle.mk_laws.specs.Laws.{TwoScripts, joined}
 use Rattle.mk_kept.specs.StoredRows.{AllRead}

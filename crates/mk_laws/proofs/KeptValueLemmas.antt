@@ -26,13 +26,13 @@ use Rattle.mk_search.proofs.ForCallers.{place_has_few}
 use Rattle.mk_query.proofs.KeptTextLemmas.{kept_text as kept_text_is}
 use Rattle.mk_rgfile.proofs.KeptQueryLemmas.{kept_is_kept, query_left}
 use Rattle.mk_words.specs.declared.command.Command.TheVariants as variant
-use Rattle.mk_edits.specs.Effects.{Answers, Refuses}
-use Rattle.mk_edits.specs.Effects.{Effect, after_effect}
-use Rattle.mk_edits.specs.Files.{Look}
+use Rattle.mk_found.specs.Effects.{Answers, Refuses}
+use Rattle.mk_found.specs.Effects.{Effect, after_effect}
+use Rattle.mk_found.specs.Files.{Look}
 use Rattle.mk_edits.specs.Loading.{NoRecordReplaced, ReplacesHeld}
 use Rattle.mk_edits.specs.Loading.{IsEditMade, IsEdited, IsReplace}
 use Rattle.mk_effects.specs.Match.{IsMatch, ListsKeys, QueryRefused, Searches}
-use Rattle.mk_edits.specs.MoleculeFiles.{ComesByFile, GoesByMolecules, MoleculesRefused, MoleculesTooLong}
+use Rattle.mk_found.specs.MoleculeFiles.{ComesByFile, GoesByMolecules, MoleculesRefused, MoleculesTooLong}
 use Rattle.mk_edits.specs.Queries.{FileIsRefused, Forgets, Keeps, NameIsHeld, NoQueryForgotten, QueriesAreFull, TextsAreFull}
 use Rattle.mk_edits.specs.Queries.{IsForget, IsKeep, drop_of, forget_changes, kept_text}
 use Rattle.mk_edits.specs.Records.{IsRemove, IsShow}

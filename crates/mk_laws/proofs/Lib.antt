@@ -1,3 +1,6 @@
+pub mod OneEditLemmas
+pub mod OneQueryFileLemmas
+pub mod OneKeepLemmas
 pub mod OneMatchLemmas
 pub mod OneSearchLemmas
 pub mod OneListingLemmas

@@ -12,7 +12,7 @@ use Rattle.mk_rtable.specs.Table.{IsRGroupTable}
 use Rattle.mk_rtable.specs.Text.{table_text}
 use Rattle.mk_rtable.proofs.ForCallers.{one_table}
 use Rattle.mk_kept.proofs.ForCallers.{HasQueryLaws, named_of}
-use Rattle.mk_edits.specs.Effects.{Answers, Effect}
+use Rattle.mk_found.specs.Effects.{Answers, Effect}
 use Rattle.mk_library.specs.Records.{IsMoleculeAt}
 use Rattle.mk_effects.specs.Structures.{IsEnum, NoQueryEnumerated, WritesStructures, place_line}
 use Rattle.mk_rtable.specs.Answer.{IsTableAnswer, NoQueryTabled, WritesRows}

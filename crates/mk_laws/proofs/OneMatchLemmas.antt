@@ -16,19 +16,19 @@ use Rattle.mk_drill.specs.Drill.{OneDrill}
 use Rattle.mk_library.specs.declared.refusal.LoadRefusal.{LoadRefusal}
 use Rattle.mk_library.specs.FirstRefusal.{FileDemands, HoldsMolecule, IsFirstFileRefusal}
 use Rattle.mk_outside.specs.declared.tables.RecordRow.{RecordRow}
-use Rattle.mk_edits.specs.declared.files.HeldQuery.{HeldQuery}
-use Rattle.mk_edits.specs.declared.files.HeldQuery.TheVariants.{Query, Refused as RefusedQuery}
-use Rattle.mk_edits.specs.Effects.{Answers, Effect, Refuses}
-use Rattle.mk_edits.specs.Files.{Look}
+use Rattle.mk_found.specs.declared.files.HeldQuery.{HeldQuery}
+use Rattle.mk_found.specs.declared.files.HeldQuery.TheVariants.{Query, Refused as RefusedQuery}
+use Rattle.mk_found.specs.Effects.{Answers, Effect, Refuses}
+use Rattle.mk_found.specs.Files.{Look}
 use Rattle.mk_effects.specs.Hits.{IsHitsText, stop_of}
 use Rattle.mk_effects.specs.Match.{IsMatch, IsRecord1, IsSearchOfFile, ListsKeys, QueryRefused, Searches}
 use Rattle.mk_edits.specs.Records.{IsRemove, IsShow, NoRecordRemoved, NoRecordShown, Removes, Shows}
-use Rattle.mk_edits.specs.QueryFiles.{IsQueryHeldBy}
+use Rattle.mk_found.specs.QueryFiles.{IsQueryHeldBy}
 use Rattle.mk_effects.proofs.HitLinesLemmas.{one_hits_text}
 use Rattle.mk_edits.proofs.LoadingLemmas.{text_is_held}
-use Rattle.mk_edits.proofs.OneEditLemmas.{one_by_file, one_refusal}
+use Rattle.mk_laws.proofs.OneEditLemmas.{one_by_file, one_refusal}
 use Rattle.mk_kept.proofs.ForCallers.{HasQueryLaws}
-use Rattle.mk_edits.proofs.OneQueryFileLemmas.{one_query_held}
+use Rattle.mk_laws.proofs.OneQueryFileLemmas.{one_query_held}
 
 -- ---- the laws that are cited
 

@@ -7,17 +7,17 @@ use Rattle.mk_outside.specs.declared.tables.Tables.{Tables}
 use Rattle.mk_words.specs.declared.command.Command.TheVariants as variant
 use Rattle.mk_session.specs.declared.status.Status.{Status}
 use Rattle.mk_kept.specs.declared.stored_rows.RowKind.{RowKind}
-use Rattle.mk_edits.specs.Effects.{Answers, Effect, after_effect}
+use Rattle.mk_found.specs.Effects.{Answers, Effect, after_effect}
 use Rattle.mk_session.specs.Run.{after_effects, status_behind, texts, Commands, Does, IsOneLine, NotUnderstood, OneLine, ScriptLong, BadStore, bad_store_text}
-use Rattle.mk_edits.specs.Files.{Look}
+use Rattle.mk_found.specs.Files.{Look}
 use Rattle.mk_laws.specs.Laws.{OneEffect, OneRun}
 use Rattle.mk_session.specs.Orders.{Asked, HasNoBudget, Order, Orders, orders_asked}
 use Rattle.mk_kept.specs.StoredRows.{AllRead}
 use Rattle.mk_kept.proofs.ForCallers.{one_first_bad, reads_not_bad}
 use Rattle.mk_library.specs.Edits.{Load}
 use Rattle.mk_edits.specs.Loading.{loaded_text}
-use Rattle.mk_edits.proofs.OneEditLemmas.{one_edited, one_replace}
-use Rattle.mk_edits.proofs.OneKeepLemmas.{one_forget, one_keep}
+use Rattle.mk_laws.proofs.OneEditLemmas.{one_edited, one_replace}
+use Rattle.mk_laws.proofs.OneKeepLemmas.{one_forget, one_keep}
 use Rattle.mk_laws.proofs.OneListingLemmas.{one_enum, one_table_answer}
 use Rattle.mk_laws.proofs.OneMatchLemmas.{HasLaws, one_match, one_remove, one_show}
 use Rattle.mk_laws.proofs.OneSearchLemmas.{one_resume, one_search}

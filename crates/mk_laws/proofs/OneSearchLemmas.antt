@@ -13,9 +13,9 @@ use Rattle.mk_outside.specs.declared.tables.QueryRow.{QueryRow}
 use Rattle.mk_outside.specs.declared.tables.Tables.{Tables}
 use Rattle.mk_effects.specs.declared.hit_lines.Stop.{Stop}
 use Rattle.mk_effects.specs.declared.hit_lines.Stop.TheVariants as stop
-use Rattle.mk_edits.specs.Effects.{Answers, Effect, Refuses}
+use Rattle.mk_found.specs.Effects.{Answers, Effect, Refuses}
 use Rattle.mk_effects.specs.Hits.{IsHitsText, stop_of}
-use Rattle.mk_edits.specs.Queries.{no_query_text}
+use Rattle.mk_found.specs.Lines.{no_query_text}
 use Rattle.mk_kept.specs.QueryText.{IsQueryOfText}
 use Rattle.mk_kept.specs.Saved.{is_named, HasSearchRoom}
 use Rattle.mk_library.specs.Records.{IsMoleculeAt}

@@ -29,9 +29,9 @@ use Rattle.mk_kept.specs.declared.stored_rows.RowKind.TheVariants.{Cursors, Quer
 use Rattle.mk_session.specs.declared.status.Status.TheVariants as status
 use Rattle.mk_model.specs.Queries.{QueryView}
 use Rattle.mk_kept.specs.Names.{is_name}
-use Rattle.mk_edits.specs.Effects.{Effect, after_effect}
+use Rattle.mk_found.specs.Effects.{Effect, after_effect}
 use Rattle.mk_session.specs.Run.{after_effects, status_behind, texts}
-use Rattle.mk_edits.specs.Files.{Look}
+use Rattle.mk_found.specs.Files.{Look}
 use Rattle.mk_session.specs.Orders.{NoCommand, Order, Orders, TooMuch}
 use Rattle.mk_kept.specs.QueryText.{IsTextSaid}
 use Rattle.mk_session.specs.Run.{BadStore, Commands, Does, HasItsFiles, NotUnderstood, OneLine, ScriptLong, bad_store_text, not_understood_text, script_long_text}

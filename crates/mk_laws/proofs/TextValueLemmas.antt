@@ -14,14 +14,14 @@ use Rattle.mk_rgfile.proofs.ForCallers.{query_keeps}
 use Rattle.mk_rgfile.proofs.QueryFileLemmas.{exact-query_file}
 use Rattle.mk_query.proofs.FaultOrQueryLemmas.{fault_or_query}
 use Rattle.mk_query.proofs.ForCallers.{in_range}
-use Rattle.mk_edits.specs.declared.files.HeldQuery.{HeldQuery}
-use Rattle.mk_edits.specs.declared.files.HeldQuery.TheVariants.{Query, Refused}
+use Rattle.mk_found.specs.declared.files.HeldQuery.{HeldQuery}
+use Rattle.mk_found.specs.declared.files.HeldQuery.TheVariants.{Query, Refused}
 use Rattle.mk_kept.specs.declared.query_text.QueryText.{QueryText}
 use Rattle.mk_kept.specs.declared.query_text.QueryText.TheVariants.{Bad, Compiled, Fails, V3000}
-use Rattle.mk_edits.specs.Answers.{bad_query_text, long_query_text, query_check_text, v3000_query_text}
-use Rattle.mk_edits.specs.Files.{IsLong, IsShort, Look}
-use Rattle.mk_edits.specs.QueryFiles.{BadQueryLine, QueryFailsCheck, QueryTextRefused, QueryTooLong, V3000QueryLine}
-use Rattle.mk_edits.specs.QueryFiles.{IsQueryHeldBy, query_bytes}
+use Rattle.mk_found.specs.Answers.{bad_query_text, long_query_text, query_check_text, v3000_query_text}
+use Rattle.mk_found.specs.Files.{IsLong, IsShort, Look}
+use Rattle.mk_found.specs.QueryFiles.{BadQueryLine, QueryFailsCheck, QueryTextRefused, QueryTooLong, V3000QueryLine}
+use Rattle.mk_found.specs.QueryFiles.{IsQueryHeldBy, query_bytes}
 use Rattle.mk_kept.specs.QueryText.{IsTextSaid}
 
 -- a file that is there is over its limit, or it is read

@@ -9,8 +9,8 @@ use Rattle.std.specs.List.{AllByRecursion}
 use Rattle.mk_outside.specs.declared.tables.Tables.{Tables}
 use Rattle.mk_session.specs.declared.status.Status.{Status}
 use Rattle.mk_session.specs.declared.status.Status.TheVariants as status
-use Rattle.mk_edits.specs.Effects.{Effect}
-use Rattle.mk_edits.specs.Files.{Look}
+use Rattle.mk_found.specs.Effects.{Effect}
+use Rattle.mk_found.specs.Files.{Look}
 use Rattle.mk_session.specs.Outcomes.{IsAllDone}
 use Rattle.mk_session.specs.Orders.{Asked, HasNoBudget, Order, asked, asked_of_script, orders_asked, script_bytes}
 use Rattle.mk_session.specs.Run.{IsRun}

@@ -14,8 +14,8 @@ use Rattle.mk_outside.specs.declared.tables.QueryRow.{QueryRow}
 use Rattle.mk_outside.specs.declared.tables.Tables.{Tables}
 use Rattle.mk_session.specs.declared.status.Status.{Status}
 use Rattle.mk_kept.specs.declared.stored_rows.RowKind.{RowKind}
-use Rattle.mk_edits.specs.Effects.{Effect, after_effect}
-use Rattle.mk_edits.specs.Files.{IsThere, Look}
+use Rattle.mk_found.specs.Effects.{Effect, after_effect}
+use Rattle.mk_found.specs.Files.{IsThere, Look}
 use Rattle.mk_session.specs.Orders.{Asked, Order, orders_asked}
 use Rattle.mk_session.specs.Run.{HasItsFiles, IsRun}
 use Rattle.mk_kept.specs.Saved.{HasMeaning, is_named, longest_place}

@@ -9,8 +9,8 @@ use Rattle.mk_rtable.specs.declared.rows.TableRow.{TableRow}
 use Rattle.mk_rtable.specs.Begins.{BeginsOfTable}
 use Rattle.mk_rtable.specs.Table.{IsRGroupTable}
 use Rattle.mk_rtable.specs.Text.{table_text}
-use Rattle.mk_edits.specs.Effects.{Answers, Effect, Refuses}
-use Rattle.mk_edits.specs.Queries.{no_query_text}
+use Rattle.mk_found.specs.Effects.{Answers, Effect, Refuses}
+use Rattle.mk_found.specs.Lines.{no_query_text}
 use Rattle.mk_library.specs.Records.{IsMoleculeAt}
 use Rattle.mk_kept.specs.Named.{IsQueryNamed}
 use Rattle.mk_kept.specs.Saved.{is_named}

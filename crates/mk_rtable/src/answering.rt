@@ -1,6 +1,6 @@
 // The command `table`.
 ghost use Rattle.std.specs.Prelude.{◌≡◌, IfOk};
-ghost use Rattle.mk_edits.specs.Findings.{FoundFits, effect_of, stands_for};
+ghost use Rattle.mk_found.specs.Findings.{FoundFits, effect_of, stands_for};
 ghost use Rattle.mk_library.specs.Records.{IsMoleculeAt};
 ghost use Rattle.mk_rtable.specs.Answer.{BeginsOfTableAnswer, IsTableAnswer};
 ghost use Rattle.mk_rtable.specs.Begins.{BeginsOfTable};
@@ -9,7 +9,7 @@ ghost use Rattle.mk_rtable.specs.Table.{IsRGroupTable};
 use crate::TableRows;
 use crate::table::r_table;
 use crate::text::put_table;
-use mk_edits::{Found, SessionEdit, no_query};
+use mk_found::{Found, SessionEdit, no_query};
 use mk_kept::Saved;
 use mk_library::Library;
 use mk_model::{Query, Steps};

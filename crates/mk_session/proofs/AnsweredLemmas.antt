@@ -6,7 +6,7 @@ use Rattle.mk_session.specs.declared.status.Status.TheVariants as status
 use Rattle.mk_session.specs.Orders.{Asked, Order, Orders, asked}
 use Rattle.mk_session.specs.Ends.{Unwritten, PutFailed, PutNoMemory, Stopped, FileUnread, Uncommitted, OrderNoMemory, Unanswered, Halts, StoppedAt, NextNoMemory, Goes, AllDone, Halted, Ends, LineWritten, LineUnwritten, Unloaded, FirstNoMemory, Commands as EndsCommands}
 use Rattle.mk_session.specs.Faults.{Faults}
-use Rattle.mk_edits.specs.Files.{Look}
+use Rattle.mk_found.specs.Files.{Look}
 use Rattle.mk_session.specs.Outcomes.{World, WentSo, InputUnread, Ended, IsAnswered, IsWholeRun}
 use Rattle.mk_session.specs.Run.{OneLine, Commands}
 use Rattle.mk_kept.specs.StoredRows.{AllRead}

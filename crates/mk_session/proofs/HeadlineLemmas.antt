@@ -12,10 +12,10 @@ use Rattle.mk_session.specs.declared.work.Given.{Given}
 use Rattle.mk_session.specs.declared.work.Given.TheVariants as given
 use Rattle.mk_words.specs.Commands.{kind_of_words}
 use Rattle.mk_session.specs.Run.{ending_if, texts, IsOneLine, IsRun, Misses, OneLine, Commands, NotUnderstood, ScriptLong, BadStore}
-use Rattle.mk_edits.specs.Effects.{is_refusal}
+use Rattle.mk_found.specs.Effects.{is_refusal}
 use Rattle.mk_session.specs.Ends.{Unwritten, PutFailed, PutNoMemory, Stopped, FileUnread, Uncommitted, OrderNoMemory, Unanswered, Halts, StoppedAt, NextNoMemory, Goes, AllDone, Halted, Ends, LineWritten, LineUnwritten, Unloaded, FirstNoMemory, Commands as EndsCommands}
 use Rattle.mk_session.specs.Faults.{Faults, FilesFailed, OutputFailed, KeeperFailed}
-use Rattle.mk_edits.specs.Files.{Look}
+use Rattle.mk_found.specs.Files.{Look}
 use Rattle.mk_session.specs.Headline.{Headline}
 use Rattle.mk_session.specs.Outcomes.{World, WentSo, InputUnread, Ended, IsQuiet, IsReadOut, IsAllDone, IsInputSame, IsRestSame, IsInputTaken, Done as ReadOutDone, Refused as ReadOutRefused, BadStore as ReadOutBadStore, AllCommandsDone, SomeRefused}
 use Rattle.mk_session.specs.Orders.{Asked, NoCommand, Order, Orders, TooMuch, asked, asked_of, orders_asked}

@@ -9,7 +9,7 @@ use Rattle.mk_kept.specs.Saved.{SavedView}
 use Rattle.mk_kept.specs.StoredRows.{AllRead, RecordsRead}
 use Rattle.mk_session.specs.Opening.{Begins, IsLoaded, IsOpened, is_store}
 use Rattle.mk_kept.specs.Restored.{IsRestored}
-use Rattle.mk_edits.specs.Findings.{stands_for}
+use Rattle.mk_found.specs.Findings.{stands_for}
 
 -- tables that are opened are those that the keeper holds
 pub begins_by : (sound : Type 0) (told told' : Option Tables) (t : Tables) (r : Result Tables BeginFail) → IsLoaded sound told told' t → IsOpened t r → Begins sound told told' r

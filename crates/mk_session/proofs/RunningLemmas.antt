@@ -9,8 +9,8 @@ use Rattle.mk_outside.specs.declared.answers.PutFail.TheVariants as put
 use Rattle.mk_outside.specs.declared.tables.Tables.{Tables}
 use Rattle.mk_outside.specs.Told.{Puts, AppendsPrefix}
 use Rattle.mk_session.specs.declared.status.Ended.{Ended}
-use Rattle.mk_edits.specs.declared.effect.StepFail.{StepFail}
-use Rattle.mk_edits.specs.declared.effect.StepFail.TheVariants as fail
+use Rattle.mk_found.specs.declared.effect.StepFail.{StepFail}
+use Rattle.mk_found.specs.declared.effect.StepFail.TheVariants as fail
 use Rattle.mk_words.specs.declared.command.Command.{Command}
 use Rattle.mk_words.specs.declared.command.WordsKind.{WordsKind}
 use Rattle.mk_words.specs.declared.command.WordsKind.TheVariants as words_kind
@@ -22,11 +22,11 @@ use Rattle.mk_words.specs.Commands.{kind_of_words}
 use Rattle.mk_session.specs.Outcomes.{IsUntouched}
 use Rattle.mk_session.specs.declared.status.Status.{Status}
 use Rattle.mk_session.specs.declared.status.Status.TheVariants as status
-use Rattle.mk_edits.specs.Effects.{Answers, Effect, Refuses, is_refusal, text_answered}
+use Rattle.mk_found.specs.Effects.{Answers, Effect, Refuses, is_refusal, text_answered}
 use Rattle.mk_session.specs.Ends.{Ends, StoppedAt, FileUnread, Uncommitted, Unanswered, OrderNoMemory, NextNoMemory, PutFailed, PutNoMemory, LineWritten, LineUnwritten, FirstNoMemory, Unloaded}
 use Rattle.mk_session.specs.Status.{IsStatusOf}
 use Rattle.mk_session.specs.Faults.{Faults}
-use Rattle.mk_edits.specs.Files.{Look}
+use Rattle.mk_found.specs.Files.{Look}
 use Rattle.mk_session.specs.Orders.{Asked, Order, Orders, orders_asked}
 use Rattle.mk_session.specs.Run.{After, IsOneLine, BadStore, bad_store_text}
 use Rattle.mk_session.specs.Opening.{IsBad, IsHeldByKeeper, IsLoaded}

@@ -8,16 +8,16 @@ use Rattle.mk_outside.specs.declared.tables.Tables.{Tables}
 use Rattle.mk_outside.specs.Tables.{after_batch}
 use Rattle.mk_library.specs.Library.{IsSame, LibraryView}
 use Rattle.mk_session.specs.declared.status.Ended.{Ended}
-use Rattle.mk_edits.specs.declared.effect.StepFail.{StepFail}
+use Rattle.mk_found.specs.declared.effect.StepFail.{StepFail}
 use Rattle.mk_kept.specs.Saved.{IsSameSaved, SavedView, saved_tables}
-use Rattle.mk_edits.specs.Files.{Look}
+use Rattle.mk_found.specs.Files.{Look}
 use Rattle.mk_session.specs.Orders.{Order}
 use Rattle.mk_session.specs.Stepping.{ChangeCounts, IsStepped, StepCounts}
-use Rattle.mk_edits.specs.Findings.{changes_of, stands_for}
+use Rattle.mk_found.specs.Findings.{changes_of, stands_for}
 use Rattle.mk_session.specs.Step.{Comes}
-use Rattle.mk_edits.specs.Effects.{Answers}
-use Rattle.mk_edits.specs.Fails.{IsStepFailOfKeep}
-use Rattle.mk_edits.specs.declared.effect.SessionEdit.{SessionEdit}
+use Rattle.mk_found.specs.Effects.{Answers}
+use Rattle.mk_found.specs.Fails.{IsStepFailOfKeep}
+use Rattle.mk_found.specs.declared.effect.SessionEdit.{SessionEdit}
 use Rattle.mk_outside.specs.declared.answers.KeepFail.{KeepFail}
 use Rattle.mk_outside.specs.declared.answers.KeepFail.TheVariants as keep
 use Rattle.mk_kept.specs.SavedPending.{IsOfSaved}

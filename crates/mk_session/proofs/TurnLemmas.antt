@@ -11,16 +11,16 @@ use Rattle.mk_text.specs.declared.cutting.Span.{Span}
 use Rattle.mk_text.specs.Spans.{parts}
 use Rattle.mk_outside.specs.declared.tables.Tables.{Tables}
 use Rattle.mk_session.specs.declared.status.Status.{Status}
-use Rattle.mk_edits.specs.Effects.{Effect, after_effect, is_refusal, text_answered}
+use Rattle.mk_found.specs.Effects.{Effect, after_effect, is_refusal, text_answered}
 use Rattle.mk_session.specs.Run.{after_effects, texts, Does, After, HasItsFiles, Misses}
 use Rattle.mk_session.specs.Ends.{Halts, StoppedAt, NextNoMemory, Stopped}
 use Rattle.mk_session.specs.Faults.{Faults}
-use Rattle.mk_edits.specs.Files.{Look}
+use Rattle.mk_found.specs.Files.{Look}
 use Rattle.mk_words.specs.declared.command.LineKind.{LineKind}
 use Rattle.mk_words.specs.Commands.{kind_of_line}
 use Rattle.mk_session.specs.Orders.{Order, orders_of, orders_of_kind, orders_of_line}
 use Rattle.mk_session.specs.Turns.{IsDoneAll, IsHalted, Turns}
-use Rattle.mk_edits.specs.Findings.{MissesAt}
+use Rattle.mk_found.specs.Findings.{MissesAt}
 use Rattle.mk_session.specs.Step.{Reaches}
 
 -- ---- some orders, and then more

@@ -9,10 +9,10 @@ use Rattle.mk_outside.specs.declared.tables.Tables.{Tables}
 use Rattle.mk_outside.specs.declared.tables.Change.{Change}
 use Rattle.mk_session.specs.declared.status.Status.{Status}
 use Rattle.mk_session.specs.declared.status.Status.TheVariants as status
-use Rattle.mk_edits.specs.Effects.{Answers, Effect, after_effect, text_answered}
+use Rattle.mk_found.specs.Effects.{Answers, Effect, after_effect, text_answered}
 use Rattle.mk_session.specs.Run.{after_effects, status_behind, texts, After, Does, IsOneLine}
 use Rattle.mk_session.specs.Faults.{Faults, FilesFailed, OutputFailed, KeeperFailed}
-use Rattle.mk_edits.specs.Files.{Look}
+use Rattle.mk_found.specs.Files.{Look}
 use Rattle.mk_session.specs.Orders.{Asked, Order, Orders}
 use Rattle.mk_session.specs.Step.{Comes, Reaches}
 use Rattle.mk_kept.specs.StoredRows.{AllRead}

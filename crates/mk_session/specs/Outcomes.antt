@@ -21,7 +21,7 @@ use Rattle.mk_session.specs.declared.status.Status.TheVariants as status
 use Rattle.mk_words.specs.Commands.{kind_of_words}
 use Rattle.mk_session.specs.Ends.{Ends}
 use Rattle.mk_session.specs.Faults.{Faults}
-use Rattle.mk_edits.specs.Files.{Look}
+use Rattle.mk_found.specs.Files.{Look}
 use Rattle.mk_session.specs.Orders.{Asked, asked, read_bytes, script_bytes}
 use Rattle.mk_session.specs.Run.{IsRun}
 

@@ -12,10 +12,10 @@ use Rattle.std.specs.List.{list_any, flat_map}
 use Rattle.mk_outside.specs.declared.tables.Tables.{Tables}
 use Rattle.mk_session.specs.declared.status.Status.{Status}
 use Rattle.mk_session.specs.declared.status.Status.TheVariants as status
-use Rattle.mk_edits.specs.Effects.{Effect, text_answered, after_effect, is_refusal}
+use Rattle.mk_found.specs.Effects.{Effect, text_answered, after_effect, is_refusal}
 use Rattle.mk_kept.specs.declared.stored_rows.RowKind.{RowKind}
 use Rattle.mk_kept.specs.declared.stored_rows.RowKind.TheVariants.{Records, Queries, Cursors}
-use Rattle.mk_edits.specs.Files.{IsThere, Look}
+use Rattle.mk_found.specs.Files.{IsThere, Look}
 use Rattle.mk_session.specs.Orders.{Order, Asked, NoCommand, TooMuch, Orders}
 use Rattle.mk_session.specs.Step.{Comes, Reaches}
 use Rattle.mk_kept.specs.StoredRows.{AllRead, IsFirstBad}

@@ -12,7 +12,7 @@ use Rattle.mk_session.specs.declared.work.Work.{Work}
 use Rattle.mk_session.specs.declared.work.Work.TheVariants as work
 use Rattle.mk_session.specs.Ends.{Ends}
 use Rattle.mk_session.specs.Faults.{Faults}
-use Rattle.mk_edits.specs.Files.{Look}
+use Rattle.mk_found.specs.Files.{Look}
 use Rattle.mk_session.specs.Outcomes.{Agrees}
 use Rattle.mk_session.specs.Orders.{Asked, Order, Orders, orders_asked}
 use Rattle.mk_session.specs.Run.{Misses}

@@ -4,8 +4,8 @@
 use Rattle.std.specs.Prelude.{ℕ, ◌≡◌}
 use Rattle.mk_session.specs.declared.status.Status.{Status}
 use Rattle.mk_session.specs.declared.status.Status.TheVariants.{Done, Refused, Words, Read, Write, Store, Memory, BadStore, ScriptLong}
-use Rattle.mk_edits.specs.declared.effect.StepFail.{StepFail}
-use Rattle.mk_edits.specs.declared.effect.StepFail.TheVariants as step
+use Rattle.mk_found.specs.declared.effect.StepFail.{StepFail}
+use Rattle.mk_found.specs.declared.effect.StepFail.TheVariants as step
 use Rattle.mk_session.specs.declared.status.Status.TheVariants as status
 
 -- the exit status of the program

@@ -7,8 +7,8 @@
 use Rattle.std.specs.Prelude.{◌≡◌, ℕ, List, [], Option, Some, None, codes}
 use Rattle.mk_outside.specs.declared.tables.Tables.{Tables}
 use Rattle.mk_words.specs.declared.command.Command.TheVariants as variant
-use Rattle.mk_edits.specs.Effects.{Answers, Effect, Refuses}
-use Rattle.mk_edits.specs.Files.{Look}
+use Rattle.mk_found.specs.Effects.{Answers, Effect, Refuses}
+use Rattle.mk_found.specs.Files.{Look}
 use Rattle.mk_edits.specs.Loading.{IsLoad, IsReplace, IsTurnOfReplace}
 use Rattle.mk_effects.specs.Match.{IsMatch, IsTurnOfMatch}
 use Rattle.mk_session.specs.Orders.{Order}

@@ -6,8 +6,8 @@ use Rattle.mk_outside.specs.declared.tables.Tables.{Tables}
 use Rattle.mk_words.specs.declared.command.Command.{Command}
 use Rattle.mk_words.specs.declared.command.Command.TheVariants as variant
 use Rattle.mk_session.specs.declared.status.Ended.{Ended}
-use Rattle.mk_edits.specs.Effects.{Effect, text_answered}
-use Rattle.mk_edits.specs.Files.{Look}
+use Rattle.mk_found.specs.Effects.{Effect, text_answered}
+use Rattle.mk_found.specs.Files.{Look}
 use Rattle.mk_effects.specs.Ticks.{BeginsOfResume, BeginsOfSearch}
 use Rattle.mk_rtable.specs.Answer.{BeginsOfTableAnswer}
 use Rattle.mk_session.specs.Step.{Comes}

@@ -10,14 +10,14 @@ use Rattle.mk_outside.specs.declared.answers.KeepFail.{KeepFail}
 use Rattle.mk_outside.specs.declared.answers.KeepFail.TheVariants as keep
 use Rattle.mk_session.specs.declared.status.Ended.{Ended}
 use Rattle.mk_session.specs.declared.status.Ended.TheVariants as ended
-use Rattle.mk_edits.specs.declared.effect.Found.{Found}
-use Rattle.mk_edits.specs.declared.effect.StepFail.{StepFail}
-use Rattle.mk_edits.specs.declared.effect.StepFail.TheVariants as fail
-use Rattle.mk_edits.specs.Effects.{Answers, Effect, Refuses, after_effect, text_answered}
-use Rattle.mk_edits.specs.Files.{Look}
+use Rattle.mk_found.specs.declared.effect.Found.{Found}
+use Rattle.mk_found.specs.declared.effect.StepFail.{StepFail}
+use Rattle.mk_found.specs.declared.effect.StepFail.TheVariants as fail
+use Rattle.mk_found.specs.Effects.{Answers, Effect, Refuses, after_effect, text_answered}
+use Rattle.mk_found.specs.Files.{Look}
 use Rattle.mk_session.specs.Orders.{Order}
 use Rattle.mk_session.specs.Step.{Comes, Reaches}
-use Rattle.mk_edits.specs.Findings.{IsReached, SeeksSo}
+use Rattle.mk_found.specs.Findings.{IsReached, SeeksSo}
 
 abbrev pub Seeks : Option Look → Tables → Order → ℕ → ℕ → Result Found StepFail → Type 0
 Seeks files t order old new result = SeeksSo (Comes files t order) (Reaches files t order) old new result

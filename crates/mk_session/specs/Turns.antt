@@ -4,11 +4,11 @@ use Rattle.std.specs.Prelude.{◌≡◌, ℕ, Bool, List, ◌++◌, Option, Some
 use Rattle.std.specs.List.{list_any}
 use Rattle.mk_outside.specs.declared.tables.Tables.{Tables}
 use Rattle.mk_session.specs.declared.status.Status.{Status}
-use Rattle.mk_edits.specs.Effects.{Effect, is_refusal}
+use Rattle.mk_found.specs.Effects.{Effect, is_refusal}
 use Rattle.mk_session.specs.Run.{after_effects, texts, Does}
 use Rattle.mk_session.specs.Ends.{Halts}
 use Rattle.mk_session.specs.Faults.{Faults}
-use Rattle.mk_edits.specs.Files.{Look}
+use Rattle.mk_found.specs.Files.{Look}
 use Rattle.mk_session.specs.Orders.{Order}
 
 -- all are done

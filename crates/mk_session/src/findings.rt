@@ -6,16 +6,16 @@ ghost use Rattle.mk_library.specs.Library.{IsSame};
 ghost use Rattle.mk_kept.specs.Saved.{IsSameSaved};
 ghost use Rattle.mk_drill.specs.Answer.{IsDrillAnswer};
 ghost use Rattle.mk_session.specs.Step.{Reaches};
-ghost use Rattle.mk_edits.specs.Findings.{FoundFits, MissesAt, effect_of, stands_for};
+ghost use Rattle.mk_found.specs.Findings.{FoundFits, MissesAt, effect_of, stands_for};
 ghost use Rattle.mk_session.specs.Stepping.{Seeks};
 ghost use Rattle.mk_session.specs.StepTicks.{BeginsOfCommand};
 
 use mk_drill::drill_found;
 use mk_edits::{
-    Found, StepFail, forget_found, keep_found, list_found, load_found, remove_found, replace_found,
-    show_found,
+    forget_found, keep_found, list_found, load_found, remove_found, replace_found, show_found,
 };
 use mk_effects::{enum_found, match_found, resume_found, search_found};
+use mk_found::{Found, StepFail};
 use mk_kept::Saved;
 use mk_library::Library;
 use mk_model::Steps;

@@ -21,7 +21,7 @@ mod stepping;
 mod work;
 
 pub use mk_drill::drill;
-pub use mk_edits::StepFail;
+pub use mk_found::StepFail;
 pub use mk_kept::{BeginFail, RowKind};
 pub use mk_text::Memory;
 pub use mk_words::{

@@ -3,7 +3,7 @@ ghost use Rattle.std.specs.Prelude.{◌≡◌, ◌<◌, ◌∷◌, [], Some};
 ghost use Rattle.mk_session.specs.Run.{Misses};
 ghost use Rattle.mk_session.specs.Given.{CanAskOrder};
 ghost use Rattle.mk_session.specs.Running.{IsUnread};
-ghost use Rattle.mk_edits.specs.Findings.{MissesAt};
+ghost use Rattle.mk_found.specs.Findings.{MissesAt};
 ghost use Rattle.mk_session.specs.Stepping.{IsStepped, StepCounts, is_refused_end};
 ghost use Rattle.mk_session.specs.Turns.{Turns};
 ghost use Rattle.mk_session.specs.Step.{Reaches};

@@ -4,7 +4,7 @@ ghost use Rattle.std.specs.String.{string_bytes};
 ghost use Rattle.mk_text.specs.Spans.{parts, AreWithin};
 ghost use Rattle.mk_words.specs.Commands.{kind_of_words};
 ghost use Rattle.mk_session.specs.Run.{ending_if};
-ghost use Rattle.mk_edits.specs.Files.{Look};
+ghost use Rattle.mk_found.specs.Files.{Look};
 ghost use Rattle.mk_session.specs.Headline.{Headline};
 ghost use Rattle.mk_session.specs.Outcomes.{IsUntouched};
 ghost use Rattle.mk_session.specs.Orders.{Order, Orders, orders_of, orders_of_line};

@@ -19,7 +19,7 @@ pub struct Session {
 
 impl Model for Session {
     ghost use Rattle.mk_outside.specs.declared.tables.Tables.{Tables};
-    ghost use Rattle.mk_edits.specs.Findings.{stands_for};
+    ghost use Rattle.mk_found.specs.Findings.{stands_for};
 
     ghost Value = { Tables };
 

@@ -9,12 +9,12 @@ ghost use Rattle.mk_words.specs.Commands.{CanAsk};
 ghost use Rattle.mk_session.specs.Step.{Reaches};
 ghost use Rattle.mk_session.specs.Stepping.{ChangeCounts, IsStepped, StepCounts};
 ghost use Rattle.mk_session.specs.StepTicks.{BeginsOfDone};
-ghost use Rattle.mk_edits.specs.Findings.{EditFits, MissesAt, changes_of, stands_for};
+ghost use Rattle.mk_found.specs.Findings.{EditFits, MissesAt, changes_of, stands_for};
 
 use crate::findings::found_of;
 use crate::session::Session;
 use crate::{Command, Ended, StepFail};
-use mk_edits::{Found, SessionEdit};
+use mk_found::{Found, SessionEdit};
 use mk_kept::{Saved, SavedPending};
 use mk_library::{Library, Pending, records_change_alone};
 use mk_model::Steps;

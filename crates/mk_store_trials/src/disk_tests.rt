@@ -1,5 +1,7 @@
 // A keeper over disks in memory, which are opened again, and stopped at each of their calls.
 use crate::keeper_tests::{loaded, put_first, put_second};
+use crate::script_tests::{commands_answered, is_listed};
+use mk_outside::Keeper;
 use mk_sqlite::{SqlKeeper, again};
 use sqlite::{Connection, FileStore, Files, Options};
 use sqlite_disk::{Crash, Fuse, Memory};
@@ -8,7 +10,7 @@ use std::test::Fail;
 
 pub type Fused = Fuse<Memory>;
 
-pub type FusedKeeper = SqlKeeper<FileStore<Fused>>;
+type FusedKeeper = SqlKeeper<FileStore<Fused>>;
 
 // An empty log and an empty database, which stop after so many calls.
 pub fn files(alloc: Global, log: u64, db: u64) -> Files<Fused> {
@@ -19,7 +21,7 @@ pub fn files(alloc: Global, log: u64, db: u64) -> Files<Fused> {
 }
 
 // A keeper over the files, or else the files.
-pub fn opened(alloc: Global, files: Files<Fused>) -> Result<FusedKeeper, Files<Fused>> {
+fn opened(alloc: Global, files: Files<Fused>) -> Result<FusedKeeper, Files<Fused>> {
     if !files.may_be_used() {
         return Err(files);
     }
@@ -30,7 +32,7 @@ pub fn opened(alloc: Global, files: Files<Fused>) -> Result<FusedKeeper, Files<F
 }
 
 // The files of a keeper, whether they could be closed well or not.
-pub fn closed(keeper: FusedKeeper) -> Option<Files<Fused>> {
+fn closed(keeper: FusedKeeper) -> Option<Files<Fused>> {
     match keeper.back() {
         Some(connection) => match connection.close_files() {
             Ok(files) => Some(files),
@@ -40,44 +42,121 @@ pub fn closed(keeper: FusedKeeper) -> Option<Files<Fused>> {
     }
 }
 
+// The files after a stop: what was not yet safe is lost, and they take calls again.
+fn restarted(mut files: Files<Fused>) -> Files<Fused> {
+    files.log.crash();
+    files.db.crash();
+    files
+}
+
+/// What is done with a keeper.
+#[derive(Clone, Copy)]
+pub enum Task {
+    /// Both batches are put.
+    Put,
+    /// The tables are loaded.
+    Load,
+    /// A script of three commands is run.
+    Run,
+    /// The tables are listed, which so many commands made, or one more.
+    List { commands: usize },
+}
+
+/// What came of it: how many batches were made or commands answered, or 1 where the tables are
+/// listed so and 0 where they aren't, and none where the run ended otherwise; and what was loaded.
+#[derive(Drop)]
+pub struct Done {
+    pub count: Option<usize>,
+    pub loaded: Vec<u8>,
+}
+
 // How many of the two batches were made.
-fn made(keeper: &mut FusedKeeper, alloc: Global) -> Result<usize, AllocError> {
+fn put_both<K: Keeper>(keeper: &mut K, alloc: Global) -> Result<usize, AllocError> {
     if !put_first(keeper, alloc)? {
         return Ok(0);
     }
     Ok(if put_second(keeper, alloc)? { 2 } else { 1 })
 }
 
-// The files after a stop: what was not yet safe is lost, and they take calls again.
-pub fn restarted(mut files: Files<Fused>) -> Files<Fused> {
-    files.log.crash();
-    files.db.crash();
-    files
+fn count_of<K: Keeper>(
+    alloc: Global,
+    keeper: &mut K,
+    task: Task,
+) -> Result<Option<usize>, AllocError> {
+    match task {
+        Task::Put => Ok(Some(put_both(keeper, alloc)?)),
+        Task::Load => Ok(Some(0)),
+        Task::Run => commands_answered(alloc, keeper),
+        Task::List { commands } => Ok(Some(usize::from(is_listed(alloc, keeper, commands)?))),
+    }
 }
 
-// How many batches were made over a keeper, and its files afterwards. A keeper has one way out in
-// each function here, since the prover goes through all that is let go at each of them.
-fn made_and_closed(alloc: Global, mut keeper: FusedKeeper) -> Result<(usize, Files<Fused>), Fail> {
-    let made = made(&mut keeper, alloc);
+fn do_task<K: Keeper>(alloc: Global, keeper: &mut K, task: Task) -> Result<Done, AllocError> {
+    let count = count_of(alloc, keeper, task)?;
+    let loaded = match task {
+        Task::Load => loaded(keeper, alloc)?,
+        _ => Vec::new(alloc),
+    };
+    Ok(Done { count, loaded })
+}
+
+// The one place where a keeper over such files is taken for any keeper: each such place takes the
+// prover twenty seconds.
+fn done_over(alloc: Global, keeper: &mut FusedKeeper, task: Task) -> Result<Done, AllocError> {
+    do_task(alloc, keeper, task)
+}
+
+// What is done over a keeper, and its files afterwards. A keeper has one way out in each function
+// here, since the prover goes through all that is let go at each of them.
+fn done_and_closed(
+    alloc: Global,
+    mut keeper: FusedKeeper,
+    task: Task,
+) -> Result<(Done, Files<Fused>), Fail> {
+    let done = done_over(alloc, &mut keeper, task);
     let files = closed(keeper).ok_or("no files")?;
-    Ok((made?, files))
+    Ok((done?, files))
 }
 
-fn loaded_by(alloc: Global, mut keeper: FusedKeeper) -> Result<Vec<u8>, AllocError> {
-    loaded(&mut keeper, alloc)
+/// What is done over the files, and the files afterwards. Where they can't be opened nothing is.
+pub fn done_in(
+    alloc: Global,
+    files: Files<Fused>,
+    task: Task,
+) -> Result<(Option<Done>, Files<Fused>), Fail> {
+    match opened(alloc, files) {
+        Ok(keeper) => {
+            let (done, files) = done_and_closed(alloc, keeper, task)?;
+            Ok((Some(done), files))
+        }
+        Err(files) => Ok((None, files)),
+    }
+}
+
+/// What is done over the files once they take calls again.
+pub fn done_again(alloc: Global, files: Files<Fused>, task: Task) -> Result<Done, Fail> {
+    let (done, _files) = done_in(alloc, restarted(files), task)?;
+    Ok(done.ok_or("files that can't be opened again")?)
+}
+
+/// How much of a task came about, and the files afterwards.
+pub fn count_in(
+    alloc: Global,
+    files: Files<Fused>,
+    task: Task,
+) -> Result<(usize, Files<Fused>), Fail> {
+    let (done, files) = done_in(alloc, files, task)?;
+    match done {
+        Some(done) => Ok((done.count.ok_or("a run that ends otherwise")?, files)),
+        None => Ok((0, files)),
+    }
 }
 
 // How many batches were made over files that stop after so many calls, and what is loaded of them
 // afterwards.
 fn stopped(alloc: Global, log: u64, db: u64) -> Result<(usize, Vec<u8>), Fail> {
-    let (made, files) = match opened(alloc, files(alloc, log, db)) {
-        Ok(keeper) => made_and_closed(alloc, keeper)?,
-        Err(files) => (0, files),
-    };
-    match opened(alloc, restarted(files)) {
-        Ok(keeper) => Ok((made, loaded_by(alloc, keeper)?)),
-        Err(_files) => Err(Fail::new("files that can't be opened again")),
-    }
+    let (made, files) = count_in(alloc, files(alloc, log, db), Task::Put)?;
+    Ok((made, done_again(alloc, files, Task::Load)?.loaded))
 }
 
 // What is loaded after none, one and both of the batches.
@@ -130,10 +209,10 @@ fn a_stopped_database_leaves_whole_batches(rt: HostRuntime) -> Result<(), Fail> 
 
 // Whether both batches are made, and are there once the keeper is opened again.
 fn is_kept_again(alloc: Global, mut keeper: FusedKeeper) -> Result<bool, Fail> {
-    let made = made(&mut keeper, alloc);
+    let made = done_over(alloc, &mut keeper, Task::Put);
     let keeper = again(alloc, keeper, Options::new(7)).ok_or("a keeper")?;
-    let left = loaded_by(alloc, keeper)?;
-    Ok(made? == 2 && is_left(left.as_slice(), 2))
+    let (left, _files) = done_and_closed(alloc, keeper, Task::Load)?;
+    Ok(made?.count == Some(2) && is_left(left.loaded.as_slice(), 2))
 }
 
 #[test]

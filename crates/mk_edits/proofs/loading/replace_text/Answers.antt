@@ -2,9 +2,9 @@ use Rattle.std.proofs.Common.{◌∙◌, ap}
 use Rattle.mk_library.specs.Edits.{Replace}
 use Rattle.mk_library.specs.FirstRefusal.{EditDemands, IsFirstRefusal}
 use Rattle.mk_library.specs.Pending.{PendingView}
-use Rattle.mk_edits.specs.Effects.{Answers, Refuses}
-use Rattle.mk_edits.specs.MoleculeFiles.{GoesByMolecules, MoleculesRefused}
-use Rattle.mk_edits.proofs.LoadingLemmas.{no_number, refused_first}
+use Rattle.mk_found.specs.Effects.{Answers, Refuses}
+use Rattle.mk_found.specs.MoleculeFiles.{GoesByMolecules, MoleculesRefused}
+use Rattle.mk_found.proofs.FileLineLemmas.{no_number, refused_first}
 use Rattle.mk_edits.proofs.loading.replace_text.Goals as goal
 
 pub file_line-requires : goal.file_line-requires

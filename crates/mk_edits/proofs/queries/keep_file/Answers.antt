@@ -1,6 +1,6 @@
 use Rattle.std.proofs.Common.{refl}
 use Rattle.mk_edits.specs.Queries.{FileIsRefused}
-use Rattle.mk_edits.proofs.QueryFilesLemmas.{refused_by}
+use Rattle.mk_found.proofs.QueryFilesLemmas.{refused_by}
 use Rattle.mk_edits.proofs.queries.keep_file.Goals as goal
 
 pub returns-in-Refused-clause-comes : goal.returns-in-Refused-clause-comes

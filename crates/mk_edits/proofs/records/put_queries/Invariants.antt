@@ -1,7 +1,8 @@
 use Rattle.std.proofs.Common.{◌≡◌, ◌++◌, length}
 use Rattle.std.specs.Prelude.{codes}
 use Rattle.std.specs.List.{flat_map}
-use Rattle.mk_edits.specs.Records.{query_line, numbered_line}
+use Rattle.mk_edits.specs.Records.{query_line}
+use Rattle.mk_found.specs.Lines.{numbered_line}
 use Rattle.mk_kept.specs.Saved.{rows_of}
 use Rattle.mk_edits.proofs.records.put_queries.Given as goal
 

@@ -1,5 +1,5 @@
 use Rattle.std.proofs.Common.{[], ap}
-use Rattle.mk_edits.specs.Effects.{Answers}
+use Rattle.mk_found.specs.Effects.{Answers}
 use Rattle.mk_edits.specs.Records.{Shows}
 use Rattle.mk_edits.proofs.records.show_found.Goals as goal
 

@@ -1,7 +1,7 @@
 use Rattle.std.proofs.Common.{[], ap, length, nat_lt}
 use Rattle.mk_text.specs.Rising.{AreFirst}
 use Rattle.mk_model.specs.Keys.{IsKey}
-use Rattle.mk_edits.specs.Effects.{Answers}
+use Rattle.mk_found.specs.Effects.{Answers}
 use Rattle.mk_effects.specs.Hits.{IsHitsText, stop_of}
 use Rattle.mk_effects.specs.Match.{IsRecord1}
 use Rattle.mk_effects.proofs.HitLinesLemmas.{have_parts}

@@ -1,8 +1,8 @@
 use Rattle.std.proofs.Common.{refl}
 use Rattle.mk_effects.specs.Match.{IsMatch, IsTurnOfMatch, QueryRefused, TurnOfQuery}
 use Rattle.mk_effects.proofs.MatchLemmas.{matched, misses_both}
-use Rattle.mk_edits.proofs.QueryFilesLemmas.{query_held_by}
-use Rattle.mk_edits.proofs.FindingsLemmas.{seek_failed}
+use Rattle.mk_found.proofs.QueryFilesLemmas.{query_held_by}
+use Rattle.mk_found.proofs.FindingsLemmas.{seek_failed}
 use Rattle.mk_effects.proofs.matching.match_found.Goals as goal
 
 pub returns-in-Err-clause-sought : goal.returns-in-Err-clause-sought

@@ -1,7 +1,7 @@
 use Rattle.std.proofs.Common.{refl}
 use Rattle.mk_effects.specs.Match.{IsSearchOfFile}
-use Rattle.mk_edits.specs.Files.{IsTurnOf}
-use Rattle.mk_edits.proofs.FindingsLemmas.{seek_failed}
+use Rattle.mk_found.specs.Files.{IsTurnOf}
+use Rattle.mk_found.proofs.FindingsLemmas.{seek_failed}
 use Rattle.mk_effects.proofs.matching.search_file.Goals as goal
 
 pub returns-in-Err-clause-sought : goal.returns-in-Err-clause-sought

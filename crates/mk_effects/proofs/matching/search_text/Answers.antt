@@ -1,9 +1,9 @@
 use Rattle.std.proofs.Common.{ap}
 use Rattle.mk_library.specs.declared.molecules.OneRecord.{OneRecord}
 use Rattle.mk_library.specs.FirstRefusal.{FileDemands, IsFirstFileRefusal}
-use Rattle.mk_edits.specs.Effects.{Refuses}
-use Rattle.mk_edits.specs.MoleculeFiles.{MoleculesRefused}
-use Rattle.mk_edits.proofs.LoadingLemmas.{no_number, refused_first}
+use Rattle.mk_found.specs.Effects.{Refuses}
+use Rattle.mk_found.specs.MoleculeFiles.{MoleculesRefused}
+use Rattle.mk_found.proofs.FileLineLemmas.{no_number, refused_first}
 use Rattle.mk_effects.proofs.MatchLemmas.{lists_of_file}
 use Rattle.mk_effects.proofs.matching.search_text.Goals as goal
 

@@ -2,7 +2,7 @@ use Rattle.std.proofs.Common.{◌≡◌, ◌∙◌, ap, refl, subst, List}
 use Rattle.mk_outside.specs.declared.tables.Change.{Change}
 use Rattle.mk_outside.specs.declared.tables.CursorRow.{CursorRow}
 use Rattle.mk_effects.specs.declared.hit_lines.Stop.{Stop}
-use Rattle.mk_edits.specs.Effects.{Answers}
+use Rattle.mk_found.specs.Effects.{Answers}
 use Rattle.mk_effects.specs.Searching.{HasListing, IsListing, ListsRest, MovesPlace}
 use Rattle.mk_kept.specs.Named.{IsQueryNamed}
 use Rattle.mk_effects.proofs.HitLinesLemmas.{goes_on}

@@ -3,7 +3,7 @@ use Rattle.mk_kept.specs.Saved.{HasSearchRoom}
 use Rattle.mk_effects.specs.declared.hit_lines.Stop.{Stop}
 use Rattle.mk_effects.specs.Searching.{HasListing, IsListing, IsSearch, ListsAll, SavesPlace, SearchesAreFull, full_searches_text}
 use Rattle.mk_kept.specs.Named.{IsQueryNamed}
-use Rattle.mk_edits.specs.Findings.{stands_for}
+use Rattle.mk_found.specs.Findings.{stands_for}
 use Rattle.mk_kept.proofs.ForCallers.{named_of}
 use Rattle.mk_effects.proofs.SearchingLemmas.{put_fits, refused_if}
 use Rattle.mk_effects.proofs.HitLinesLemmas.{goes_on}

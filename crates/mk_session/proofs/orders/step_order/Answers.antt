@@ -1,6 +1,6 @@
 use Rattle.std.proofs.Common.{refl}
 use Rattle.std.specs.Prelude.{codes}
-use Rattle.mk_edits.specs.Effects.{Refuses}
+use Rattle.mk_found.specs.Effects.{Refuses}
 use Rattle.mk_session.proofs.orders.step_order.Goals as goal
 
 pub returns-clause-stepped : goal.returns-clause-stepped

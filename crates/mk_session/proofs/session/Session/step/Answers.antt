@@ -1,6 +1,6 @@
 use Rattle.std.proofs.Common.{Some, ◌∙◌, subst}
 use Rattle.mk_outside.specs.declared.tables.Tables.{Tables}
-use Rattle.mk_edits.specs.Findings.{MissesAt}
+use Rattle.mk_found.specs.Findings.{MissesAt}
 use Rattle.mk_session.specs.Step.{Reaches}
 use Rattle.mk_session.proofs.SteppingLemmas.{same_tables, step_counted, stepped_err}
 use Rattle.std.proofs.lemmas.Result.{err_from_is_err_and}

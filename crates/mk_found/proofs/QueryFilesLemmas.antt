@@ -2,10 +2,10 @@
 --     query_held_by    what is made of a file that was read, or found too long, is made of the file
 --     refused_by       a file that is refused once it is read
 use Rattle.std.proofs.Common.{ℕ, List, Option, Some, None}
-use Rattle.mk_edits.specs.declared.files.HeldQuery.{HeldQuery}
-use Rattle.mk_edits.specs.declared.files.HeldQuery.TheVariants.{Query, Refused}
-use Rattle.mk_edits.specs.Files.{IsFoundAs, Look}
-use Rattle.mk_edits.specs.QueryFiles.{IsHeldQuery, IsQueryHeldBy, QueryTextRefused, QueryTooLong, query_bytes, IsQueryRefused}
+use Rattle.mk_found.specs.declared.files.HeldQuery.{HeldQuery}
+use Rattle.mk_found.specs.declared.files.HeldQuery.TheVariants.{Query, Refused}
+use Rattle.mk_found.specs.Files.{IsFoundAs, Look}
+use Rattle.mk_found.specs.QueryFiles.{IsHeldQuery, IsQueryHeldBy, QueryTextRefused, QueryTooLong, query_bytes, IsQueryRefused}
 
 -- what is made of a file that was read, or found too long
 pub query_held_by : (files : Option Look) (name : List ℕ) (found : Option (List ℕ)) (held : HeldQuery) → IsFoundAs files query_bytes name found → IsHeldQuery found held → IsQueryHeldBy files name held

@@ -1,7 +1,7 @@
 // What a command comes to, and why it came to no end.
 ghost use Rattle.std.specs.Prelude.{◌≡◌};
-ghost use Rattle.mk_edits.specs.declared.effect.StepFail.TheVariants as step_fail;
-ghost use Rattle.mk_edits.specs.Fails.{IsStepFailOf, IsStepFailOfKeep};
+ghost use Rattle.mk_found.specs.declared.effect.StepFail.TheVariants as step_fail;
+ghost use Rattle.mk_found.specs.Fails.{IsStepFailOf, IsStepFailOfKeep};
 
 use mk_kept::SavedPending;
 use mk_library::Pending;

@@ -7,10 +7,10 @@
 use Rattle.std.specs.Prelude.{◌≡◌, ℕ, List, Option, Some, None}
 use Rattle.mk_model.specs.Queries.{QueryView}
 use Rattle.mk_query.specs.declared.compile_fault.FaultAt.{FaultAt}
-use Rattle.mk_edits.specs.declared.files.HeldQuery.{HeldQuery}
-use Rattle.mk_edits.specs.declared.files.HeldQuery.TheVariants.{Query, Refused}
-use Rattle.mk_edits.specs.Answers.{bad_query_text, long_query_text, query_check_text, v3000_query_text}
-use Rattle.mk_edits.specs.Files.{IsLong, IsShort, Look}
+use Rattle.mk_found.specs.declared.files.HeldQuery.{HeldQuery}
+use Rattle.mk_found.specs.declared.files.HeldQuery.TheVariants.{Query, Refused}
+use Rattle.mk_found.specs.Answers.{bad_query_text, long_query_text, query_check_text, v3000_query_text}
+use Rattle.mk_found.specs.Files.{IsLong, IsShort, Look}
 use Rattle.mk_kept.specs.QueryText.{IsQueryOfText, IsBadLineOfText, IsV3000LineOfText, IsFaultOfText}
 
 -- ---- a text

@@ -5,8 +5,8 @@ use Rattle.mk_outside.specs.declared.answers.FileFail.{FileFail}
 use Rattle.mk_outside.specs.declared.answers.FileFail.TheVariants as file
 use Rattle.mk_outside.specs.declared.answers.KeepFail.{KeepFail}
 use Rattle.mk_outside.specs.declared.answers.KeepFail.TheVariants as keep
-use Rattle.mk_edits.specs.declared.effect.StepFail.{StepFail}
-use Rattle.mk_edits.specs.declared.effect.StepFail.TheVariants as step
+use Rattle.mk_found.specs.declared.effect.StepFail.{StepFail}
+use Rattle.mk_found.specs.declared.effect.StepFail.TheVariants as step
 
 -- a read that failed is a command that couldn't read
 abbrev pub IsStepFailOf : FileFail → StepFail → Type 0

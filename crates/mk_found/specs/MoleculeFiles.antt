@@ -7,9 +7,9 @@ use Rattle.std.specs.Prelude.{◌≡◌, ℕ, List, Option, if◌then◌else◌}
 use Rattle.mk_library.specs.declared.refusal.LoadRefusal.{LoadRefusal}
 use Rattle.mk_library.specs.declared.refusal.LoadRefusal.TheVariants as refusal
 use Rattle.mk_library.specs.Limits.{file_bytes}
-use Rattle.mk_edits.specs.Answers.{bad_line_text, check_text, full_text, long_molecules_text, records_text, v3000_text}
-use Rattle.mk_edits.specs.Effects.{Effect, Refuses}
-use Rattle.mk_edits.specs.Files.{IsLong, IsShort, Look}
+use Rattle.mk_found.specs.Answers.{bad_line_text, check_text, full_text, long_molecules_text, records_text, v3000_text}
+use Rattle.mk_found.specs.Effects.{Effect, Refuses}
+use Rattle.mk_found.specs.Files.{IsLong, IsShort, Look}
 
 -- The line with which the file is refused. A number that isn't held and want of memory say nothing
 -- of a file.

@@ -1,7 +1,7 @@
 use Rattle.std.proofs.Common.{◌∙◌}
 use Rattle.mk_query.specs.declared.compile_fault.FaultAt.{FaultAt}
-use Rattle.mk_edits.specs.QueryFiles.{BadQueryLine, QueryFailsCheck, V3000QueryLine}
-use Rattle.mk_edits.proofs.files.judge_said.Goals as goal
+use Rattle.mk_found.specs.QueryFiles.{BadQueryLine, QueryFailsCheck, V3000QueryLine}
+use Rattle.mk_found.proofs.files.judge_said.Goals as goal
 
 pub returns-in_ok-bad_query_line-in-Bad : goal.returns-in_ok-bad_query_line-in-Bad
 returns-in_ok-bad_query_line-in-Bad c = λ text is.

@@ -1,6 +1,6 @@
 // The lines of refusals.
 ghost use Rattle.std.specs.Prelude.{◌≡◌, IfOk};
-ghost use Rattle.mk_edits.specs.Answers.{bad_line_text, bad_query_text, check_text, full_text, long_molecules_text, long_query_text, query_check_text, records_text, v3000_query_text, v3000_text};
+ghost use Rattle.mk_found.specs.Answers.{bad_line_text, bad_query_text, check_text, full_text, long_molecules_text, long_query_text, query_check_text, records_text, v3000_query_text, v3000_text};
 
 use mk_text::{Memory, put_number};
 use std::alloc::Global;

@@ -5,10 +5,10 @@ use Rattle.mk_outside.specs.Counts.{Counts, Rose}
 use Rattle.mk_outside.specs.declared.answers.FileFail.{FileFail}
 use Rattle.mk_outside.specs.declared.answers.FileFail.TheVariants as file
 use Rattle.mk_outside.specs.Told.{is_failed_read}
-use Rattle.mk_edits.specs.declared.effect.StepFail.{StepFail}
-use Rattle.mk_edits.specs.Effects.{Effect}
-use Rattle.mk_edits.specs.Fails.{IsStepFailOf}
-use Rattle.mk_edits.specs.Findings.{SeeksSo}
+use Rattle.mk_found.specs.declared.effect.StepFail.{StepFail}
+use Rattle.mk_found.specs.Effects.{Effect}
+use Rattle.mk_found.specs.Fails.{IsStepFailOf}
+use Rattle.mk_found.specs.Findings.{SeeksSo}
 
 pub seek_failed : {A : Type 0} (Comes : Effect → Type 0) (Turn : List ℕ → Type 0) (name : List ℕ) (old new : ℕ) (fail : FileFail) (f : StepFail) (r : Result A FileFail) → Turn name
     → r ≡ Err fail → Counts (is_failed_read r) old new → IsStepFailOf fail f → SeeksSo Comes Turn old new (Err f)

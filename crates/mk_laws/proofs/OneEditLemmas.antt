@@ -21,10 +21,10 @@ use Rattle.mk_library.specs.FirstRefusal.{Demand, EditDemands, IsFirstFailing, I
 use Rattle.mk_library.specs.FirstRefusal.{held_number, kept_limits, molecules, one_record, sdfile, short_file}
 use Rattle.mk_library.specs.Limits.{file_bytes}
 use Rattle.mk_library.proofs.ForCallers.{one_demand}
-use Rattle.mk_edits.specs.Effects.{Answers, Effect, Refuses}
-use Rattle.mk_edits.specs.Files.{IsLong, IsShort, Look}
+use Rattle.mk_found.specs.Effects.{Answers, Effect, Refuses}
+use Rattle.mk_found.specs.Files.{IsLong, IsShort, Look}
 use Rattle.mk_edits.specs.Loading.{IsEditMade, IsEdited, IsReplace, NoRecordReplaced, ReplacesHeld, replaced_text}
-use Rattle.mk_edits.specs.MoleculeFiles.{ComesByFile, GoesByMolecules, IsFileLine, MoleculesRefused, MoleculesTooLong}
+use Rattle.mk_found.specs.MoleculeFiles.{ComesByFile, GoesByMolecules, IsFileLine, MoleculesRefused, MoleculesTooLong}
 
 -- ---- files
 

@@ -9,18 +9,18 @@ use Rattle.std.specs.Prelude.{◌≡◌, ℕ, ◌≤◌, List, [], Option, Resul
 use Rattle.mk_outside.specs.Counts.{Rose}
 use Rattle.mk_outside.specs.declared.tables.Tables.{Tables}
 use Rattle.mk_outside.specs.declared.tables.Change.{Change}
-use Rattle.mk_edits.specs.declared.effect.Found.{Found}
-use Rattle.mk_edits.specs.declared.effect.Found.TheVariants as found
-use Rattle.mk_edits.specs.declared.effect.StepFail.{StepFail}
-use Rattle.mk_edits.specs.declared.effect.StepFail.TheVariants as fail
-use Rattle.mk_edits.specs.declared.effect.SessionEdit.{SessionEdit}
-use Rattle.mk_edits.specs.declared.effect.SessionEdit.TheVariants as edit
+use Rattle.mk_found.specs.declared.effect.Found.{Found}
+use Rattle.mk_found.specs.declared.effect.Found.TheVariants as found
+use Rattle.mk_found.specs.declared.effect.StepFail.{StepFail}
+use Rattle.mk_found.specs.declared.effect.StepFail.TheVariants as fail
+use Rattle.mk_found.specs.declared.effect.SessionEdit.{SessionEdit}
+use Rattle.mk_found.specs.declared.effect.SessionEdit.TheVariants as edit
 use Rattle.mk_library.specs.Library.{LibraryView}
 use Rattle.mk_library.specs.Pending.{PendingFits}
 use Rattle.mk_kept.specs.Saved.{SavedView}
 use Rattle.mk_kept.specs.SavedPending.{SavedFits}
-use Rattle.mk_edits.specs.Effects.{Answers, Effect, Refuses}
-use Rattle.mk_edits.specs.Files.{IsThere, Look}
+use Rattle.mk_found.specs.Effects.{Answers, Effect, Refuses}
+use Rattle.mk_found.specs.Files.{IsThere, Look}
 
 -- the changes that an edit stands for
 abbrev pub changes_of : SessionEdit → List Change

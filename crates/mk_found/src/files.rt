@@ -4,9 +4,9 @@ ghost use Rattle.mk_outside.specs.Counts.{Counts};
 ghost use Rattle.mk_outside.specs.Told.{is_failed_read};
 ghost use Rattle.mk_library.specs.declared.refusal.LoadRefusal.TheVariants as refusal;
 ghost use Rattle.mk_kept.specs.QueryText.{IsTextSaid};
-ghost use Rattle.mk_edits.specs.Files.{IsFoundAs, IsThere, IsWithin};
-ghost use Rattle.mk_edits.specs.MoleculeFiles.{IsFileLine};
-ghost use Rattle.mk_edits.specs.QueryFiles.{IsHeldQuery, query_bytes};
+ghost use Rattle.mk_found.specs.Files.{IsFoundAs, IsThere, IsWithin};
+ghost use Rattle.mk_found.specs.MoleculeFiles.{IsFileLine};
+ghost use Rattle.mk_found.specs.QueryFiles.{IsHeldQuery, query_bytes};
 
 use crate::answers::{
     bad_line, bad_query_line, failed_check, failed_query_check, full, long_molecules, long_query,

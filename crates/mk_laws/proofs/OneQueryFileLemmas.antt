@@ -1,15 +1,15 @@
 -- One thing is made of a query's file that is told.
 --     one_query_held
 use Rattle.std.proofs.Common.{◌≡◌, ℕ, List, refl, sym, ap, subst, ◌∙◌, Some}
-use Rattle.mk_edits.specs.declared.files.HeldQuery.{HeldQuery}
-use Rattle.mk_edits.specs.declared.files.HeldQuery.TheVariants.{Query, Refused}
+use Rattle.mk_found.specs.declared.files.HeldQuery.{HeldQuery}
+use Rattle.mk_found.specs.declared.files.HeldQuery.TheVariants.{Query, Refused}
 use Rattle.mk_kept.specs.declared.query_text.QueryText.{QueryText}
 use Rattle.mk_kept.specs.declared.query_text.QueryText.TheVariants.{Compiled, Bad, V3000, Fails}
-use Rattle.mk_edits.specs.Answers.{bad_query_text, long_query_text, query_check_text, v3000_query_text}
-use Rattle.mk_edits.specs.Files.{IsLong, IsShort, Look}
-use Rattle.mk_edits.specs.QueryFiles.{BadQueryLine, IsQueryHeldBy, IsQueryRefused, IsTextRefused, QueryFailsCheck, QueryTextRefused, QueryTooLong, V3000QueryLine, query_bytes}
+use Rattle.mk_found.specs.Answers.{bad_query_text, long_query_text, query_check_text, v3000_query_text}
+use Rattle.mk_found.specs.Files.{IsLong, IsShort, Look}
+use Rattle.mk_found.specs.QueryFiles.{BadQueryLine, IsQueryHeldBy, IsQueryRefused, IsTextRefused, QueryFailsCheck, QueryTextRefused, QueryTooLong, V3000QueryLine, query_bytes}
 use Rattle.mk_kept.specs.QueryText.{IsTextSaid}
-use Rattle.mk_edits.proofs.OneEditLemmas.{long_not_read, one_reading}
+use Rattle.mk_laws.proofs.OneEditLemmas.{long_not_read, one_reading}
 use Rattle.mk_kept.proofs.ForCallers.{HasQueryLaws, one_said}
 
 -- ---- a file

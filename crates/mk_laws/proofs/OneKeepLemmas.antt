@@ -6,15 +6,16 @@ use Rattle.mk_model.specs.Queries.{QueryView}
 use Rattle.mk_outside.specs.declared.tables.Change.TheVariants.{PutQuery}
 use Rattle.mk_outside.specs.declared.tables.CursorRow.{CursorRow}
 use Rattle.mk_outside.specs.declared.tables.QueryRow.{QueryRow}
-use Rattle.mk_edits.specs.declared.files.HeldQuery.TheVariants.{Query, Refused}
-use Rattle.mk_edits.specs.Effects.{Answers, Effect, Refuses}
-use Rattle.mk_edits.specs.Files.{Look}
-use Rattle.mk_edits.specs.Queries.{FileIsRefused, Forgets, IsForget, IsFree, IsKeep, Keeps, NameIsHeld, NoQueryForgotten, QueriesAreFull, TextsAreFull, full_queries_text, kept_text, name_held_text, named_line}
-use Rattle.mk_edits.specs.QueryFiles.{IsQueryHeld, IsQueryRefused, query_bytes}
+use Rattle.mk_found.specs.declared.files.HeldQuery.TheVariants.{Query, Refused}
+use Rattle.mk_found.specs.Effects.{Answers, Effect, Refuses}
+use Rattle.mk_found.specs.Files.{Look}
+use Rattle.mk_edits.specs.Queries.{FileIsRefused, Forgets, IsForget, IsFree, IsKeep, Keeps, NameIsHeld, NoQueryForgotten, QueriesAreFull, TextsAreFull, full_queries_text, kept_text, name_held_text}
+use Rattle.mk_found.specs.Lines.{named_line}
+use Rattle.mk_found.specs.QueryFiles.{IsQueryHeld, IsQueryRefused, query_bytes}
 use Rattle.mk_kept.specs.Saved.{HasRoomFor, greatest_number, is_named, most_queries}
-use Rattle.mk_edits.proofs.OneEditLemmas.{one_reading}
+use Rattle.mk_laws.proofs.OneEditLemmas.{one_reading}
 use Rattle.mk_kept.proofs.ForCallers.{HasQueryLaws}
-use Rattle.mk_edits.proofs.OneQueryFileLemmas.{one_query_held}
+use Rattle.mk_laws.proofs.OneQueryFileLemmas.{one_query_held}
 
 -- ---- query
 

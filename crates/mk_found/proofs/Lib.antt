@@ -1,0 +1,3 @@
+pub mod FindingsLemmas
+pub mod QueryFilesLemmas
+pub mod FileLineLemmas
