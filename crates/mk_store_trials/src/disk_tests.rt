@@ -4,13 +4,13 @@ use crate::script_tests::{commands_answered, is_listed};
 use mk_outside::Keeper;
 use mk_sqlite::{SqlKeeper, again};
 use sqlite::{Connection, FileStore, Files, Options};
-use sqlite_disk::{Crash, Fuse, Memory};
+use sqlite_disk::{Crash, Disk, Fuse, Memory};
 use std::alloc::{AllocError, Global};
 use std::test::Fail;
 
 pub type Fused = Fuse<Memory>;
 
-type FusedKeeper = SqlKeeper<FileStore<Fused>>;
+type KeeperOver<D> = SqlKeeper<FileStore<D>>;
 
 // An empty log and an empty database, which stop after so many calls.
 pub fn files(alloc: Global, log: u64, db: u64) -> Files<Fused> {
@@ -20,8 +20,9 @@ pub fn files(alloc: Global, log: u64, db: u64) -> Files<Fused> {
     }
 }
 
-// A keeper over the files, or else the files.
-fn opened(alloc: Global, files: Files<Fused>) -> Result<FusedKeeper, Files<Fused>> {
+// A keeper over the files, or else the files. It is of any disk, as all that takes a keeper here:
+// at one that is named the prover takes twenty seconds for each call.
+fn opened<D: Disk + Drop>(alloc: Global, files: Files<D>) -> Result<KeeperOver<D>, Files<D>> {
     if !files.may_be_used() {
         return Err(files);
     }
@@ -32,7 +33,7 @@ fn opened(alloc: Global, files: Files<Fused>) -> Result<FusedKeeper, Files<Fused
 }
 
 // The files of a keeper, whether they could be closed well or not.
-fn closed(keeper: FusedKeeper) -> Option<Files<Fused>> {
+fn closed<D: Disk + Drop>(keeper: KeeperOver<D>) -> Option<Files<D>> {
     match keeper.back() {
         Some(connection) => match connection.close_files() {
             Ok(files) => Some(files),
@@ -100,30 +101,24 @@ fn do_task<K: Keeper>(alloc: Global, keeper: &mut K, task: Task) -> Result<Done,
     Ok(Done { count, loaded })
 }
 
-// The one place where a keeper over such files is taken for any keeper: each such place takes the
-// prover twenty seconds.
-fn done_over(alloc: Global, keeper: &mut FusedKeeper, task: Task) -> Result<Done, AllocError> {
-    do_task(alloc, keeper, task)
-}
-
 // What is done over a keeper, and its files afterwards. A keeper has one way out in each function
 // here, since the prover goes through all that is let go at each of them.
-fn done_and_closed(
+fn done_and_closed<D: Disk + Drop>(
     alloc: Global,
-    mut keeper: FusedKeeper,
+    mut keeper: KeeperOver<D>,
     task: Task,
-) -> Result<(Done, Files<Fused>), Fail> {
-    let done = done_over(alloc, &mut keeper, task);
+) -> Result<(Done, Files<D>), Fail> {
+    let done = do_task(alloc, &mut keeper, task);
     let files = closed(keeper).ok_or("no files")?;
     Ok((done?, files))
 }
 
-/// What is done over the files, and the files afterwards. Where they can't be opened nothing is.
-pub fn done_in(
+// What is done over the files, and the files afterwards. Where they can't be opened nothing is.
+fn done_in_any<D: Disk + Drop>(
     alloc: Global,
-    files: Files<Fused>,
+    files: Files<D>,
     task: Task,
-) -> Result<(Option<Done>, Files<Fused>), Fail> {
+) -> Result<(Option<Done>, Files<D>), Fail> {
     match opened(alloc, files) {
         Ok(keeper) => {
             let (done, files) = done_and_closed(alloc, keeper, task)?;
@@ -131,6 +126,14 @@ pub fn done_in(
         }
         Err(files) => Ok((None, files)),
     }
+}
+
+fn done_in(
+    alloc: Global,
+    files: Files<Fused>,
+    task: Task,
+) -> Result<(Option<Done>, Files<Fused>), Fail> {
+    done_in_any(alloc, files, task)
 }
 
 /// What is done over the files once they take calls again.
@@ -208,19 +211,23 @@ fn a_stopped_database_leaves_whole_batches(rt: HostRuntime) -> Result<(), Fail> 
 }
 
 // Whether both batches are made, and are there once the keeper is opened again.
-fn is_kept_again(alloc: Global, mut keeper: FusedKeeper) -> Result<bool, Fail> {
-    let made = done_over(alloc, &mut keeper, Task::Put);
+fn is_kept_again<D: Disk + Drop>(alloc: Global, mut keeper: KeeperOver<D>) -> Result<bool, Fail> {
+    let made = do_task(alloc, &mut keeper, Task::Put);
     let keeper = again(alloc, keeper, Options::new(7)).ok_or("a keeper")?;
     let (left, _files) = done_and_closed(alloc, keeper, Task::Load)?;
     Ok(made?.count == Some(2) && is_left(left.loaded.as_slice(), 2))
 }
 
+fn is_kept_again_in<D: Disk + Drop>(alloc: Global, files: Files<D>) -> Result<bool, Fail> {
+    match opened(alloc, files) {
+        Ok(keeper) => is_kept_again(alloc, keeper),
+        Err(_files) => Err(Fail::new("files that can't be opened")),
+    }
+}
+
 #[test]
 fn a_keeper_opened_again_keeps_all(rt: HostRuntime) -> Result<(), Fail> {
     let alloc = rt.alloc();
-    let Ok(keeper) = opened(alloc, files(alloc, u64::MAX, u64::MAX)) else {
-        return Err(Fail::new("files that can't be opened"));
-    };
-    assert!(rt; is_kept_again(alloc, keeper)?);
+    assert!(rt; is_kept_again_in(alloc, files(alloc, u64::MAX, u64::MAX))?);
     Ok(())
 }
