@@ -1,5 +1,5 @@
 -- What is appended step by step. The texts are written out, since none follows from what was appended.
-use Rattle.std.proofs.Common.{◌≡◌, ℕ, ◌+◌, ◌<◌, List, [], ◌∷◌, ◌++◌, length, get_or, take, map, replicate, cond, Result, Ok, Err, OnOk, refl, sym, ap, ◌∙◌, append_assoc}
+use Rattle.std.proofs.Common.{◌≡◌, ℕ, ◌+◌, ◌<◌, ◌≤◌, List, [], ◌∷◌, ◌++◌, length, get_or, take, map, replicate, cond, Result, Ok, Err, OnOk, refl, sym, ap, ◌∙◌, append_assoc, take_all}
 use Rattle.std.specs.Prelude.{ℤ, codes}
 use Rattle.std.specs.Result.{is_ok}
 use Rattle.std.specs.List.{flat_map}
@@ -69,6 +69,17 @@ as_last (Ok done) old new text other same one = as_text old new text other same 
 as_last (Err fault) old new text other same one = tt
 
 -- ---- loops
+
+-- what is written of each item so far, and of one item more
+pub one_more : {X : Type 0} (text : X → List ℕ) (xs : List X) (i : ℕ) (item : X) (old new last : List ℕ)
+    → i < length xs → item ≡ get_or xs i item → new ≡ old ++ flat_map text (take i xs) → last ≡ new ++ text item → last ≡ old ++ flat_map text (take (i + 1) xs)
+one_more text xs i item old new last below is one two =
+    two ∙ ap (λ (front : List ℕ). front ++ text item) one ∙ flat_map_more text old (take i xs) item
+    ∙ ap (λ items. old ++ flat_map text items) (ap (λ x. take i xs ++ x ∷ []) is ∙ sym (take_more xs i item below))
+
+-- and of all items
+pub all_written : {X : Type 0} (text : X → List ℕ) (xs : List X) (i : ℕ) (old new : List ℕ) → length xs ≤ i → new ≡ old ++ flat_map text (take i xs) → new ≡ old ++ flat_map text xs
+all_written text xs i old new all one = one ∙ ap (λ items. old ++ flat_map text items) (take_all i xs all)
 
 -- one blank more
 pub blank_more : (old new last : List ℕ) (n m : ℕ) → new ≡ old ++ replicate n 32 → last ≡ new ++ 32 ∷ [] → m ≡ n + 1 → last ≡ old ++ replicate m 32

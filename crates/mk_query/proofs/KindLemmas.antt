@@ -1,9 +1,10 @@
 -- The kinds of atoms, and the lists of elements that tell them.
 --     known_at       the members of the list that is in force for an atom are elements
 --     kind_is        the kind of an atom by what is noted
-use Rattle.std.proofs.Common.{◌≡◌, ◌≤◌, ◌<◌, ◌+◌, ◌-◌, ℕ, suc, List, [], ◌∷◌, ◌++◌, Option, Some, None, refl, ap, sym, subst, ◌∙◌, length, get_or, take, arith, inl, inr}
-use Rattle.std.specs.Prelude.{◌≢◌, ◌⊎◌, All, IsSome, codes, slice_get}
+use Rattle.std.proofs.Common.{◌≡◌, ◌≤◌, ◌<◌, ◌+◌, ◌-◌, ℕ, suc, List, [], ◌∷◌, ◌++◌, Option, Some, None, refl, ap, sym, subst, ◌∙◌, length, get_or, take, arith, inl, inr, Result, Ok, Err}
+use Rattle.std.specs.Prelude.{◌≢◌, ◌⊎◌, All, IfOk, IsSome, codes, slice_get}
 use Rattle.std.proofs.lemmas.List.{take_all, take_more}
+use Rattle.std.proofs.lemmas.Option.{get_or_from_slice_get}
 use Rattle.mk_elements.specs.Symbols.{NamesElement}
 use Rattle.mk_props.specs.declared.property.Property.{Property}
 use Rattle.mk_props.specs.declared.property.Property.TheVariants as kinds
@@ -41,6 +42,22 @@ names_seen symbols i symbol elements z below at are is =
 
 pub names_all : (symbols : List (List ℕ)) (i : ℕ) (elements : List ℕ) → length symbols ≤ i → NameElements (take i symbols) elements → NameElements symbols elements
 names_all symbols i elements all are = subst (λ (l : List (List ℕ)). NameElements l elements) (take_all i symbols all) are
+
+-- ---- the list at a place
+
+-- what is read at a place is the item there
+pub read_there : {X : Type 0} (xs items : List X) (i : ℕ) (item there : X) → items ≡ xs → item ≡ get_or items i item → slice_get xs i ≡ Some there → item ≡ there
+read_there xs items i item there same is at = is ∙ ap (λ l. get_or l i item) same ∙ get_or_from_slice_get xs i there item at
+
+pub line_tells : {E : Type 0} (answer : Result Kind E) (lists : List RawList) (props : List Property) (i : ℕ) (list : RawList) → slice_get lists i ≡ Some list
+    → IfOk answer (IsKindIn (by_numbers list)) → IfOk answer (IsKindAt lists props (place.Line i))
+line_tells (Ok kind) lists props i list at is = (list, at, is)
+line_tells (Err none) lists props i list at is = tt
+
+pub property_tells : {E : Type 0} (answer : Result Kind E) (lists : List RawList) (props : List Property) (i : ℕ) (property : Property) → slice_get props i ≡ Some property
+    → IfOk answer (IsKindBy property) → IfOk answer (IsKindAt lists props (place.Property i))
+property_tells (Ok kind) lists props i property at is = (property, at, is)
+property_tells (Err none) lists props i property at is = tt
 
 -- ---- the list in force
 

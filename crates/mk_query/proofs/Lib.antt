@@ -22,6 +22,7 @@ pub mod LinkMarkLemmas
 pub mod ListLemmas
 pub mod ListMarkLemmas
 pub mod LogicLemmas
+pub mod MapLemmas
 pub mod MarkLemmas
 pub mod MemberLemmas
 pub mod NearLemmas

@@ -1,9 +1,10 @@
 -- Links that can stand where they are named.
 --     NoneOf, none-more, none-all, some_at     a search among the bonds of an atom
+--     right_link_last                          a link is right where the last test says so
 --     right_links                              what the code tests of an atom is the demand
 --     between                                  bonds that pass their check are between atoms
-use Rattle.std.proofs.Common.{◌≡◌, ◌≤◌, ◌<◌, ◌+◌, ◌-◌, ℕ, Bool, true, false, eqb, ◌&&◌, ◌||◌, List, [], ◌∷◌, refl, ap, sym, subst, ◌∙◌, length, get_or, arith, ⊎_elim, inl, inr}
-use Rattle.std.specs.Prelude.{◌⊎◌, ◌↔◌, All, Contains, not, IsTrue}
+use Rattle.std.proofs.Common.{◌≡◌, ◌≤◌, ◌<◌, ◌+◌, ◌-◌, ℕ, Bool, true, false, eqb, ◌&&◌, ◌||◌, List, [], ◌∷◌, refl, ap, sym, subst, ◌∙◌, length, get_or, arith, ⊎_elim, inl, inr, Result, Ok, Err}
+use Rattle.std.specs.Prelude.{◌⊎◌, ◌↔◌, All, Contains, IfOk, not, IsTrue}
 use Rattle.std.proofs.lemmas.Bool.{cases_eq, cases_lt, eqb-true, true≢false}
 use Rattle.std.proofs.lemmas.List.{get_or_default, length-map}
 use Rattle.std.proofs.lemmas.List.Elements.{All-map, Contains-get_or}
@@ -23,12 +24,12 @@ use Rattle.mk_query.specs.declared.blocks.LinkEnds.{LinkEnds}
 use Rattle.mk_query.specs.declared.linked_atoms.Linked.{Linked}
 use Rattle.mk_query.specs.declared.linked_atoms.Linked.TheVariants as linked
 use Rattle.mk_query.specs.AtomMarks.{AreStanding}
-use Rattle.mk_query.specs.BlockSearch.{AreNumbersOf, MayHold, is_own, others}
+use Rattle.mk_query.specs.BlockSearch.{AreNumbersOf, HasPlainBlock, MayHold, is_own, others}
 use Rattle.mk_query.specs.Checks.{IsQueryBond}
 use Rattle.mk_query.specs.Drawn.{bears_point, is_site_at, links_at, query_bond, query_bonds}
 use Rattle.mk_query.specs.LinkChecks.{AreRightLinks, BearsSome, IsInBlock, CanBeLink}
 use Rattle.mk_query.specs.LinkMarks.{IsLinked}
-use Rattle.mk_query.specs.LinkSearch.{AreRightBy, IsRightLinkBy, IsRightLink, ends_of}
+use Rattle.mk_query.specs.LinkSearch.{AreAlikeBonds, AreRightBy, IsLinkable, IsRightLinkBy, IsRightLink, ends_of}
 use Rattle.mk_query.proofs.FollowLemmas.{bond_number, edge_at, number_bond}
 use Rattle.mk_query.proofs.AtomMarkLemmas.{bears_is, link_none, links_are, none_link, site_is}
 
@@ -69,6 +70,15 @@ pub none-all : (P : QueryBond → Type 0) (bonds : List QueryBond) (y z : ℕ) (
 none-all P bonds y z numbers i bond are all none at joined =
     let found = bond_number bonds y numbers bond are at (joined_end y z bond joined) in
     subst (λ (b : QueryBond). ¬ (P b)) (found.2 bond) (none found.0 bond (omega (arith, found.1, all)))
+
+-- ---- the last test
+
+pub right_link_last : {E : Type 0} (answer : Result Bool E) (atoms : ℕ) (bonds : List QueryBond) (standing : Standing) (x : ℕ) (link : LinkEntry)
+    → IsLinkable atoms standing x link → AreAlikeBonds bonds (ends_of x link) → IfOk answer (λ plain. IsTrue plain ↔ HasPlainBlock bonds standing (ends_of x link))
+    → IfOk answer (λ right. IsTrue right ↔ IsRightLink atoms bonds standing x link)
+right_link_last (Ok plain) atoms bonds standing x link linkable alike tells =
+    (λ yes. record { linkable = linkable; alike = alike; plain = tells.0 yes }, λ right. tells.1 right.plain)
+right_link_last (Err none) atoms bonds standing x link linkable alike tells = tt
 
 -- ---- bonds between atoms
 

@@ -4,7 +4,7 @@
 --     hold_more                        one more entry of a table of rows and columns
 --     chain_leads, leads_chain         a table leads on to another exactly where one of its sites leads to its group
 --     ranked                           where none uses itself, the groups to which a table leads rank it
-use Rattle.std.proofs.Common.{◌≡◌, ℕ, zero, suc, ◌+◌, ◌-◌, ◌*◌, ◌<◌, ◌≤◌, Bool, true, false, cond, inl, inr, ◌⊎◌, ⊎_elim, Option, None, ◌||◌, List, [], ◌∷◌, ◌++◌, Some, refl, sym, ap, subst, ◌∙◌, arith, length, get_or, take, All}
+use Rattle.std.proofs.Common.{◌≡◌, ℕ, zero, suc, ◌+◌, ◌-◌, ◌*◌, ◌<◌, ◌≤◌, Bool, true, false, cond, inl, inr, ◌⊎◌, ⊎_elim, Option, None, ◌&&◌, ◌&&◌, ◌||◌, List, [], ◌∷◌, ◌++◌, Some, refl, sym, ap, subst, ◌∙◌, arith, length, get_or, take, All}
 use Rattle.std.specs.Prelude.{◌≢◌, ◌==◌, count_by, Contains, slice_get}
 use Rattle.std.specs.List.{list_any, range_with_len}
 use Rattle.std.proofs.lemmas.Bool.Decides.{nat_tests}
@@ -377,6 +377,26 @@ entry_is query k list holds g h some few some' few' =
     let row : g - 1 + 1 ≡ g = omega arith in
     let column : h - 1 + 1 ≡ h = omega arith in
     rw (row, column) at (holds.each (g - 1) (h - 1) (omega arith) (omega (arith, holds.size)))
+
+-- one group more
+leads_step : (query : QueryView) (k g h : ℕ) → leads query (k + 1) g h ≡ (leads query k g h || (leads query k g (k + 1) && leads query k (k + 1) h))
+leads_step query k g h =
+    let same : suc k ≡ k + 1 = omega arith in
+    subst (λ (n : ℕ). leads query n g h ≡ (leads query k g h || (leads query k g n && leads query k n h))) same refl
+
+-- the entries by way of one group more
+pub holds_more : (query : QueryView) (k : ℕ) (old new : List Bool) → k < 32 → Holds (leads query k) old
+    → Holds (λ g h. entry old g h || (entry old g (k + 1) && entry old (k + 1) h)) new → Holds (leads query (k + 1)) new
+holds_more query k old new few so one = record {
+  size = one.size;
+  each = λ a b column below.
+      let few_rows : a < 32 = omega (arith, below, one.size) in
+      let at = λ (g h : ℕ) (p : 1 ≤ g) (q : g ≤ 32) (p' : 1 ≤ h) (q' : h ≤ 32). entry_is query k old so g h p q p' q' in
+      one.each a b column below
+      ∙ rw (at (a + 1) (b + 1) (omega arith) (omega (arith, few_rows)) (omega arith) (omega (arith, column)),
+            at (a + 1) (k + 1) (omega arith) (omega (arith, few_rows)) (omega arith) (omega (arith, few)),
+            at (k + 1) (b + 1) (omega arith) (omega (arith, few)) (omega arith) (omega (arith, column))) (sym (leads_step query k (a + 1) (b + 1)));
+}
 
 pub entry_back : (query : QueryView) (k : ℕ) (list : List Bool) (g t : ℕ) → Holds (leads query k) list → HasGroups query → 1 ≤ g → g ≤ 32
     → comes_back (entry list) g (slots_of query t) ≡ comes_back (leads query k) g (slots_of query t)

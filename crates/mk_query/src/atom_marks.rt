@@ -14,7 +14,7 @@ use std::alloc::Global;
 
 /// For each atom, whether it is a site, its neighbours, its labels, the value of its attachment
 /// points, and the links that name it.
-#[derive(Debug, Drop)]
+#[derive(Drop)]
 pub struct Standing {
     pub sites: Vec<bool>,
     pub near: Vec<Near>,

@@ -17,7 +17,7 @@ use std::alloc::Global;
 
 /// For each atom its charge and radical, the place of the list that is in force for it, and the
 /// values that the last entries give it.
-#[derive(Debug, Drop)]
+#[derive(Drop)]
 pub struct AtomNotes {
     pub electrons: Vec<Electrons>,
     pub places: Vec<ListPlace>,

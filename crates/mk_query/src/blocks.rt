@@ -17,7 +17,7 @@ use mk_text::Memory;
 use std::alloc::Global;
 
 /// The atom of a link, and the two neighbours that it names.
-#[derive(Clone, Copy, Debug, PartialEq, Eq)]
+#[derive(Clone, Copy)]
 pub struct LinkEnds {
     pub atom: u32,
     pub from: u32,

@@ -10,7 +10,7 @@ use mk_text::Memory;
 use std::alloc::Global;
 
 /// The bonds between at most 999 atoms, and for each atom the numbers of its bonds.
-#[derive(Debug, Drop)]
+#[derive(Drop)]
 pub struct Bonded<'a> {
     pub atoms: u32,
     pub bonds: &'a [QueryBond],

@@ -20,7 +20,7 @@ use mk_text::Memory;
 use std::alloc::Global;
 
 /// A check that fails, by its number, and the least atom, bond or property at which it does.
-#[derive(Clone, Copy, Debug, PartialEq, Eq)]
+#[derive(Clone, Copy)]
 pub struct Fault {
     pub check: u8,
     pub item: u32,

@@ -33,7 +33,7 @@ impl<T: Drop> From<AllocFailed<T>> for CompileFault {
 }
 
 /// A check by its number, and the table and the item that it names.
-#[derive(Clone, Copy, Debug, PartialEq, Eq)]
+#[derive(Clone, Copy)]
 pub struct FaultAt {
     pub check: u8,
     pub table: u32,

@@ -8,7 +8,7 @@ use std::marker::Model;
 pub const GROUPS: u32 = 32;
 
 /// The templates, of which number 0 is the root, and the groups.
-#[derive(Debug, Drop)]
+#[derive(Drop)]
 pub struct Draft {
     templates: Vec<Template>,
     groups: Vec<Group>,

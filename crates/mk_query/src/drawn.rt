@@ -12,7 +12,7 @@ use mk_text::Memory;
 use std::alloc::Global;
 
 /// The atoms bonded to an atom in the order of the bonds, told apart up to two.
-#[derive(Clone, Copy, Debug, PartialEq, Eq)]
+#[derive(Clone, Copy)]
 pub enum Near {
     Nothing,
     One(u32),
@@ -22,7 +22,7 @@ pub enum Near {
 
 /// The labels of an atom: whether there are any, whether they are from 1 to 32 and none stands
 /// twice, and a bit for the group of each, the lowest for group 1.
-#[derive(Clone, Copy, Debug, PartialEq, Eq)]
+#[derive(Clone, Copy)]
 pub struct Labels {
     pub some: bool,
     pub once: bool,

@@ -11,7 +11,7 @@ use mk_text::Memory;
 use std::alloc::Global;
 
 /// The entries of `M  LIN` that name an atom, told apart up to one.
-#[derive(Clone, Copy, Debug, PartialEq, Eq)]
+#[derive(Clone, Copy)]
 pub enum Linked {
     Nothing,
     One(LinkEntry),

@@ -10,7 +10,7 @@ use mk_text::Memory;
 use std::alloc::Global;
 
 /// The place of the list of elements that is in force for an atom.
-#[derive(Clone, Copy, Debug, PartialEq, Eq)]
+#[derive(Clone, Copy)]
 pub enum ListPlace {
     Nothing,
     /// An atom-list line, counted from 0.

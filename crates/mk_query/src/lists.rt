@@ -15,7 +15,7 @@ use mk_text::Memory;
 use std::alloc::Global;
 
 /// Whether a list of elements names the atom, and whether all that do have known members.
-#[derive(Clone, Copy, Debug, PartialEq, Eq)]
+#[derive(Clone, Copy)]
 pub struct ListMark {
     pub listed: bool,
     pub known: bool,

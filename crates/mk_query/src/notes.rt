@@ -9,7 +9,7 @@ use mk_text::Memory;
 use std::alloc::Global;
 
 /// A table of at most 999 atoms, and what stands at them.
-#[derive(Debug, Drop)]
+#[derive(Drop)]
 pub struct Notes<'a> {
     pub table: &'a RawTable,
     pub standing: Standing,

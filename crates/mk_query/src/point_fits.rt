@@ -11,7 +11,7 @@ use mk_text::Memory;
 use std::alloc::Global;
 
 /// A table and the atom of a site in it.
-#[derive(Clone, Copy, Debug, PartialEq, Eq)]
+#[derive(Clone, Copy)]
 pub struct SitePlace {
     pub table: u32,
     pub atom: u32,

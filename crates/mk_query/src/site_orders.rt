@@ -13,7 +13,7 @@ use mk_text::Memory;
 use std::alloc::Global;
 
 /// The neighbours of a site in their order; `second` is 0 where it has one.
-#[derive(Clone, Copy, Debug, PartialEq, Eq)]
+#[derive(Clone, Copy)]
 pub struct SiteEnds {
     pub first: u32,
     pub second: u32,

@@ -8,7 +8,7 @@ use mk_text::Memory;
 use std::alloc::Global;
 
 /// A kind of property that gives an atom one value: the last that is given holds.
-#[derive(Clone, Copy, Debug, PartialEq, Eq)]
+#[derive(Clone, Copy)]
 pub enum ValueKind {
     RingBonds,
     Substitution,

@@ -61,6 +61,8 @@ pub enum Task {
     Run,
     /// The tables are listed, which so many commands made, or one more.
     List { commands: usize },
+    /// Both batches are put, and the tables are loaded once the keeper is opened again.
+    PutAndOpen,
 }
 
 /// What came of it: how many batches were made or commands answered, or 1 where the tables are
@@ -85,7 +87,7 @@ fn count_of<K: Keeper>(
     task: Task,
 ) -> Result<Option<usize>, AllocError> {
     match task {
-        Task::Put => Ok(Some(put_both(keeper, alloc)?)),
+        Task::Put | Task::PutAndOpen => Ok(Some(put_both(keeper, alloc)?)),
         Task::Load => Ok(Some(0)),
         Task::Run => commands_answered(alloc, keeper),
         Task::List { commands } => Ok(Some(usize::from(is_listed(alloc, keeper, commands)?))),
@@ -113,6 +115,32 @@ fn done_and_closed<D: Disk + Drop>(
     Ok((done?, files))
 }
 
+// Both batches are put, and the tables loaded once the keeper is opened again.
+fn put_and_opened<D: Disk + Drop>(
+    alloc: Global,
+    mut keeper: KeeperOver<D>,
+) -> Result<(Done, Files<D>), Fail> {
+    let put = do_task(alloc, &mut keeper, Task::Put);
+    let keeper = again(alloc, keeper, Options::new(7)).ok_or("a keeper")?;
+    let (left, files) = done_and_closed(alloc, keeper, Task::Load)?;
+    let done = Done {
+        count: put?.count,
+        loaded: left.loaded,
+    };
+    Ok((done, files))
+}
+
+fn done_over<D: Disk + Drop>(
+    alloc: Global,
+    keeper: KeeperOver<D>,
+    task: Task,
+) -> Result<(Done, Files<D>), Fail> {
+    match task {
+        Task::PutAndOpen => put_and_opened(alloc, keeper),
+        _ => done_and_closed(alloc, keeper, task),
+    }
+}
+
 // What is done over the files, and the files afterwards. Where they can't be opened nothing is.
 fn done_in_any<D: Disk + Drop>(
     alloc: Global,
@@ -121,7 +149,7 @@ fn done_in_any<D: Disk + Drop>(
 ) -> Result<(Option<Done>, Files<D>), Fail> {
     match opened(alloc, files) {
         Ok(keeper) => {
-            let (done, files) = done_and_closed(alloc, keeper, task)?;
+            let (done, files) = done_over(alloc, keeper, task)?;
             Ok((Some(done), files))
         }
         Err(files) => Ok((None, files)),
@@ -210,24 +238,11 @@ fn a_stopped_database_leaves_whole_batches(rt: HostRuntime) -> Result<(), Fail> 
     Ok(())
 }
 
-// Whether both batches are made, and are there once the keeper is opened again.
-fn is_kept_again<D: Disk + Drop>(alloc: Global, mut keeper: KeeperOver<D>) -> Result<bool, Fail> {
-    let made = do_task(alloc, &mut keeper, Task::Put);
-    let keeper = again(alloc, keeper, Options::new(7)).ok_or("a keeper")?;
-    let (left, _files) = done_and_closed(alloc, keeper, Task::Load)?;
-    Ok(made?.count == Some(2) && is_left(left.loaded.as_slice(), 2))
-}
-
-fn is_kept_again_in<D: Disk + Drop>(alloc: Global, files: Files<D>) -> Result<bool, Fail> {
-    match opened(alloc, files) {
-        Ok(keeper) => is_kept_again(alloc, keeper),
-        Err(_files) => Err(Fail::new("files that can't be opened")),
-    }
-}
-
 #[test]
 fn a_keeper_opened_again_keeps_all(rt: HostRuntime) -> Result<(), Fail> {
     let alloc = rt.alloc();
-    assert!(rt; is_kept_again_in(alloc, files(alloc, u64::MAX, u64::MAX))?);
+    let (done, _files) = done_in(alloc, files(alloc, u64::MAX, u64::MAX), Task::PutAndOpen)?;
+    let done = done.ok_or("files that can't be opened")?;
+    assert!(rt; done.count == Some(2) && is_left(done.loaded.as_slice(), 2));
     Ok(())
 }

@@ -25,6 +25,11 @@ small-requires c = ring_bonds_fit c.args.table.now c.args.notes.now c.args.i c.i
 pub small-requires-2 : goal.small-requires-2
 small-requires-2 c = substitution_fits c.args.table.now c.args.notes.now c.args.i c.index-3.result.now c.requires.passed c.requires.notes c.requires.within c.index-3.ensures
 
+pub returns-then-is_site : goal.returns-then-is_site
+returns-then-is_site c =
+    let at = line_at c.args.table.now c.as_slice.result.now c.args.i c.index-as_slice-i.result c.as_slice.ensures c.index-as_slice-i.is c.requires.within in
+    each_line c.args.table.now c.args.i c.index-as_slice-i.result _ at (rw (sym c.if-is_site.ensures) c.no_test.ensures)
+
 pub returns : goal.returns
 returns c =
     let table = c.args.table.now in

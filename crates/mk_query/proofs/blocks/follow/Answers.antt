@@ -1,5 +1,5 @@
-use Rattle.std.proofs.Common.{◌<◌, ◌≤◌, ◌-◌, ◌∙◌, true, false, length, arith, sym}
-use Rattle.mk_query.proofs.FollowLemmas.{followed-all, followed-first, followed-seen, reached_read, step_within}
+use Rattle.std.proofs.Common.{◌<◌, ◌≤◌, ◌-◌, ◌∙◌, inl, true, false, length, arith, sym}
+use Rattle.mk_query.proofs.FollowLemmas.{followed-all, followed-dealt, followed-first, followed-seen, reached_read, step_within}
 use Rattle.mk_query.proofs.blocks.follow.Goals as goal
 use Rattle.mk_query.proofs.blocks.follow.Goals.{After-other_end-z}
 
@@ -15,6 +15,11 @@ index-requires c = omega (arith, within (goal.at.index-requires c).After-other_e
 
 pub index_mut-requires : goal.index_mut-requires
 index_mut-requires c = omega (arith, within (goal.at.index_mut-requires c).After-other_end-z, c.loop-number.invariant.size, c.loop-number.reached.ok.0)
+
+pub loop-number-preserved-then-is_own : goal.loop-number-preserved-then-is_own
+loop-number-preserved-then-is_own c =
+    followed-dealt c.args.bonds.now c.args.link c.args.y c.args.numbers.now c.args.reached.now.items c.args.queue.now.items c.loop-number.number-index c.loop-number.reached.items
+    c.loop-number.queue.items _ c.requires.numbers c.loop-number-test.true (inl (sym c.if-is_own.ensures)) c.loop-number.invariant
 
 pub loop-number-preserved-then-index : goal.loop-number-preserved-then-index
 loop-number-preserved-then-index c =
