@@ -2,7 +2,7 @@
 use Rattle.std.proofs.Common.{◌≡◌, ℕ, true, false, Option, Some, None, List, [], ◌∷◌, ◌++◌, length, refl, sym, ap, subst, ◌∙◌}
 use Rattle.std.specs.Prelude.{codes}
 use Rattle.mk_form.specs.Exact.{Exact, Completes, NeverDue, Anything}
-use Rattle.mk_form.specs.Lines.{OneLine, Nothing, give, line_where}
+use Rattle.mk_form.specs.Lines.{OneLine, Nothing, line_where}
 use Rattle.mk_form.specs.Rows.{Series}
 use Rattle.mk_form.specs.Choice.{Shows}
 use Rattle.mk_form.proofs.Lines.{exact-give, exact-line, exact-line_where}

@@ -1,16 +1,16 @@
 -- Lines before the properties, without the CR bytes at their ends, spell the same.
-use Rattle.std.proofs.Common.{◌≡◌, ℕ, zero, suc, ◌+◌, ◌*◌, ◌-◌, ◌≤◌, Bool, true, false, cond, not, ◌&&◌, ◌||◌, eqb, List, [], ◌∷◌, ◌++◌, length, Option, Some, None, refl, sym, ap, subst, ◌∙◌, arith, lit≤}
+use Rattle.std.proofs.Common.{◌≡◌, ℕ, zero, suc, ◌+◌, ◌*◌, ◌≤◌, Bool, true, false, cond, not, ◌&&◌, ◌||◌, eqb, List, [], ◌∷◌, ◌++◌, length, Option, Some, None, refl, sym, ap, subst, ◌∙◌, arith, lit≤}
 use Rattle.std.specs.Prelude.{ℤ, codes, bytes_eq}
 use Rattle.std.specs.List.{list_all}
 use Rattle.std.proofs.lemmas.List.{nil_from_length}
 use Rattle.std.proofs.lemmas.List.Folds.{list_all-append}
 use Rattle.std.proofs.lemmas.Bool.{eqb-true}
 use Rattle.std.proofs.lemmas.Slice.Eq.{bytes_eq-Decides}
-use Rattle.mk_text.specs.Columns.{columns, standing, trimmed}
+use Rattle.mk_text.specs.Columns.{standing, trimmed}
 use Rattle.mk_text.specs.Fields.{field_of}
 use Rattle.mk_text.specs.KeptLines.{without_crs}
 use Rattle.mk_text.specs.Lines.{EndsWith}
-use Rattle.mk_text.specs.Options.{◌>>=◌, when, entries_of, count_in, not_negative}
+use Rattle.mk_text.specs.Options.{◌>>=◌, entries_of, count_in, not_negative}
 use Rattle.mk_text.proofs.ForCallers.{both, both_read, columns_field, columns_left, ends_not, field_found, field_same, standing_all, test_passed}
 use Rattle.mk_ctab.specs.declared.raw.RawAtom.{RawAtom}
 use Rattle.mk_ctab.specs.declared.raw.RawBond.{RawBond}

@@ -1,20 +1,16 @@
 -- The lines of a table without the CR bytes at their ends are the same table.
-use Rattle.std.proofs.Common.{◌≡◌, ℕ, ◌-◌, ◌≤◌, All, List, [], ◌∷◌, ◌++◌, length, map, take, drop, Option, Some, None, refl, sym, ap, subst, ◌∙◌, arith}
+use Rattle.std.proofs.Common.{◌≡◌, ◌-◌, List, [], ◌∷◌, ◌++◌, length, map, take, drop, Option, Some, None, ap, subst, ◌∙◌}
 use Rattle.std.specs.List.{AllByRecursion}
 use Rattle.std.proofs.lemmas.List.{length-map, map-append, take-map, drop-map}
 use Rattle.std.proofs.lemmas.List.Elements.{recursion_from_All}
 use Rattle.mk_text.specs.KeptLines.{without_crs}
 use Rattle.mk_text.specs.Lines.{EndsWith}
-use Rattle.mk_form.specs.Fronts.{IsPart}
-use Rattle.mk_form.specs.Lines.{OneLine}
 use Rattle.mk_form.specs.Rows.{Series}
 use Rattle.mk_props.specs.declared.property.Property.{Property}
 use Rattle.mk_props.specs.declared.property.Property.TheVariants as kinds
 use Rattle.mk_ctab.specs.declared.raw.RawAtom.{RawAtom}
-use Rattle.mk_ctab.specs.declared.raw.RawTable.{RawTable}
-use Rattle.mk_ctab.specs.KeptTables.{EndsWithoutCr, KeepsItsText, KeptLinesAreTheTable, KeptLinesAreTheTableFrom}
-use Rattle.mk_ctab.specs.Table.{AreProperties, IsBlock, IsTable, Spell, values_of}
-use Rattle.mk_ctab.specs.TableLaws.{IsTableFrom}
+use Rattle.mk_ctab.specs.KeptTables.{EndsWithoutCr, KeptLinesAreTheTable, KeptLinesAreTheTableFrom}
+use Rattle.mk_ctab.specs.Table.{IsBlock, Spell, values_of}
 use Rattle.mk_ctab.specs.TableLines.{Line, raw_atom_of}
 use Rattle.mk_ctab.proofs.KeptLineLemmas.{counts_left, atom_left, bond_left, list_left}
 use Rattle.mk_ctab.proofs.KeptPropertyLemmas.{property_left}

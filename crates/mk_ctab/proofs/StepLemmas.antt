@@ -1,5 +1,5 @@
 -- A table is read block by block: what is left to read behind each, and what a fault in it says of the whole.
-use Rattle.std.proofs.Common.{◌≡◌, ℕ, ◌+◌, ◌*◌, List, drop, refl, sym, subst, ◌∙◌}
+use Rattle.std.proofs.Common.{◌≡◌, ℕ, ◌*◌, List, drop, refl, sym, subst, ◌∙◌}
 use Rattle.mk_form.specs.Lines.{line, counts_line}
 use Rattle.mk_form.specs.Reading.{Took, TakesLines}
 use Rattle.mk_form.specs.Rows.{rows, any_lines}

@@ -1,6 +1,6 @@
 -- What is written of a table is that table.
-use Rattle.std.proofs.Common.{◌≡◌, ℕ, ◌<◌, true, false, not, eqb, All, List, [], ◌∷◌, ◌++◌, length, get_or, map, refl, sym, ap, ◌∙◌, arith, Option, Some, append_assoc, subst}
-use Rattle.std.specs.List.{flat_map, AllByRecursion}
+use Rattle.std.proofs.Common.{◌≡◌, ℕ, true, not, eqb, All, List, [], ◌∷◌, ◌++◌, get_or, map, refl, sym, ap, ◌∙◌, Option, Some, subst}
+use Rattle.std.specs.List.{AllByRecursion}
 use Rattle.std.proofs.lemmas.List.Elements.{recursion_from_All, All-from_recursion}
 use Rattle.std.proofs.lemmas.Bool.{eq-eqb}
 use Rattle.std.proofs.lemmas.List.{get_or_default, same_from_push}
@@ -15,9 +15,8 @@ use Rattle.mk_ctab.specs.declared.raw.RawAtom.{RawAtom}
 use Rattle.mk_ctab.specs.declared.raw.RawTable.{RawTable}
 use Rattle.mk_ctab.specs.Table.{Spell, IsKept, IsBlock, values_of, IsTable}
 use Rattle.mk_ctab.specs.TableLines.{Line, raw_atom_of, raw_bond_of, list_of}
-use Rattle.mk_text.specs.Lines.{ended, EndsWith}
+use Rattle.mk_text.specs.Lines.{EndsWith}
 use Rattle.mk_ctab.specs.TableSpelling.{counts_line, atom_line, bond_line, numbers_line, property_line, end_line, table_lines, table_spelling, AtomFits, BondFits, ListFits, PropertyFits, IsSymbol, SymbolsFit, SymbolsEnd, RangeFits, CanBeSpelt, SpellingIsRead, EndsWithNoBlank}
-use Rattle.mk_ctab.proofs.ThreeLemmas.{HasEnd}
 use Rattle.mk_ctab.proofs.LineSpellingLemmas.{counts_are_read, atom_is_read, bond_is_read, list_is_read, each_of}
 use Rattle.mk_ctab.proofs.PropertySpellingLemmas.{property_is_read}
 use Rattle.mk_ctab.proofs.WholeLineLemmas.{EndsAsLine, counts_whole, atom_whole, bond_whole, list_whole, property_whole, end_whole}

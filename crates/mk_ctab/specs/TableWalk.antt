@@ -4,15 +4,12 @@
 --     AnswersAt text answer reading       the reading gave this value, and the next line begins
 --                                         there
 --     AnswersPast text answer reading     lines that aren't looked at were passed over, up to there
-use Rattle.std.specs.Prelude.{◌≡◌, ℕ, ◌+◌, ◌<◌, List, [], length, drop, slice_index_or, Option, Some, None, Result, Ok, Err}
+use Rattle.std.specs.Prelude.{ℕ, List, Result, Ok, Err}
 use Rattle.mk_form.specs.Reading.{Reading, TakesLines}
-use Rattle.mk_props.specs.declared.property.Property.{Property}
-use Rattle.mk_props.specs.Reading.{property_of}
 use Rattle.mk_text.specs.declared.line_start.LineStart.{LineStart}
 use Rattle.mk_text.specs.Lines.{lines_of}
 use Rattle.mk_text.specs.LineStart.{IsLineStart}
 use Rattle.mk_ctab.specs.declared.fault.TableFault.{TableFault}
-use Rattle.mk_ctab.specs.declared.fault.TableFault.TheVariants.{Bad, V3000, Memory}
 use Rattle.mk_ctab.specs.TableLines.{Line}
 use Rattle.mk_ctab.specs.TableReading.{Fails}
 

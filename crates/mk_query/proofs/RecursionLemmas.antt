@@ -393,9 +393,11 @@ holds_more query k old new few so one = record {
       let few_rows : a < 32 = omega (arith, below, one.size) in
       let at = λ (g h : ℕ) (p : 1 ≤ g) (q : g ≤ 32) (p' : 1 ≤ h) (q' : h ≤ 32). entry_is query k old so g h p q p' q' in
       one.each a b column below
-      ∙ rw (at (a + 1) (b + 1) (omega arith) (omega (arith, few_rows)) (omega arith) (omega (arith, column)),
-            at (a + 1) (k + 1) (omega arith) (omega (arith, few_rows)) (omega arith) (omega (arith, few)),
-            at (k + 1) (b + 1) (omega arith) (omega (arith, few)) (omega arith) (omega (arith, column))) (sym (leads_step query k (a + 1) (b + 1)));
+      ∙ rw (
+        at (a + 1) (b + 1) (omega arith) (omega (arith, few_rows)) (omega arith) (omega (arith, column)),
+        at (a + 1) (k + 1) (omega arith) (omega (arith, few_rows)) (omega arith) (omega (arith, few)),
+        at (k + 1) (b + 1) (omega arith) (omega (arith, few)) (omega arith) (omega (arith, column)),
+      ) (sym (leads_step query k (a + 1) (b + 1)));
 }
 
 pub entry_back : (query : QueryView) (k : ℕ) (list : List Bool) (g t : ℕ) → Holds (leads query k) list → HasGroups query → 1 ≤ g → g ≤ 32

@@ -1,10 +1,8 @@
-use Rattle.std.proofs.Common.{subst, sym, drop, ◌∙◌}
+use Rattle.std.proofs.Common.{drop}
 use Rattle.std.proofs.lemmas.Result.{err_from_is_err_and}
-use Rattle.mk_form.specs.Exact.{Part}
 use Rattle.mk_form.specs.Rows.{any_lines}
 use Rattle.mk_text.specs.Lines.{lines_of}
 use Rattle.mk_ctab.specs.TableLaws.{table_form}
-use Rattle.mk_ctab.specs.TableWalk.{AnswersAt}
 use Rattle.mk_ctab.proofs.FaultLemmas.{block_read, block_fails}
 use Rattle.mk_ctab.proofs.MolfileLemmas.{molfile_is}
 use Rattle.mk_ctab.proofs.table_walk.molfile_from.Goals as goal

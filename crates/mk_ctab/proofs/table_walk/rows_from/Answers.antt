@@ -1,4 +1,3 @@
-use Rattle.std.proofs.Common.{◌+◌}
 use Rattle.std.proofs.lemmas.Result.{err_from_is_err_and}
 use Rattle.mk_form.specs.Lines.{line}
 use Rattle.mk_form.proofs.RowLoops.{rows_left_item, rows_left_end}
