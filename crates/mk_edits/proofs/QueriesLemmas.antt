@@ -1,16 +1,21 @@
 -- What `query` and `forget` come to.
 --     kept_is_meant                  what is kept of a text means what the text means
 --     keep_fits                      keeping a query fits
+--     dropped_more                   one saved search more that is looked at
 --     forget_ready, forget_fits      so does dropping one with its saved searches
-use Rattle.std.proofs.Common.{◌≡◌, ℕ, ◌<◌, ◌≤◌, Bool, true, false, not, ◌||◌, List, [], ◌∷◌, ◌++◌, length, map, filter, bytes_eq, nat_eq, refl, sym, ap, subst, ◌∙◌, arith}
+use Rattle.std.proofs.Common.{◌≡◌, ℕ, ◌<◌, ◌≤◌, ◌+◌, Bool, true, false, cond, not, ◌||◌, List, [], ◌∷◌, ◌++◌, length, get_or, map, filter, take, bytes_eq, nat_eq, refl, sym, ap, subst, ◌∙◌, arith}
 use Rattle.std.specs.Prelude.{Result, Ok, Err, IfOk}
 use Rattle.std.specs.List.{AllByRecursion, list_any}
 use Rattle.std.proofs.lemmas.Bool.{cond_both, true≢false}
 use Rattle.std.proofs.lemmas.Grind.{common_steps}
+use Rattle.std.proofs.lemmas.List.{map-append, take_more}
+use Rattle.std.proofs.lemmas.List.Elements.{filter-append}
+use Rattle.mk_rows.specs.declared.by_number.Numbered.{Numbered}
 use Rattle.mk_model.specs.Queries.{QueryView}
 use Rattle.mk_rgfile.specs.KeptQueries.{KeptLinesAreKept}
 use Rattle.mk_query.specs.Laws.{KeptTextIsTheQuery}
-use Rattle.mk_outside.specs.declared.tables.Change.TheVariants.{PutQuery, DropQuery}
+use Rattle.mk_outside.specs.declared.tables.Change.{Change}
+use Rattle.mk_outside.specs.declared.tables.Change.TheVariants.{PutQuery, DropCursor, DropQuery}
 use Rattle.mk_outside.specs.declared.tables.CursorRow.{CursorRow}
 use Rattle.mk_outside.specs.declared.tables.QueryRow.{QueryRow}
 use Rattle.mk_outside.specs.Rows as outside
@@ -25,7 +30,8 @@ use Rattle.mk_found.specs.Effects.{Effect, Refuses}
 use Rattle.mk_edits.specs.Queries.{drop_of, forget_changes, full_queries_text, kept_text}
 use Rattle.mk_kept.specs.QueryText.{IsQueryOfText}
 use Rattle.mk_found.specs.Findings.{FoundFits, effect_of}
-use Rattle.mk_kept.specs.Saved.{HasRoomFor, IsMeant, SavedView, is_named, is_waiting, kept_tables, most_queries}
+use Rattle.mk_kept.specs.declared.saved.SavedSearch.{SavedSearch}
+use Rattle.mk_kept.specs.Saved.{HasRoomFor, IsMeant, SavedView, cursor_row, cursors_of, is_named, is_waiting, kept_tables, most_queries}
 use Rattle.mk_kept.specs.SavedPending.{AreReady, IsInPlace, SavedFits, SavedPendingView}
 
 -- ---- query
@@ -59,6 +65,26 @@ keep_fits saved pending number name text is above new few room spare = record {
 }
 
 -- ---- forget
+
+-- the changes that drop those of these saved searches that are of the name
+abbrev pub dropped : List ℕ → List (Numbered SavedSearch) → List Change
+dropped name rows = map drop_of (filter (λ row. bytes_eq row.name name) (cursors_of rows))
+
+dropped_one : (name : List ℕ) (row : Numbered SavedSearch) (b : Bool) → bytes_eq row.item.name name ≡ b → dropped name (row ∷ []) ≡ cond b (DropCursor row.number ∷ []) []
+dropped_one name row true is = rw is refl
+dropped_one name row false is = rw is refl
+
+-- one saved search more that is looked at
+pub dropped_more : (name : List ℕ) (rows : List (Numbered SavedSearch)) (i : ℕ) (row : Numbered SavedSearch) (b : Bool) (old : List Change) → i < length rows → row ≡ get_or rows i row
+    → bytes_eq row.item.name name ≡ b → old ≡ dropped name (take i rows) → old ++ cond b (DropCursor row.number ∷ []) [] ≡ dropped name (take (i + 1) rows)
+dropped_more name rows i row b old below is of_name before =
+    let p = λ (r : CursorRow). bytes_eq r.name name in
+    let next : take (i + 1) rows ≡ take i rows ++ row ∷ [] = take_more rows i row below ∙ ap (λ (r : Numbered SavedSearch). take i rows ++ r ∷ []) (sym is) in
+    let split : dropped name (take i rows ++ row ∷ []) ≡ dropped name (take i rows) ++ dropped name (row ∷ []) =
+    ap (λ (l : List CursorRow). map drop_of (filter p l)) (map-append cursor_row (take i rows) (row ∷ []))
+    ∙ ap (map drop_of) (filter-append p (cursors_of (take i rows)) (cursors_of (row ∷ [])))
+    ∙ map-append drop_of (filter p (cursors_of (take i rows))) (filter p (cursors_of (row ∷ []))) in
+    ap (λ front. front ++ cond b (DropCursor row.number ∷ []) []) before ∙ ap (λ last. dropped name (take i rows) ++ last) (sym (dropped_one name row b of_name)) ∙ sym split ∙ ap (dropped name) (sym next)
 
 forget_ready : (name : List ℕ) (rows : List CursorRow) → IsName name → AreReady (map drop_of rows ++ DropQuery name ∷ []) []
 forget_ready name [] is = (is, tt)

@@ -1,11 +1,13 @@
 -- Sites whose members don't have as many points as the site has neighbours.
 --     told_more         one group more of which it is told
+--     points_more       one member more that has so many points
 --     groups_told, fits_told     what is told of the groups of a site, and of a slot, is so
 --     misfit_found, all_fit     a table with a misfit and its lowest atom; a table without one
-use Rattle.std.proofs.Common.{◌≡◌, ℕ, ◌+◌, ◌-◌, ◌<◌, ◌≤◌, Bool, true, false, cond, List, [], ◌∷◌, ◌++◌, Some, refl, sym, subst, ⊎_elim, ◌∙◌, arith, length, get_or, All}
+use Rattle.std.proofs.Common.{◌≡◌, ℕ, ◌+◌, ◌-◌, ◌<◌, ◌≤◌, Bool, true, false, cond, List, [], ◌∷◌, ◌++◌, Some, refl, sym, subst, ⊎_elim, ◌∙◌, arith, length, get_or, take, All}
 use Rattle.std.specs.Prelude.{◌==◌, ◌↔◌, Contains, IsTrue, slice_get, slice_index_or}
 use Rattle.std.proofs.lemmas.Bool.{cases_lt, true≢false}
-use Rattle.std.proofs.lemmas.List.{get_or_append_left, get_or_push}
+use Rattle.std.proofs.lemmas.List.{get_or_append_left, get_or_push, take_more}
+use Rattle.std.proofs.lemmas.List.Elements.{Contains-push_cases}
 use Rattle.std.proofs.lemmas.Option.{slice_get_within, get_or_from_slice_get}
 use Rattle.mk_text.specs.Items.{IsLeastFailing}
 use Rattle.mk_model.specs.declared.template.Slot.{Slot}
@@ -35,6 +37,15 @@ told_more query n g list x size here before h below =
     let same : get_or (list ++ x ∷ []) h false ≡ x = get_or_push list x false h (omega (arith, at, size)) in
     rw (same, at) here)
     (cases_lt h g)
+
+-- the members of one place more
+pub points_more : (templates : List TemplateView) (n : ℕ) (members : List ℕ) (i : ℕ) (template : TemplateView) → i < length members → slice_get templates (get_or members i 0) ≡ Some template
+    → length template.points ≡ n → AllHavePoints templates n (take i members) → AllHavePoints templates n (take (i + 1) members)
+points_more templates n members i template below at has before u held =
+    ⊎_elim
+    (λ earlier. before u earlier)
+    (λ here other other_at. let same : template ≡ other = cc in subst (λ (t : TemplateView). length t.points ≡ n) same has)
+    (Contains-push_cases (take i members) (get_or members i 0) u (subst (λ (l : List ℕ). Contains l u) (take_more members i 0 below) held))
 
 -- ---- the groups of a site
 
