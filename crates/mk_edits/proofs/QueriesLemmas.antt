@@ -84,7 +84,8 @@ dropped_more name rows i row b old below is of_name before =
     ap (λ (l : List CursorRow). map drop_of (filter p l)) (map-append cursor_row (take i rows) (row ∷ []))
     ∙ ap (map drop_of) (filter-append p (cursors_of (take i rows)) (cursors_of (row ∷ [])))
     ∙ map-append drop_of (filter p (cursors_of (take i rows))) (filter p (cursors_of (row ∷ []))) in
-    ap (λ front. front ++ cond b (DropCursor row.number ∷ []) []) before ∙ ap (λ last. dropped name (take i rows) ++ last) (sym (dropped_one name row b of_name)) ∙ sym split ∙ ap (dropped name) (sym next)
+    ap (λ front. front ++ cond b (DropCursor row.number ∷ []) []) before ∙ ap (λ last. dropped name (take i rows) ++ last) (sym (dropped_one name row b of_name))
+    ∙ sym split ∙ ap (dropped name) (sym next)
 
 forget_ready : (name : List ℕ) (rows : List CursorRow) → IsName name → AreReady (map drop_of rows ++ DropQuery name ∷ []) []
 forget_ready name [] is = (is, tt)
