@@ -1,4 +1,5 @@
 -- The kinds of atoms, and the lists of elements that tell them.
+--     line_tells, property_tells     the kind that the list at a place tells
 --     known_at       the members of the list that is in force for an atom are elements
 --     kind_is        the kind of an atom by what is noted
 use Rattle.std.proofs.Common.{◌≡◌, ◌≤◌, ◌<◌, ◌+◌, ◌-◌, ℕ, suc, List, [], ◌∷◌, ◌++◌, Option, Some, None, refl, ap, sym, subst, ◌∙◌, length, get_or, take, arith, inl, inr, Result, Ok, Err}

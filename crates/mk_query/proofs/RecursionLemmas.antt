@@ -2,9 +2,10 @@
 --     slots_at, members_at_place       a table's slots and a group's members, by their places
 --     also_more, label_more            the bits of groups for one slot or label more
 --     hold_more                        one more entry of a table of rows and columns
+--     by_way_more                      all entries, where one group more may stand between
 --     chain_leads, leads_chain         a table leads on to another exactly where one of its sites leads to its group
 --     ranked                           where none uses itself, the groups to which a table leads rank it
-use Rattle.std.proofs.Common.{◌≡◌, ℕ, zero, suc, ◌+◌, ◌-◌, ◌*◌, ◌<◌, ◌≤◌, Bool, true, false, cond, inl, inr, ◌⊎◌, ⊎_elim, Option, None, ◌&&◌, ◌&&◌, ◌||◌, List, [], ◌∷◌, ◌++◌, Some, refl, sym, ap, subst, ◌∙◌, arith, length, get_or, take, All}
+use Rattle.std.proofs.Common.{◌≡◌, ℕ, zero, suc, ◌+◌, ◌-◌, ◌*◌, ◌<◌, ◌≤◌, Bool, true, false, cond, inl, inr, ◌⊎◌, ⊎_elim, Option, None, ◌&&◌, ◌||◌, List, [], ◌∷◌, ◌++◌, Some, refl, sym, ap, subst, ◌∙◌, arith, length, get_or, take, All}
 use Rattle.std.specs.Prelude.{◌≢◌, ◌==◌, count_by, Contains, slice_get}
 use Rattle.std.specs.List.{list_any, range_with_len}
 use Rattle.std.proofs.lemmas.Bool.Decides.{nat_tests}
@@ -385,9 +386,9 @@ leads_step query k g h =
     subst (λ (n : ℕ). leads query n g h ≡ (leads query k g h || (leads query k g n && leads query k n h))) same refl
 
 -- the entries by way of one group more
-pub holds_more : (query : QueryView) (k : ℕ) (old new : List Bool) → k < 32 → Holds (leads query k) old
+pub by_way_more : (query : QueryView) (k : ℕ) (old new : List Bool) → k < 32 → Holds (leads query k) old
     → Holds (λ g h. entry old g h || (entry old g (k + 1) && entry old (k + 1) h)) new → Holds (leads query (k + 1)) new
-holds_more query k old new few so one = record {
+by_way_more query k old new few so one = record {
   size = one.size;
   each = λ a b column below.
       let few_rows : a < 32 = omega (arith, below, one.size) in
