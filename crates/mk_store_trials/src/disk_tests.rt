@@ -1,76 +1,30 @@
 // A keeper over disks in memory, which are opened again, and stopped at each of their calls.
 use crate::keeper_tests::{loaded, put_first, put_second};
-use crate::script_tests::{commands_answered, is_listed};
+use mk_disks::{Done, Task, count_in, done_again, done_twice_in, files};
 use mk_outside::Keeper;
-use mk_sqlite::{SqlKeeper, again};
-use sqlite::{Connection, FileStore, Files, Options};
-use sqlite_disk::{Crash, Disk, Fuse, Memory};
 use std::alloc::{AllocError, Global};
 use std::test::Fail;
 
-pub type Fused = Fuse<Memory>;
-
-type KeeperOver<D> = SqlKeeper<FileStore<D>>;
-
-// An empty log and an empty database, which stop after so many calls.
-pub fn files(alloc: Global, log: u64, db: u64) -> Files<Fused> {
-    Files {
-        log: Fuse::new(Memory::new(alloc), log),
-        db: Fuse::new(Memory::new(alloc), db),
-    }
-}
-
-// A keeper over the files, or else the files. It is of any disk, as all that takes a keeper here:
-// at one that is named the prover takes twenty seconds for each call.
-fn opened<D: Disk + Drop>(alloc: Global, files: Files<D>) -> Result<KeeperOver<D>, Files<D>> {
-    if !files.may_be_used() {
-        return Err(files);
-    }
-    match Connection::open_files(alloc, files, Options::new(7)) {
-        Ok(connection) => Ok(SqlKeeper::over(connection)),
-        Err((_error, left)) => Err(left.into_files()),
-    }
-}
-
-// The files of a keeper, whether they could be closed well or not.
-fn closed<D: Disk + Drop>(keeper: KeeperOver<D>) -> Option<Files<D>> {
-    match keeper.back() {
-        Some(connection) => match connection.close_files() {
-            Ok(files) => Some(files),
-            Err((_error, store)) => Some(store.close()),
-        },
-        None => None,
-    }
-}
-
-// The files after a stop: what was not yet safe is lost, and they take calls again.
-fn restarted(mut files: Files<Fused>) -> Files<Fused> {
-    files.log.crash();
-    files.db.crash();
-    files
-}
-
-/// What is done with a keeper.
-#[derive(Clone, Copy)]
-pub enum Task {
+enum Batches {
     /// Both batches are put.
     Put,
     /// The tables are loaded.
     Load,
-    /// A script of three commands is run.
-    Run,
-    /// The tables are listed, which so many commands made, or one more.
-    List { commands: usize },
-    /// Both batches are put, and the tables are loaded once the keeper is opened again.
-    PutAndOpen,
 }
 
-/// What came of it: how many batches were made or commands answered, or 1 where the tables are
-/// listed so and 0 where they aren't, and none where the run ended otherwise; and what was loaded.
-#[derive(Drop)]
-pub struct Done {
-    pub count: Option<usize>,
-    pub loaded: Vec<u8>,
+impl Task for Batches {
+    fn done<K: Keeper>(&self, alloc: Global, keeper: &mut K) -> Result<Done, AllocError> {
+        match self {
+            Batches::Put => Ok(Done {
+                count: Some(put_both(keeper, alloc)?),
+                read: Vec::new(alloc),
+            }),
+            Batches::Load => Ok(Done {
+                count: Some(0),
+                read: loaded(keeper, alloc)?,
+            }),
+        }
+    }
 }
 
 // How many of the two batches were made.
@@ -81,113 +35,11 @@ fn put_both<K: Keeper>(keeper: &mut K, alloc: Global) -> Result<usize, AllocErro
     Ok(if put_second(keeper, alloc)? { 2 } else { 1 })
 }
 
-fn count_of<K: Keeper>(
-    alloc: Global,
-    keeper: &mut K,
-    task: Task,
-) -> Result<Option<usize>, AllocError> {
-    match task {
-        Task::Put | Task::PutAndOpen => Ok(Some(put_both(keeper, alloc)?)),
-        Task::Load => Ok(Some(0)),
-        Task::Run => commands_answered(alloc, keeper),
-        Task::List { commands } => Ok(Some(usize::from(is_listed(alloc, keeper, commands)?))),
-    }
-}
-
-fn do_task<K: Keeper>(alloc: Global, keeper: &mut K, task: Task) -> Result<Done, AllocError> {
-    let count = count_of(alloc, keeper, task)?;
-    let loaded = match task {
-        Task::Load => loaded(keeper, alloc)?,
-        _ => Vec::new(alloc),
-    };
-    Ok(Done { count, loaded })
-}
-
-// What is done over a keeper, and its files afterwards. A keeper has one way out in each function
-// here, since the prover goes through all that is let go at each of them.
-fn done_and_closed<D: Disk + Drop>(
-    alloc: Global,
-    mut keeper: KeeperOver<D>,
-    task: Task,
-) -> Result<(Done, Files<D>), Fail> {
-    let done = do_task(alloc, &mut keeper, task);
-    let files = closed(keeper).ok_or("no files")?;
-    Ok((done?, files))
-}
-
-// Both batches are put, and the tables loaded once the keeper is opened again.
-fn put_and_opened<D: Disk + Drop>(
-    alloc: Global,
-    mut keeper: KeeperOver<D>,
-) -> Result<(Done, Files<D>), Fail> {
-    let put = do_task(alloc, &mut keeper, Task::Put);
-    let keeper = again(alloc, keeper, Options::new(7)).ok_or("a keeper")?;
-    let (left, files) = done_and_closed(alloc, keeper, Task::Load)?;
-    let done = Done {
-        count: put?.count,
-        loaded: left.loaded,
-    };
-    Ok((done, files))
-}
-
-fn done_over<D: Disk + Drop>(
-    alloc: Global,
-    keeper: KeeperOver<D>,
-    task: Task,
-) -> Result<(Done, Files<D>), Fail> {
-    match task {
-        Task::PutAndOpen => put_and_opened(alloc, keeper),
-        _ => done_and_closed(alloc, keeper, task),
-    }
-}
-
-// What is done over the files, and the files afterwards. Where they can't be opened nothing is.
-fn done_in_any<D: Disk + Drop>(
-    alloc: Global,
-    files: Files<D>,
-    task: Task,
-) -> Result<(Option<Done>, Files<D>), Fail> {
-    match opened(alloc, files) {
-        Ok(keeper) => {
-            let (done, files) = done_over(alloc, keeper, task)?;
-            Ok((Some(done), files))
-        }
-        Err(files) => Ok((None, files)),
-    }
-}
-
-fn done_in(
-    alloc: Global,
-    files: Files<Fused>,
-    task: Task,
-) -> Result<(Option<Done>, Files<Fused>), Fail> {
-    done_in_any(alloc, files, task)
-}
-
-/// What is done over the files once they take calls again.
-pub fn done_again(alloc: Global, files: Files<Fused>, task: Task) -> Result<Done, Fail> {
-    let (done, _files) = done_in(alloc, restarted(files), task)?;
-    Ok(done.ok_or("files that can't be opened again")?)
-}
-
-/// How much of a task came about, and the files afterwards.
-pub fn count_in(
-    alloc: Global,
-    files: Files<Fused>,
-    task: Task,
-) -> Result<(usize, Files<Fused>), Fail> {
-    let (done, files) = done_in(alloc, files, task)?;
-    match done {
-        Some(done) => Ok((done.count.ok_or("a run that ends otherwise")?, files)),
-        None => Ok((0, files)),
-    }
-}
-
 // How many batches were made over files that stop after so many calls, and what is loaded of them
 // afterwards.
 fn stopped(alloc: Global, log: u64, db: u64) -> Result<(usize, Vec<u8>), Fail> {
-    let (made, files) = count_in(alloc, files(alloc, log, db), Task::Put)?;
-    Ok((made, done_again(alloc, files, Task::Load)?.loaded))
+    let (made, files) = count_in(alloc, files(alloc, log, db), &Batches::Put)?;
+    Ok((made, done_again(alloc, files, &Batches::Load)?.read))
 }
 
 // What is loaded after none, one and both of the batches.
@@ -241,8 +93,9 @@ fn a_stopped_database_leaves_whole_batches(rt: HostRuntime) -> Result<(), Fail> 
 #[test]
 fn a_keeper_opened_again_keeps_all(rt: HostRuntime) -> Result<(), Fail> {
     let alloc = rt.alloc();
-    let (done, _files) = done_in(alloc, files(alloc, u64::MAX, u64::MAX), Task::PutAndOpen)?;
+    let files = files(alloc, u64::MAX, u64::MAX);
+    let done = done_twice_in(alloc, files, &Batches::Put, &Batches::Load)?;
     let done = done.ok_or("files that can't be opened")?;
-    assert!(rt; done.count == Some(2) && is_left(done.loaded.as_slice(), 2));
+    assert!(rt; done.count == Some(2) && is_left(done.read.as_slice(), 2));
     Ok(())
 }

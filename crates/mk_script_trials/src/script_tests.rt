@@ -1,6 +1,6 @@
 // A script over disks in memory that stop at each of their calls. The program's run over a store is
 // `top` over this keeper.
-use crate::disk_tests::{Task, count_in, done_again, files};
+use mk_disks::{Done, Task, count_in, done_again, files};
 use mk_outside::{Bytes, FileRow, FileRows, Keeper, SureFiles, SureSink, SureSource, Text};
 use mk_session::{Memory, Status, top};
 use std::alloc::Global;
@@ -107,12 +107,9 @@ fn is_listed_once<K: Keeper>(
     }
 }
 
-/// How many of the commands are answered over the keeper. None where the answers aren't whole, or
-/// the status isn't that of so many.
-pub fn commands_answered<K: Keeper>(
-    alloc: Global,
-    keeper: &mut K,
-) -> Result<Option<usize>, Memory> {
+// How many of the commands are answered over the keeper. None where the answers aren't whole, or
+// the status isn't that of so many.
+fn commands_answered<K: Keeper>(alloc: Global, keeper: &mut K) -> Result<Option<usize>, Memory> {
     let (answers, ended) = ran(alloc, keeper, "load coc\nquery q co\nsearch q 1\n")?;
     Ok(match answered(answers.as_slice()) {
         Some(commands) if (ended == Status::Done) == (commands == 3) => Some(commands),
@@ -120,23 +117,42 @@ pub fn commands_answered<K: Keeper>(
     })
 }
 
-/// Whether the keeper holds what so many commands made, or one more.
-pub fn is_listed<K: Keeper>(
-    alloc: Global,
-    keeper: &mut K,
-    commands: usize,
-) -> Result<bool, Memory> {
+// Whether the keeper holds what so many commands made, or one more.
+fn is_listed<K: Keeper>(alloc: Global, keeper: &mut K, commands: usize) -> Result<bool, Memory> {
     if is_listed_once(alloc, keeper, commands)? {
         return Ok(true);
     }
     is_listed_once(alloc, keeper, commands.saturating_add(1))
 }
 
+#[derive(Clone, Copy)]
+enum Scripts {
+    /// A script of three commands is run.
+    Run,
+    /// The tables are listed, which so many commands made, or one more: 1 where they are, else 0.
+    List { commands: usize },
+}
+
+impl Task for Scripts {
+    fn done<K: Keeper>(&self, alloc: Global, keeper: &mut K) -> Result<Done, Memory> {
+        let count = match self {
+            Scripts::Run => commands_answered(alloc, keeper)?,
+            Scripts::List { commands } => {
+                Some(usize::from(is_listed(alloc, keeper, *commands)?))
+            }
+        };
+        Ok(Done {
+            count,
+            read: Vec::new(alloc),
+        })
+    }
+}
+
 // How many of the commands are answered over files that stop after so many calls. Fails where the
 // store then holds neither what they made nor that of one command more.
 fn stopped(alloc: Global, log: u64, db: u64) -> Result<usize, Fail> {
-    let (commands, files) = count_in(alloc, files(alloc, log, db), Task::Run)?;
-    if done_again(alloc, files, Task::List { commands })?.count != Some(1) {
+    let (commands, files) = count_in(alloc, files(alloc, log, db), &Scripts::Run)?;
+    if done_again(alloc, files, &Scripts::List { commands })?.count != Some(1) {
         return Err(Fail::new("the tables of no number of commands"));
     }
     Ok(commands)
