@@ -1,3 +1,4 @@
+pub mod FindingLemmas
 pub mod OpeningLemmas
 pub mod SteppingLemmas
 pub mod TurnLemmas

@@ -1,5 +1,6 @@
 -- One command on a session.
 --     Seeks ..         what it comes to, found before anything is changed
+--     found_without_files      the same of a command that reads no file
 --     IsStepped ..     what it leaves
 --     ChangeCounts, StepCounts     the counts of faults over a change and over a command
 use Rattle.std.specs.Prelude.{◌≡◌, ◌≢◌, ℕ, Bool, true, false, List, [], ◌++◌, Option, Result, Ok, Err}
@@ -21,6 +22,11 @@ use Rattle.mk_found.specs.Findings.{IsReached, SeeksSo}
 
 abbrev pub Seeks : Option Look → Tables → Order → ℕ → ℕ → Result Found StepFail → Type 0
 Seeks files t order old new result = SeeksSo (Comes files t order) (Reaches files t order) old new result
+
+-- what a command that reads no file comes to, as a step: it fails for want of memory alone
+unfoldable pub found_without_files : {E : Type 0} → Result Found E → Result Found StepFail
+found_without_files (Ok found) = Ok found
+found_without_files (Err memory) = Err fail.Memory
 
 -- how a command ended that came to this effect
 abbrev pub ended_of : Effect → Ended

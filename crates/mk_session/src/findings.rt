@@ -7,7 +7,7 @@ ghost use Rattle.mk_kept.specs.Saved.{IsSameSaved};
 ghost use Rattle.mk_drill.specs.Answer.{IsDrillAnswer};
 ghost use Rattle.mk_session.specs.Step.{Reaches};
 ghost use Rattle.mk_found.specs.Findings.{FoundFits, MissesAt, effect_of, stands_for};
-ghost use Rattle.mk_session.specs.Stepping.{Seeks};
+ghost use Rattle.mk_session.specs.Stepping.{Seeks, found_without_files};
 ghost use Rattle.mk_session.specs.StepTicks.{BeginsOfCommand};
 
 use mk_drill::drill_found;
@@ -18,7 +18,7 @@ use mk_effects::{enum_found, match_found, resume_found, search_found};
 use mk_found::{Found, StepFail};
 use mk_kept::Saved;
 use mk_library::Library;
-use mk_model::Steps;
+use mk_model::{Memory, Steps};
 use mk_outside::Files;
 use mk_rtable::table_found;
 use mk_words::Command;
@@ -51,30 +51,48 @@ pub fn found_of<F: Files, L: Ledger>(
         Command::Replace { number, file } => {
             replace_found(alloc, library, files, *number, file.as_str())
         }
-        Command::Remove { number } => Ok(remove_found(alloc, library, *number)?),
-        Command::Show { number } => Ok(show_found(alloc, library, *number)?),
-        Command::List => Ok(list_found(alloc, library, saved)?),
+        Command::Remove { number } => without_files(remove_found(alloc, library, *number)),
+        Command::Show { number } => without_files(show_found(alloc, library, *number)),
+        Command::List => without_files(list_found(alloc, library, saved)),
         Command::Query { name, file } => {
             keep_found(alloc, saved, files, name.as_str(), file.as_str())
         }
-        Command::Forget { name } => Ok(forget_found(alloc, saved, name.as_str())?),
+        Command::Forget { name } => without_files(forget_found(alloc, saved, name.as_str())),
         Command::Search {
             name,
             limit,
             budget,
         } => {
             let name = name.as_str();
-            Ok(search_found(alloc, library, saved, name, *limit, *budget, steps)?)
+            without_files(search_found(alloc, library, saved, name, *limit, *budget, steps))
         }
         Command::Resume {
             cursor,
             limit,
             budget,
-        } => Ok(resume_found(alloc, library, saved, *cursor, *limit, *budget, steps)?),
-        Command::Table { name } => Ok(table_found(alloc, library, saved, name.as_str(), steps)?),
+        } => without_files(resume_found(alloc, library, saved, *cursor, *limit, *budget, steps)),
+        Command::Table { name } => without_files(table_found(
+            alloc,
+            library,
+            saved,
+            name.as_str(),
+            steps,
+        )),
         Command::Enum { name, limit, from } => {
-            Ok(enum_found(alloc, saved, name.as_str(), *limit, from.as_slice())?)
+            without_files(enum_found(alloc, saved, name.as_str(), *limit, from.as_slice()))
         }
-        Command::Drill { start, count } => Ok(drill_found(alloc, *start, *count)?),
+        Command::Drill { start, count } => without_files(drill_found(alloc, *start, *count)),
+    }
+}
+
+// What a command that reads no file comes to, as a step: it fails for want of memory alone. As a
+// function it spares `found_of` a way out for each of these commands.
+#[tactic(auto, unfolding(crate::specs::Stepping::found_without_files))]
+fn without_files(found: Result<Found, Memory>) -> Result<Found, StepFail>
+    ensures { result ≡ found_without_files found }
+{
+    match found {
+        Ok(found) => Ok(found),
+        Err(Memory) => Err(StepFail::Memory),
     }
 }
