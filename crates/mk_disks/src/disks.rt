@@ -7,6 +7,7 @@ use std::alloc::Global;
 /// A disk in memory that stops.
 pub type Fused = Fuse<Memory>;
 
+/// A keeper over a log and a database on such disks.
 pub type KeeperOver<D> = SqlKeeper<FileStore<D>>;
 
 /// An empty log and an empty database, which stop after so many calls.
@@ -17,8 +18,8 @@ pub fn files(alloc: Global, log: u64, db: u64) -> Files<Fused> {
     }
 }
 
-/// A keeper over the files, or else the files. It is of any disk, as all that takes a keeper here:
-/// at one that is named the prover takes twenty seconds for each call.
+/// A keeper over the files, or else the files. It is of any disk, as all that takes a keeper here.
+/// Few functions make, lend or close one, since each takes the prover some twenty seconds for it.
 pub fn opened<D: Disk + Drop>(alloc: Global, files: Files<D>) -> Result<KeeperOver<D>, Files<D>> {
     if !files.may_be_used() {
         return Err(files);

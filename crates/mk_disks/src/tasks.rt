@@ -73,8 +73,8 @@ fn done_twice_in_any<D: Disk + Drop, T: Task>(
     }
 }
 
-/// What is done over the files, and the files afterwards. Where they can't be opened nothing is.
-pub fn done_in<T: Task>(
+// What is done over the files, and the files afterwards. Where they can't be opened nothing is.
+fn done_in<T: Task>(
     alloc: Global,
     files: Files<Fused>,
     task: &T,
