@@ -7,21 +7,6 @@ pub mod TableFactLemmas
 pub mod ReaderLemmas
 pub mod StepLemmas
 mod TableOnLiterals
-pub mod ThreeLemmas
-pub mod AppendLemmas
-pub mod StandingLemmas
-pub mod LineSpellingLemmas
-pub mod EndLemmas
-pub mod EntrySpellingLemmas
-pub mod PropertySpellingLemmas
-pub mod NoLfLemmas
-pub mod WholeLineLemmas
-pub mod TableSpellingLemmas
-pub mod GraphicLemmas
-pub mod EdgeLemmas
-pub mod BondLemmas
-pub mod ChargePuttingLemmas
-pub mod ChargeLemmas
 pub mod KeptPropertyLemmas
 pub mod KeptLineLemmas
 pub mod KeptTablesLemmas

@@ -4,13 +4,6 @@ pub mod TableReading
 pub mod TableFacts
 pub mod TableFaults
 pub mod TableLaws
-pub mod TableSpelling
 pub mod Molfile
 pub mod TableWalk
-pub mod Numbers
-pub mod Bonds
-pub mod BondSearch
-pub mod Values
-pub mod Charges
-pub mod ChargePutting
 pub mod KeptTables

@@ -10,10 +10,10 @@ use Rattle.mk_text.specs.Items.{OfItem}
 use Rattle.mk_model.specs.Edges.{touches}
 use Rattle.mk_ctab.specs.declared.raw.RawBond.{RawBond}
 use Rattle.mk_ctab.specs.declared.raw.RawTable.{RawTable}
-use Rattle.mk_ctab.specs.Bonds.{HasTwoEnds, raw_edge, edges_of}
+use Rattle.mk_demands.specs.Bonds.{HasTwoEnds, raw_edge, edges_of}
 use Rattle.mk_ctab.specs.Table.{IsKept}
-use Rattle.mk_ctab.specs.TableSpelling.{AtomFits, BondFits, CanBeSpelt, IsSymbol, ListFits, PropertyFits, RangeFits, SymbolsEnd, SymbolsFit}
-use Rattle.mk_ctab.specs.Values.{HasKnownValues, NamesAtoms}
+use Rattle.mk_spelling.specs.TableSpelling.{AtomFits, BondFits, CanBeSpelt, IsSymbol, ListFits, PropertyFits, RangeFits, SymbolsEnd, SymbolsFit}
+use Rattle.mk_demands.specs.Values.{HasKnownValues, NamesAtoms}
 use Rattle.mk_mol.specs.Checks.{HasKnownType, IsKnownAtom, IsOfMolecules}
 use Rattle.mk_mol.specs.FirstFault.{MoleculeCheck, MeetsCheck, MeetsAllChecks, few_bonds, known_atoms, known_properties, known_types, known_values, named_atoms, new_bonds}
 use Rattle.mk_drill.proofs.BondLemmas.{all_between, new_at}

@@ -12,7 +12,7 @@ use Rattle.mk_elements.specs.Symbols.{symbols}
 use Rattle.mk_ctab.specs.declared.raw.RawAtom.{RawAtom}
 use Rattle.mk_ctab.specs.declared.raw.RawBond.{RawBond}
 use Rattle.mk_ctab.specs.declared.raw.RawTable.{RawTable}
-use Rattle.mk_ctab.specs.TableSpelling.{AtomFits, FitsThree, IsSymbol}
+use Rattle.mk_spelling.specs.TableSpelling.{AtomFits, FitsThree, IsSymbol}
 use Rattle.mk_mol.specs.Checks.{HasKnownType, IsKnownAtom, IsElementSymbol}
 use Rattle.mk_drill.specs.Draws.{benzene, drilled_table, draws, plain_atom, plain_bond, substituted, substituted_from, with_atom, with_methoxy}
 use Rattle.mk_drill.proofs.BondLemmas.{AreNew, new_behind, ring_is_new}

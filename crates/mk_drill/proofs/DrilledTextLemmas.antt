@@ -3,8 +3,8 @@ use Rattle.std.proofs.Common.{[], ◌∷◌, ◌≡◌, ℕ, List, Some, arith, 
 use Rattle.std.proofs.lemmas.List.{append-nil}
 use Rattle.mk_text.specs.Lines.{lines_of}
 use Rattle.mk_ctab.specs.declared.raw.RawTable.{RawTable}
-use Rattle.mk_ctab.specs.TableSpelling.{CanBeSpelt, table_spelling}
-use Rattle.mk_ctab.proofs.TableSpellingLemmas.{is_read}
+use Rattle.mk_spelling.specs.TableSpelling.{CanBeSpelt, table_spelling}
+use Rattle.mk_spelling.proofs.TableSpellingLemmas.{is_read}
 use Rattle.mk_sdfile.specs.declared.raw_record.RawRecord.{RawRecord}
 use Rattle.mk_sdfile.specs.Sdfile.{IsRecord, IsSdfile}
 use Rattle.mk_sdfile.proofs.SdfileLemmas.{one}

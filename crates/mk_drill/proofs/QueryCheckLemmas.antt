@@ -15,8 +15,8 @@ use Rattle.mk_ctab.specs.declared.raw.RawAtom.{RawAtom}
 use Rattle.mk_ctab.specs.declared.raw.RawBond.{RawBond}
 use Rattle.mk_ctab.specs.declared.raw.RawList.{RawList}
 use Rattle.mk_ctab.specs.declared.raw.RawTable.{RawTable}
-use Rattle.mk_ctab.specs.Bonds.{raw_edge, edges_of}
-use Rattle.mk_ctab.specs.Numbers.{IsAtom, IsWithin}
+use Rattle.mk_demands.specs.Bonds.{raw_edge, edges_of}
+use Rattle.mk_demands.specs.Numbers.{IsAtom, IsWithin}
 use Rattle.mk_logic.specs.RangeTexts.{above, blank_text}
 use Rattle.mk_rgfile.specs.declared.raw_query.RawGroup.{RawGroup}
 use Rattle.mk_query.specs.Checks.{HasQueryType, IsElementName, IsQueryAtom, IsQueryProperty, LeavesFewBonds}

@@ -9,8 +9,8 @@ use Rattle.mk_text.specs.Lines.{ended, lines_of, onto_first_piece, pieces, text_
 use Rattle.mk_ctab.specs.declared.raw.RawAtom.{RawAtom}
 use Rattle.mk_ctab.specs.declared.raw.RawBond.{RawBond}
 use Rattle.mk_ctab.specs.declared.raw.RawTable.{RawTable}
-use Rattle.mk_ctab.specs.TableSpelling.{AtomFits, BondFits, CanBeSpelt, IsSymbol, at_left, atom_line, bond_line, counts_line, end_line, numbers_line, property_line, table_spelling, table_lines}
-use Rattle.mk_ctab.proofs.ThreeLemmas.{count_fits, length-three}
+use Rattle.mk_spelling.specs.TableSpelling.{AtomFits, BondFits, CanBeSpelt, IsSymbol, at_left, atom_line, bond_line, counts_line, end_line, numbers_line, property_line, table_spelling, table_lines}
+use Rattle.mk_spelling.proofs.ThreeLemmas.{count_fits, length-three}
 use Rattle.mk_drill.proofs.DrilledChecksLemmas.{of_none}
 use Rattle.mk_drill.specs.DrilledRecords.{drilled_text, record_text}
 

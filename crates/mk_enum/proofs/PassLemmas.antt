@@ -20,8 +20,8 @@ use Rattle.mk_model.specs.Tests.{IsKindInRange, IsListOfElements, IsTestInRange}
 use Rattle.mk_model.proofs.ForCallers.{all_at, pairs_none}
 use Rattle.mk_ctab.specs.declared.raw.RawAtom.{RawAtom}
 use Rattle.mk_ctab.specs.declared.raw.RawTable.{RawTable}
-use Rattle.mk_ctab.specs.Charges.{last_or, values_for}
-use Rattle.mk_ctab.specs.Numbers.{IsAtom, IsWithin}
+use Rattle.mk_demands.specs.Charges.{last_or, values_for}
+use Rattle.mk_demands.specs.Numbers.{IsAtom, IsWithin}
 use Rattle.mk_query.specs.Checks.{IsElementName, IsQueryAtom, IsQueryBond, IsQueryProperty, IsQueryWord, IsRingBondCount}
 use Rattle.mk_query.specs.Compiled.{logic_of, logic_for}
 use Rattle.mk_query.specs.Drawn.{ElementList, bears_point, gives_point, is_site, label_pairs, labels_at, links_at, links_for, links_of, lists_at, point_pairs, value_at}

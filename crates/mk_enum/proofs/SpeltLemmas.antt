@@ -24,9 +24,9 @@ use Rattle.mk_ctab.specs.declared.raw.RawTable.{RawTable}
 use Rattle.mk_ctab.specs.KeptTables.{EndsWithoutCr, KeepsItsText}
 use Rattle.mk_ctab.specs.Table.{IsKept}
 use Rattle.mk_ctab.specs.TableFacts.{HasSymbols}
-use Rattle.mk_ctab.specs.TableSpelling.{AtomFits, BondFits, CanBeSpelt, FitsThree, IsSymbol, ListFits, PairFits, PairsFit, PropertyFits, RangeFits, SymbolsEnd, SymbolsFit}
-use Rattle.mk_ctab.proofs.GraphicLemmas.{is_symbol, no_cr}
-use Rattle.mk_ctab.proofs.ThreeLemmas.{count_fits}
+use Rattle.mk_spelling.specs.TableSpelling.{AtomFits, BondFits, CanBeSpelt, FitsThree, IsSymbol, ListFits, PairFits, PairsFit, PropertyFits, RangeFits, SymbolsEnd, SymbolsFit}
+use Rattle.mk_spelling.proofs.GraphicLemmas.{is_symbol, no_cr}
+use Rattle.mk_spelling.proofs.ThreeLemmas.{count_fits}
 use Rattle.mk_enum.specs.StructureTables.{atom_drawn, bond_drawn, element_symbol, entries_from, kind_symbol, symbol_list, unsaturation, IsTableOf}
 use Rattle.mk_enum.specs.Writable.{IsWritable}
 use Rattle.mk_enum.proofs.EachEntryLemmas.{entries_each, one_entry, OfEach}

@@ -14,8 +14,8 @@ use Rattle.mk_model.specs.declared.atom_test.AtomTest.{AtomTest}
 use Rattle.mk_model.specs.declared.atom_test.Kind.{Kind}
 use Rattle.mk_model.specs.declared.atom_test.Kind.TheVariants.{Element, OneOf, NoneOf, NotHydrogen, Hetero, Anything}
 use Rattle.mk_model.specs.declared.graph.GraphAtom.{GraphAtom}
-use Rattle.mk_ctab.specs.Charges.{charges_of, last_or, radicals_of, values_for}
-use Rattle.mk_ctab.proofs.ForCallers.{values_for-append}
+use Rattle.mk_demands.specs.Charges.{charges_of, last_or, radicals_of, values_for}
+use Rattle.mk_demands.proofs.ForCallers.{values_for-append}
 use Rattle.mk_query.specs.Drawn.{pairs_by, ring_bonds_of, substitutions_of, unsaturations_of}
 use Rattle.mk_query.proofs.ValueLemmas.{last-append}
 use Rattle.mk_enum.specs.StructureTables.{atom_entries, entries_from, entry, list_entry, symbol_list, unsaturation}

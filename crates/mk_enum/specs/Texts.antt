@@ -4,7 +4,7 @@
 use Rattle.std.specs.Prelude.{ℕ, List, ◌∷◌, ◌++◌, codes, decimal}
 use Rattle.std.specs.List.{flat_map}
 use Rattle.mk_ctab.specs.declared.raw.RawTable.{RawTable}
-use Rattle.mk_ctab.specs.TableSpelling.{table_spelling}
+use Rattle.mk_spelling.specs.TableSpelling.{table_spelling}
 
 -- a number behind a blank, byte 32
 abbrev pub behind_blank : ℕ → List ℕ

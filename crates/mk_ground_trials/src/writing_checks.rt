@@ -3,7 +3,7 @@ ghost use Rattle.std.specs.Prelude.{◌≡◌, ◌≤◌, ◌<◌, IsTrue, All, 
 ghost use Rattle.std.specs.List.{list_all};
 ghost use Rattle.mk_ctab.specs.Table.{IsKept};
 ghost use Rattle.mk_text.specs.Lines.{EndsWith};
-ghost use Rattle.mk_ctab.specs.TableSpelling.{FitsThree, AtomFits, BondFits, ListFits, PairFits, PairsFit, LinkFits, LinksFit, AtomListFits, LogicFits, PropertyFits, IsSymbol, SymbolsFit, SymbolsEnd, IsRangeText, RangeFits, CanBeSpelt};
+ghost use Rattle.mk_spelling.specs.TableSpelling.{FitsThree, AtomFits, BondFits, ListFits, PairFits, PairsFit, LinkFits, LinksFit, AtomListFits, LogicFits, PropertyFits, IsSymbol, SymbolsFit, SymbolsEnd, IsRangeText, RangeFits, CanBeSpelt};
 
 use mk_ctab::{RawAtom, RawBond, RawList, RawTable};
 use mk_props::{AtomList, LinkEntry, LogicLine, Pair, Property, Symbols};

@@ -10,11 +10,11 @@ use Rattle.mk_model.specs.declared.molecule.MolBond.{MolBond}
 use Rattle.mk_model.specs.Edges.{IsBetween, IsSimple, HasEnds, Joins}
 use Rattle.mk_model.specs.Molecules.{Molecule, IsElement, IsMolecule, HasMarks, edge_of, edges}
 use Rattle.mk_ctab.specs.declared.raw.RawTable.{RawTable}
-use Rattle.mk_ctab.specs.Bonds.{edges_of}
+use Rattle.mk_demands.specs.Bonds.{edges_of}
 use Rattle.mk_mol.specs.Filled.{AreGains, AreWrittenAtoms, IsFilled, hydrogen_atom, hydrogen_bonds, owners}
 use Rattle.mk_mol.specs.Putting.{IsSound}
 use Rattle.std.proofs.lemmas.Option.{slice_get-get_or}
-use Rattle.mk_ctab.proofs.ForCallers.{graph}
+use Rattle.mk_demands.proofs.ForCallers.{graph}
 use Rattle.mk_mol.proofs.HydrogenLemmas.{length-hydrogen_bonds}
 
 -- ---- the graph with hydrogens

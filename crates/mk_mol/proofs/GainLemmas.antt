@@ -13,14 +13,14 @@ use Rattle.mk_model.specs.declared.molecule.Atom.{Atom}
 use Rattle.mk_ctab.specs.declared.raw.RawAtom.{RawAtom}
 use Rattle.mk_ctab.specs.declared.raw.RawTable.{RawTable}
 use Rattle.mk_mol.specs.declared.bond_checks.Drawn.{Drawn}
-use Rattle.mk_ctab.specs.Numbers.{IsWithin, natural, byte}
-use Rattle.mk_ctab.specs.Bonds.{raw_edge, edges_of}
+use Rattle.mk_demands.specs.Numbers.{IsWithin, natural, byte}
+use Rattle.mk_demands.specs.Bonds.{raw_edge, edges_of}
 use Rattle.mk_mol.specs.Checks.{HasKnownType}
 use Rattle.mk_mol.specs.FirstFault.{MeetsAllChecks, known_types, few_bonds}
 use Rattle.mk_mol.specs.Filled.{AreGains, gained_by, kinds_at}
 use Rattle.mk_mol.specs.Putting.{kinds_of}
 use Rattle.mk_mol.specs.Search.{IsDrawn}
-use Rattle.mk_ctab.proofs.ForCallers.{numbers_are}
+use Rattle.mk_demands.proofs.ForCallers.{numbers_are}
 use Rattle.mk_mol.proofs.HydrogenLemmas.{kinds_are}
 use Rattle.std.proofs.lemmas.Option.{slice_get_within, get_or_from_slice_get, slice_get-get_or}
 use Rattle.mk_text.proofs.ForCallers.{all_of}

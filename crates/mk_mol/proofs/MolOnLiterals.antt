@@ -5,7 +5,7 @@ use Rattle.mk_props.specs.declared.property.Pair.{Pair}
 use Rattle.mk_props.specs.declared.property.Property.{Property}
 use Rattle.mk_props.specs.declared.property.Property.TheVariants as kinds
 use Rattle.mk_model.specs.declared.edge.Edge.{Edge}
-use Rattle.mk_ctab.specs.Charges.{charge_pairs, last_or, lists_values, radical_pairs, values_for}
+use Rattle.mk_demands.specs.Charges.{charge_pairs, last_or, lists_values, radical_pairs, values_for}
 use Rattle.mk_mol.specs.Filled.{hydrogen_bonds, kinds_at, owners}
 
 abbrev pair : ℤ → ℤ → Pair

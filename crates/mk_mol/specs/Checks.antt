@@ -9,7 +9,7 @@ use Rattle.mk_props.specs.declared.property.Property.{Property}
 use Rattle.mk_props.specs.declared.property.Property.TheVariants as kinds
 use Rattle.mk_ctab.specs.declared.raw.RawAtom.{RawAtom}
 use Rattle.mk_ctab.specs.declared.raw.RawBond.{RawBond}
-use Rattle.mk_ctab.specs.Numbers.{IsWithin}
+use Rattle.mk_demands.specs.Numbers.{IsWithin}
 
 -- the bytes name an element
 pub record IsElementSymbol (symbol : List ℕ) : Type 0 where

@@ -14,9 +14,9 @@ use Rattle.mk_model.specs.Molecules.{Molecule, edges}
 use Rattle.mk_valence.specs.Hydrogens.{added_hydrogens}
 use Rattle.mk_ctab.specs.declared.raw.RawAtom.{RawAtom}
 use Rattle.mk_ctab.specs.declared.raw.RawTable.{RawTable}
-use Rattle.mk_ctab.specs.Bonds.{edges_of}
-use Rattle.mk_ctab.specs.Charges.{charge_at, radical_at}
-use Rattle.mk_ctab.specs.Numbers.{natural}
+use Rattle.mk_demands.specs.Bonds.{edges_of}
+use Rattle.mk_demands.specs.Charges.{charge_at, radical_at}
+use Rattle.mk_demands.specs.Numbers.{natural}
 
 -- the types of the bonds of atom n, in order
 abbrev pub kinds_at : List Edge → ℕ → List ℕ

@@ -8,8 +8,8 @@
 use Rattle.std.specs.Prelude.{◌≡◌, ◌<◌, ℕ, [], length}
 use Rattle.mk_text.specs.Items.{IsLeastFailing, OfItem}
 use Rattle.mk_ctab.specs.declared.raw.RawTable.{RawTable}
-use Rattle.mk_ctab.specs.Bonds.{edges_of, HasFewBonds, IsNewBondAt}
-use Rattle.mk_ctab.specs.Values.{HasKnownValues, NamesAtoms}
+use Rattle.mk_demands.specs.Bonds.{edges_of, HasFewBonds, IsNewBondAt}
+use Rattle.mk_demands.specs.Values.{HasKnownValues, NamesAtoms}
 use Rattle.mk_mol.specs.Checks.{IsKnownAtom, HasKnownType, IsOfMolecules}
 
 -- Symbols and columns of atoms; ends of bonds; types of bonds; how many bonds an atom has; the

@@ -2,14 +2,15 @@
 ghost use Rattle.std.specs.Prelude.{◌≡◌, ◌≤◌, ◌↔◌, IfOk, IsTrue, OnOk, length};
 ghost use Rattle.mk_text.specs.Items.{FindsLeast, OfItem};
 ghost use Rattle.mk_model.specs.Edges.{IsSimple, rows_of};
-ghost use Rattle.mk_ctab.specs.Bonds.{edges_of, IsEdgeFront};
+ghost use Rattle.mk_demands.specs.Bonds.{edges_of, IsEdgeFront};
 ghost use Rattle.mk_mol.specs.Answers.{IfCheck};
 ghost use Rattle.mk_mol.specs.Checks.{HasKnownType};
 ghost use Rattle.mk_mol.specs.FirstFault.{IsFirstMoleculeFault, MeetsChecksBelow};
 ghost use Rattle.mk_mol.specs.Search.{IsDrawn};
 
 use crate::PrepareFault;
-use mk_ctab::{RawBond, RawTable, edges_between, first_crowded_atom, first_no_new_bond, is_within};
+use mk_ctab::{RawBond, RawTable};
+use mk_demands::{edges_between, first_crowded_atom, first_no_new_bond, is_within};
 use mk_model::{Edge, Neighbours};
 use std::alloc::Global;
 

@@ -1,10 +1,10 @@
 // What is demanded of properties.
 ghost use Rattle.std.specs.Prelude.{◌<◌, ◌^◌, ◌↔◌, IsTrue, length};
 ghost use Rattle.mk_text.specs.Items.{FindsLeast, OfItem};
-ghost use Rattle.mk_ctab.specs.Values.{HasKnownValues, NamesAtoms};
+ghost use Rattle.mk_demands.specs.Values.{HasKnownValues, NamesAtoms};
 ghost use Rattle.mk_mol.specs.Checks.{IsOfMolecules};
 
-use mk_ctab::{has_known_values, names_atoms};
+use mk_demands::{has_known_values, names_atoms};
 use mk_props::Property;
 
 /// The first property that names an atom that isn't there.

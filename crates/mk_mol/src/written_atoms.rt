@@ -2,13 +2,14 @@
 ghost use Rattle.std.specs.Prelude.{◌≡◌, ◌≤◌, All, IfOk};
 ghost use Rattle.mk_elements.specs.Symbols.{NamesElement};
 ghost use Rattle.mk_model.specs.Molecules.{IsElement};
-ghost use Rattle.mk_ctab.specs.Charges.{HasRadical};
+ghost use Rattle.mk_demands.specs.Charges.{HasRadical};
 ghost use Rattle.mk_mol.specs.Checks.{IsElementSymbol};
 ghost use Rattle.mk_mol.specs.Filled.{AreWrittenAtoms};
 ghost use Rattle.mk_mol.specs.FirstFault.{MeetsAllChecks};
 ghost use Rattle.mk_mol.specs.Putting.{IsSound};
 
-use mk_ctab::{Electrons, RawTable, charges_and_radicals};
+use mk_ctab::RawTable;
+use mk_demands::{Electrons, charges_and_radicals};
 use mk_elements::number_of;
 use mk_model::{Atom, Memory};
 use std::alloc::Global;

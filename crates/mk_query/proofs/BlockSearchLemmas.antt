@@ -12,7 +12,7 @@ use Rattle.mk_model.specs.declared.template.QueryBond.{QueryBond}
 use Rattle.mk_model.specs.Edges.{rows_of}
 use Rattle.mk_model.specs.Templates.{hang_together, query_edge, query_edges}
 use Rattle.mk_model.proofs.ForCallers.{hangs, hangs_tested, hangs_same, hangs_closed, GoesAlong}
-use Rattle.mk_ctab.proofs.ForCallers.{numbers_are, numbers-within}
+use Rattle.mk_demands.proofs.ForCallers.{numbers_are, numbers-within}
 use Rattle.mk_query.specs.declared.atom_marks.Standing.{Standing}
 use Rattle.mk_query.specs.declared.blocks.LinkEnds.{LinkEnds}
 use Rattle.mk_query.specs.BlockSearch.{AreNumbersOf, HasPlainBlock, IsBlock, IsLonger, IsReached, KeepReached, LeadsOn, MayHold, is_reached, others}

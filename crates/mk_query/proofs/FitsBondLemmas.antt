@@ -15,9 +15,9 @@ use Rattle.mk_model.specs.Templates.{query_edge, query_edges}
 use Rattle.mk_model.specs.Tests.{IsBondInRange}
 use Rattle.mk_ctab.specs.declared.raw.RawBond.{RawBond}
 use Rattle.mk_ctab.specs.declared.raw.RawTable.{RawTable}
-use Rattle.mk_ctab.specs.Bonds.{HasTwoEnds, IsEdgeFront, raw_edge, edges_of}
-use Rattle.mk_ctab.specs.Numbers.{IsWithin, byte}
-use Rattle.mk_ctab.proofs.ForCallers.{atom_within, atoms_differ, is_graph}
+use Rattle.mk_demands.specs.Bonds.{HasTwoEnds, IsEdgeFront, raw_edge, edges_of}
+use Rattle.mk_demands.specs.Numbers.{IsWithin, byte}
+use Rattle.mk_demands.proofs.ForCallers.{atom_within, atoms_differ, is_graph}
 use Rattle.mk_query.specs.Checks.{HasQueryType}
 use Rattle.mk_query.specs.Drawn.{query_bond, query_bonds}
 use Rattle.mk_query.specs.FirstFault.{query_bonds as bond_check}

@@ -16,8 +16,8 @@ use Rattle.mk_model.specs.QueryFits.{AreApart, HasClosedBlocks, HasFreePoints, H
 use Rattle.mk_model.specs.Tests.{IsBondInRange}
 use Rattle.mk_model.specs.Templates.{TemplateView, is_in_block, slot_atom}
 use Rattle.mk_ctab.specs.declared.raw.RawTable.{RawTable}
-use Rattle.mk_ctab.specs.Numbers.{natural}
-use Rattle.mk_ctab.proofs.ForCallers.{atoms_differ}
+use Rattle.mk_demands.specs.Numbers.{natural}
+use Rattle.mk_demands.proofs.ForCallers.{atoms_differ}
 use Rattle.mk_query.specs.Compiled.{IsTemplateOf, labelled_groups, ordered_neighbours, points_of, slot_at, slot_with, table_slots}
 use Rattle.mk_query.specs.Drawn.{labels_at, links_at, query_bond, query_bonds}
 use Rattle.mk_query.specs.InRange.{IsTableInRange}

@@ -18,8 +18,8 @@ use Rattle.mk_model.specs.Molecules.{IsElement}
 use Rattle.mk_model.specs.Tests.{IsKindInRange, IsListOfElements, IsTestInRange}
 use Rattle.mk_ctab.specs.declared.raw.RawAtom.{RawAtom}
 use Rattle.mk_ctab.specs.declared.raw.RawTable.{RawTable}
-use Rattle.mk_ctab.specs.Charges.{charge_at, charge_of_column, charge_pairs, charges_of, last_or, lists_values, radical_at, radical_of_column, radical_pairs, radicals_of, values_for}
-use Rattle.mk_ctab.specs.Numbers.{IsWithin, natural}
+use Rattle.mk_demands.specs.Charges.{charge_at, charge_of_column, charge_pairs, charges_of, last_or, lists_values, radical_at, radical_of_column, radical_pairs, radicals_of, values_for}
+use Rattle.mk_demands.specs.Numbers.{IsWithin, natural}
 use Rattle.mk_ctab.specs.TableFacts.{HasSymbols}
 use Rattle.mk_query.specs.Checks.{HasQueryValues, IsQueryProperty, IsRingBondCount}
 use Rattle.mk_query.specs.Compiled.{AreTestsOf, HasElements, IsKindOf, IsTestBy, IsTestDrawn, NameElements, is_not_list, kind_by, no_test, of_any, of_any_heavy, of_element, of_hetero, of_list}

@@ -24,9 +24,9 @@ use Rattle.mk_logic.specs.RangeTexts.IsRangeText.{blank_text, item_text}
 use Rattle.mk_ctab.specs.declared.raw.RawAtom.{RawAtom}
 use Rattle.mk_ctab.specs.declared.raw.RawTable.{RawTable}
 use Rattle.mk_ctab.specs.KeptTables.{EndsWithoutCr, KeepsItsText}
-use Rattle.mk_ctab.specs.Numbers.{natural}
+use Rattle.mk_demands.specs.Numbers.{natural}
 use Rattle.mk_ctab.specs.TableLines.{Line}
-use Rattle.mk_ctab.proofs.ForCallers.{atom_within}
+use Rattle.mk_demands.proofs.ForCallers.{atom_within}
 use Rattle.mk_rgfile.specs.declared.raw_query.RawQuery.{RawQuery}
 use Rattle.mk_rgfile.specs.KeptQueries.{KeepsItsTexts, KeptLinesAreTheQuery}
 use Rattle.mk_rgfile.specs.QueryFile.{IsQueryFile}

@@ -24,9 +24,9 @@ use Rattle.mk_model.specs.Templates.{joins}
 use Rattle.mk_ctab.specs.declared.raw.RawAtom.{RawAtom}
 use Rattle.mk_ctab.specs.declared.raw.RawBond.{RawBond}
 use Rattle.mk_ctab.specs.declared.raw.RawTable.{RawTable}
-use Rattle.mk_ctab.specs.Bonds.{HasFewBonds, IsNewBond, JoinSame, edges_of}
-use Rattle.mk_ctab.specs.Numbers.{IsAtom, IsWithin, natural}
-use Rattle.mk_ctab.specs.Values.{AreForAtoms, HaveValues}
+use Rattle.mk_demands.specs.Bonds.{HasFewBonds, IsNewBond, JoinSame, edges_of}
+use Rattle.mk_demands.specs.Numbers.{IsAtom, IsWithin, natural}
+use Rattle.mk_demands.specs.Values.{AreForAtoms, HaveValues}
 use Rattle.mk_logic.specs.RangeReading.{range_of}
 use Rattle.mk_logic.specs.RangeTexts.{IsRangeText}
 use Rattle.mk_logic.proofs.ForCallers.{range_is_read}

@@ -12,7 +12,7 @@ use Rattle.std.proofs.lemmas.Int.{by_lt_z, ints}
 use Rattle.std.proofs.lemmas.List.Elements.{All-cons, All-head, All-nil, All-tail}
 use Rattle.std.proofs.lemmas.Slice.Eq.{bytes_eq-Decides}
 use Rattle.mk_text.specs.Items.{IsLeastFailing, OfItem}
-use Rattle.mk_ctab.specs.Numbers.{IsWithin}
+use Rattle.mk_demands.specs.Numbers.{IsWithin}
 
 abbrev pub Known : Type 0 → Type 0
 Known P = P ⊎ (P → ⊥)

@@ -10,8 +10,8 @@ use Rattle.mk_rgfile.specs.declared.raw_query.RawGroup.{RawGroup}
 use Rattle.mk_text.proofs.ForCallers.{both, and_true, not_true}
 use Rattle.mk_props.specs.declared.property.Pair.{Pair}
 use Rattle.mk_props.specs.declared.property.Property.{Property}
-use Rattle.mk_ctab.specs.Charges.{values_for}
-use Rattle.mk_ctab.proofs.ForCallers.{values_for-append}
+use Rattle.mk_demands.specs.Charges.{values_for}
+use Rattle.mk_demands.proofs.ForCallers.{values_for-append}
 use Rattle.mk_query.specs.declared.drawn.Labels.{Labels}
 use Rattle.mk_query.specs.Drawn.{is_site, labels_at, label_pairs, pairs_by}
 use Rattle.mk_query.specs.Marks.{AreAllServed, AreMarks, AreMore, AreServed, IsKnownLabel, IsLabels, has_group, is_served}

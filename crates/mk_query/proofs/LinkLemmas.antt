@@ -16,9 +16,9 @@ use Rattle.mk_model.specs.Templates.{hang_together, joins, query_edge, query_edg
 use Rattle.mk_model.proofs.ForCallers.{hangs, hangs_closed, kept_within}
 use Rattle.mk_ctab.specs.declared.raw.RawBond.{RawBond}
 use Rattle.mk_ctab.specs.declared.raw.RawTable.{RawTable}
-use Rattle.mk_ctab.specs.Bonds.{HasTwoEnds}
-use Rattle.mk_ctab.specs.Numbers.{natural}
-use Rattle.mk_ctab.proofs.ForCallers.{atom_within, atoms_differ}
+use Rattle.mk_demands.specs.Bonds.{HasTwoEnds}
+use Rattle.mk_demands.specs.Numbers.{natural}
+use Rattle.mk_demands.proofs.ForCallers.{atom_within, atoms_differ}
 use Rattle.mk_query.specs.declared.atom_marks.Standing.{Standing}
 use Rattle.mk_query.specs.declared.blocks.LinkEnds.{LinkEnds}
 use Rattle.mk_query.specs.declared.linked_atoms.Linked.{Linked}

@@ -10,7 +10,7 @@ use Rattle.mk_props.specs.declared.property.Property.TheVariants as kinds
 use Rattle.mk_ctab.specs.declared.raw.RawAtom.{RawAtom}
 use Rattle.mk_ctab.specs.declared.raw.RawList.{RawList}
 use Rattle.mk_ctab.specs.declared.raw.RawTable.{RawTable}
-use Rattle.mk_ctab.specs.Numbers.{IsAtom}
+use Rattle.mk_demands.specs.Numbers.{IsAtom}
 use Rattle.mk_text.specs.Items.{IsLeastFailing}
 use Rattle.mk_query.specs.declared.lists.ListMark.{ListMark}
 use Rattle.mk_query.specs.Drawn.{ElementList, by_numbers, by_symbols, listed_atom, lists_at, symbol_lists}

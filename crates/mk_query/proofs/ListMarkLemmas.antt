@@ -9,7 +9,7 @@ use Rattle.mk_props.specs.declared.property.Property.{Property}
 use Rattle.mk_props.specs.declared.property.Property.TheVariants as kinds
 use Rattle.mk_ctab.specs.declared.raw.RawList.{RawList}
 use Rattle.mk_ctab.specs.declared.raw.RawTable.{RawTable}
-use Rattle.mk_ctab.specs.Numbers.{natural}
+use Rattle.mk_demands.specs.Numbers.{natural}
 use Rattle.mk_query.specs.declared.list_places.ListPlace.{ListPlace}
 use Rattle.mk_query.specs.declared.list_places.ListPlace.TheVariants as place
 use Rattle.mk_query.specs.Drawn.{ElementList, all_lists, by_numbers, by_symbols, last_list, listed_atom, symbol_lists}

@@ -11,8 +11,8 @@ use Rattle.mk_props.specs.declared.property.LogicLine.{LogicLine}
 use Rattle.mk_props.specs.declared.property.Property.{Property}
 use Rattle.mk_props.specs.declared.property.Property.TheVariants as kinds
 use Rattle.mk_model.specs.declared.group.Interval.{Interval}
-use Rattle.mk_ctab.specs.Numbers.{IsWithin, natural}
-use Rattle.mk_ctab.proofs.ForCallers.{atom_is, atom_within}
+use Rattle.mk_demands.specs.Numbers.{IsWithin, natural}
+use Rattle.mk_demands.proofs.ForCallers.{atom_is, atom_within}
 use Rattle.mk_logic.specs.RangeTexts.{IsRangeText}
 use Rattle.mk_query.specs.LinkChecks.{IsLogical, SpeaksOfSame}
 use Rattle.mk_query.specs.LogicSearch.{AreLastLogics, IsLastLogic, IsLogicalBy, IsMarkedBy, NamesAt, names_group}

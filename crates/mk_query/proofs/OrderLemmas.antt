@@ -14,8 +14,8 @@ use Rattle.mk_text.specs.Items.{FindsLeast}
 use Rattle.mk_text.proofs.ForCallers.{items-none, of_item-at, of_item-here, of_item-past}
 use Rattle.mk_ctab.specs.declared.raw.RawAtom.{RawAtom}
 use Rattle.mk_ctab.specs.declared.raw.RawTable.{RawTable}
-use Rattle.mk_ctab.specs.Numbers.{IsAtom, natural}
-use Rattle.mk_ctab.proofs.ForCallers.{atom_is, atom_within}
+use Rattle.mk_demands.specs.Numbers.{IsAtom, natural}
+use Rattle.mk_demands.proofs.ForCallers.{atom_is, atom_within}
 use Rattle.mk_query.specs.declared.drawn.Near.{Near}
 use Rattle.mk_query.specs.declared.drawn.Near.TheVariants as near
 use Rattle.mk_query.specs.Drawn.{drawn_neighbours, is_site, is_site_at}

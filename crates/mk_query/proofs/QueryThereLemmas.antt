@@ -17,8 +17,8 @@ use Rattle.mk_model.specs.Queries.{QueryView}
 use Rattle.mk_model.specs.Templates.{TemplateView}
 use Rattle.mk_ctab.specs.declared.raw.RawAtom.{RawAtom}
 use Rattle.mk_ctab.specs.declared.raw.RawTable.{RawTable}
-use Rattle.mk_ctab.specs.Charges.{charge_at, radical_at}
-use Rattle.mk_ctab.specs.Numbers.{natural}
+use Rattle.mk_demands.specs.Charges.{charge_at, radical_at}
+use Rattle.mk_demands.specs.Numbers.{natural}
 use Rattle.mk_rgfile.specs.declared.raw_query.RawQuery.{RawQuery}
 use Rattle.mk_query.specs.Checks.{IsElementName, IsQueryWord}
 use Rattle.mk_query.specs.Compiled.{HasElements, IsGroupOf, IsKindOf, IsLogicOf, IsQueryOf, IsTemplateOf, IsTestBy, IsTestOf, NameElements, kind_by, logic_for, members_of_group, no_test, of_any, of_any_heavy, of_element, of_hetero, of_list, points_of, table_slots, query_tables}

@@ -14,12 +14,12 @@ use Rattle.mk_props.specs.declared.property.Pair.{Pair}
 use Rattle.mk_props.specs.declared.property.Property.{Property}
 use Rattle.mk_props.specs.declared.property.Property.TheVariants as kinds
 use Rattle.mk_model.specs.declared.atom_test.AtomTest.{AtomTest}
-use Rattle.mk_ctab.specs.declared.charges.Electrons.{Electrons}
+use Rattle.mk_demands.specs.declared.charges.Electrons.{Electrons}
 use Rattle.mk_ctab.specs.declared.raw.RawAtom.{RawAtom}
 use Rattle.mk_ctab.specs.declared.raw.RawTable.{RawTable}
-use Rattle.mk_ctab.specs.Charges.{last_or, values_for}
-use Rattle.mk_ctab.specs.Numbers.{IsWithin, natural}
-use Rattle.mk_ctab.specs.Values.{HasKnownValues, NamesAtoms}
+use Rattle.mk_demands.specs.Charges.{last_or, values_for}
+use Rattle.mk_demands.specs.Numbers.{IsWithin, natural}
+use Rattle.mk_demands.specs.Values.{HasKnownValues, NamesAtoms}
 use Rattle.mk_query.specs.declared.atom_tests.AtomNotes.{AtomNotes}
 use Rattle.mk_query.specs.declared.list_places.ListPlace.{ListPlace}
 use Rattle.mk_query.specs.Checks.{HasQueryValues, IsQueryAtom, IsQueryProperty, NamesItsAtoms}

@@ -5,9 +5,9 @@ use Rattle.std.proofs.lemmas.Bool.{cases_eq, eq-eqb, ne_eqb}
 use Rattle.std.proofs.lemmas.List.{append-nil, append_assoc, length-set, get_or-replicate, get_or-set_same, get_or-set_other, length-replicate, take_all, take_more}
 use Rattle.mk_props.specs.declared.property.Pair.{Pair}
 use Rattle.mk_props.specs.declared.property.Property.{Property}
-use Rattle.mk_ctab.specs.Numbers.{natural}
-use Rattle.mk_ctab.specs.Charges.{last_or, values_for}
-use Rattle.mk_ctab.proofs.ForCallers.{last_or-append, values_for-append}
+use Rattle.mk_demands.specs.Numbers.{natural}
+use Rattle.mk_demands.specs.Charges.{last_or, values_for}
+use Rattle.mk_demands.proofs.ForCallers.{last_or-append, values_for-append}
 use Rattle.mk_query.specs.Drawn.{pairs_by}
 use Rattle.mk_query.specs.LastValues.{AreLastValues, AreValuesPut}
 

@@ -15,9 +15,9 @@ use Rattle.mk_props.specs.declared.property.Property.{Property}
 use Rattle.mk_props.specs.declared.property.Property.TheVariants as kinds
 use Rattle.mk_ctab.specs.declared.raw.RawAtom.{RawAtom}
 use Rattle.mk_ctab.specs.declared.raw.RawBond.{RawBond}
-use Rattle.mk_ctab.specs.Bonds.{HasFewBonds, IsNewBondAt, edges_of}
-use Rattle.mk_ctab.specs.Numbers.{IsAtom, IsWithin}
-use Rattle.mk_ctab.specs.Values.{AreForAtoms, HaveValues}
+use Rattle.mk_demands.specs.Bonds.{HasFewBonds, IsNewBondAt, edges_of}
+use Rattle.mk_demands.specs.Numbers.{IsAtom, IsWithin}
+use Rattle.mk_demands.specs.Values.{AreForAtoms, HaveValues}
 
 -- ---- atoms
 

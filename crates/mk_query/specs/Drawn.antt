@@ -18,8 +18,8 @@ use Rattle.mk_ctab.specs.declared.raw.RawAtom.{RawAtom}
 use Rattle.mk_ctab.specs.declared.raw.RawBond.{RawBond}
 use Rattle.mk_ctab.specs.declared.raw.RawList.{RawList}
 use Rattle.mk_ctab.specs.declared.raw.RawTable.{RawTable}
-use Rattle.mk_ctab.specs.Charges.{last_or, values_for}
-use Rattle.mk_ctab.specs.Numbers.{byte, natural}
+use Rattle.mk_demands.specs.Charges.{last_or, values_for}
+use Rattle.mk_demands.specs.Numbers.{byte, natural}
 
 -- ---- sites and bonds
 

@@ -6,7 +6,7 @@
 use Rattle.std.specs.Prelude.{◌≡◌, ◌<◌, ◌+◌, ℕ, ℤ, pos, List, length, slice_index_or}
 use Rattle.mk_props.specs.declared.property.Pair.{Pair}
 use Rattle.mk_props.specs.declared.property.Property.{Property}
-use Rattle.mk_ctab.specs.Charges.{last_or, values_for}
+use Rattle.mk_demands.specs.Charges.{last_or, values_for}
 use Rattle.mk_query.specs.declared.values.ValueKind.{ValueKind}
 use Rattle.mk_query.specs.declared.values.ValueKind.TheVariants as kinds
 use Rattle.mk_query.specs.Drawn.{pairs_by, point_pairs, ring_bonds_of, substitutions_of, unsaturations_of}

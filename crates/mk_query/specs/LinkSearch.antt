@@ -9,7 +9,7 @@ use Rattle.std.specs.Prelude.{◌≡◌, ◌≢◌, ◌≤ℤ◌, ◌-◌, ℕ, 
 use Rattle.mk_props.specs.declared.property.LinkEntry.{LinkEntry}
 use Rattle.mk_model.specs.declared.template.QueryBond.{QueryBond}
 use Rattle.mk_model.specs.Templates.{joins}
-use Rattle.mk_ctab.specs.Numbers.{IsAtom, natural}
+use Rattle.mk_demands.specs.Numbers.{IsAtom, natural}
 use Rattle.mk_query.specs.declared.atom_marks.Standing.{Standing}
 use Rattle.mk_query.specs.declared.blocks.LinkEnds.{LinkEnds}
 use Rattle.mk_query.specs.declared.linked_atoms.Linked.{Linked}

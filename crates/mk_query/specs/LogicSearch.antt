@@ -11,7 +11,7 @@ use Rattle.mk_props.specs.declared.property.LogicLine.{LogicLine}
 use Rattle.mk_props.specs.declared.property.Property.{Property}
 use Rattle.mk_props.specs.declared.property.Property.TheVariants as kinds
 use Rattle.mk_model.specs.declared.group.Interval.{Interval}
-use Rattle.mk_ctab.specs.Numbers.{IsWithin, natural}
+use Rattle.mk_demands.specs.Numbers.{IsWithin, natural}
 use Rattle.mk_logic.specs.RangeTexts.{IsRangeText}
 use Rattle.mk_query.specs.LinkChecks.{IsLogical}
 

@@ -16,7 +16,7 @@ use Rattle.std.specs.Prelude.{◌≡◌, ◌≢◌, ◌≤◌, ◌<◌, ◌+◌,
 use Rattle.std.specs.Int.{bit_at}
 use Rattle.std.specs.List.{filter}
 use Rattle.mk_props.specs.declared.property.Property.{Property}
-use Rattle.mk_ctab.specs.Numbers.{IsWithin}
+use Rattle.mk_demands.specs.Numbers.{IsWithin}
 use Rattle.mk_rgfile.specs.declared.raw_query.RawGroup.{RawGroup}
 use Rattle.mk_query.specs.declared.drawn.Labels.{Labels}
 use Rattle.mk_query.specs.declared.drawn.Near.{Near}

@@ -9,7 +9,7 @@ use Rattle.mk_props.specs.declared.property.Pair.{Pair}
 use Rattle.mk_props.specs.declared.property.Property.{Property}
 use Rattle.mk_props.specs.declared.property.Property.TheVariants as kinds
 use Rattle.mk_props.specs.declared.property.SiteOrder.{SiteOrder}
-use Rattle.mk_ctab.specs.Numbers.{IsAtom, natural}
+use Rattle.mk_demands.specs.Numbers.{IsAtom, natural}
 use Rattle.mk_query.specs.declared.drawn.Near.{Near}
 use Rattle.mk_query.specs.declared.drawn.Near.TheVariants as near
 use Rattle.mk_query.specs.Marks.{site_mark}

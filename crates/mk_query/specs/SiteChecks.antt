@@ -15,7 +15,7 @@ use Rattle.mk_props.specs.declared.property.Property.TheVariants as kinds
 use Rattle.mk_props.specs.declared.property.SiteOrder.{SiteOrder}
 use Rattle.mk_ctab.specs.declared.raw.RawAtom.{RawAtom}
 use Rattle.mk_ctab.specs.declared.raw.RawTable.{RawTable}
-use Rattle.mk_ctab.specs.Numbers.{IsAtom, IsWithin, natural}
+use Rattle.mk_demands.specs.Numbers.{IsAtom, IsWithin, natural}
 use Rattle.mk_rgfile.specs.declared.raw_query.RawGroup.{RawGroup}
 use Rattle.mk_query.specs.Checks.{IsElementName}
 use Rattle.mk_query.specs.Drawn.{ElementList, by_numbers, by_symbols, lists_at, labels_at, is_site, is_site_at, drawn_neighbours}

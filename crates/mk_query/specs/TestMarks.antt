@@ -7,7 +7,7 @@ use Rattle.std.specs.Prelude.{◌≡◌, ◌<◌, ◌+◌, ℕ, List, Some, leng
 use Rattle.mk_model.specs.declared.atom_test.AtomTest.{AtomTest}
 use Rattle.mk_ctab.specs.declared.raw.RawAtom.{RawAtom}
 use Rattle.mk_ctab.specs.declared.raw.RawTable.{RawTable}
-use Rattle.mk_ctab.specs.Charges.{AreElectrons}
+use Rattle.mk_demands.specs.Charges.{AreElectrons}
 use Rattle.mk_query.specs.declared.atom_tests.AtomNotes.{AtomNotes}
 use Rattle.mk_query.specs.Compiled.{IsTestOf}
 use Rattle.mk_query.specs.Drawn.{all_lists, ring_bonds_of, substitutions_of, unsaturations_of}

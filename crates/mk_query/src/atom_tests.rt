@@ -1,7 +1,7 @@
 // The tests of the atoms of a template.
 ghost use Rattle.std.specs.Prelude.{◌≡◌, ◌≤◌, ◌<◌, pos, negsuc, IfOk, length};
 ghost use Rattle.std.specs.Ordering.{int_eq};
-ghost use Rattle.mk_ctab.specs.Numbers.{IsWithin};
+ghost use Rattle.mk_demands.specs.Numbers.{IsWithin};
 ghost use Rattle.mk_query.specs.Compiled.{AreTestsOf, no_test};
 ghost use Rattle.mk_query.specs.Passed.{HasPassed};
 ghost use Rattle.mk_query.specs.TestMarks.{AreNotes, IsTestAt};
@@ -10,7 +10,8 @@ use crate::atom_kinds::kind_of;
 use crate::drawn::is_site;
 use crate::list_places::{ListPlace, list_places};
 use crate::values::{ValueKind, last_values};
-use mk_ctab::{Electrons, RawAtom, RawTable, charges_and_radicals};
+use mk_ctab::{RawAtom, RawTable};
+use mk_demands::{Electrons, charges_and_radicals};
 use mk_model::{AtomTest, Kind};
 use mk_text::Memory;
 use std::alloc::Global;

@@ -2,12 +2,13 @@
 ghost use Rattle.std.specs.Prelude.{◌≡◌, ◌≤◌, ◌<◌, ◌+◌, ◌==◌, ◌↔◌, All, IfOk, IsTrue, length};
 ghost use Rattle.mk_text.specs.Items.{FindsLeast, OfItem};
 ghost use Rattle.mk_model.specs.Edges.{touches};
-ghost use Rattle.mk_ctab.specs.Bonds.{raw_edge};
-ghost use Rattle.mk_ctab.specs.Numbers.{natural};
+ghost use Rattle.mk_demands.specs.Bonds.{raw_edge};
+ghost use Rattle.mk_demands.specs.Numbers.{natural};
 ghost use Rattle.mk_query.specs.Checks.{HasQueryType, IsQueryBond, LeavesFewBonds};
 ghost use Rattle.mk_query.specs.Searches.{AreCounted, HasRoom, least_of};
 
-use mk_ctab::{RawBond, edges_between, first_no_new_bond, is_within, natural};
+use mk_ctab::RawBond;
+use mk_demands::{edges_between, first_no_new_bond, is_within, natural};
 use mk_model::Neighbours;
 use mk_text::Memory;
 use std::alloc::Global;

@@ -1,12 +1,13 @@
 // What is drawn at each atom of a table, each in one pass.
 ghost use Rattle.std.specs.Prelude.{◌≡◌, ◌≢◌, ◌≤◌, ◌↔◌, ◌==◌, ◌&&◌, ◌∷◌, [], ℕ, not, true, IfOk, IsTrue, bytes_eq, length, map, if◌then◌else◌};
-ghost use Rattle.mk_ctab.specs.Charges.{values_for};
-ghost use Rattle.mk_ctab.specs.Numbers.{natural};
+ghost use Rattle.mk_demands.specs.Charges.{values_for};
+ghost use Rattle.mk_demands.specs.Numbers.{natural};
 ghost use Rattle.mk_query.specs.Drawn.{is_site, label_pairs, neighbours_at, pairs_by, query_bond, query_bonds};
 ghost use Rattle.mk_query.specs.Marks.{AreMarks, AreMore, HasMore, IsKnownLabel, IsLabels, IsNear, has_group};
 
 use crate::bond_checks::{first_end, second_end};
-use mk_ctab::{RawAtom, RawBond, is_within, natural};
+use mk_ctab::{RawAtom, RawBond};
+use mk_demands::{is_within, natural};
 use mk_props::{Pair, Property};
 use mk_text::Memory;
 use std::alloc::Global;

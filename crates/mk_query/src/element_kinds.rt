@@ -1,14 +1,15 @@
 // The kinds of atoms that lists of elements tell.
 ghost use Rattle.std.specs.Prelude.{◌≡◌, pos, All, IfOk, map};
 ghost use Rattle.mk_elements.specs.Symbols.{NamesElement};
-ghost use Rattle.mk_ctab.specs.Numbers.{IsWithin, natural};
+ghost use Rattle.mk_demands.specs.Numbers.{IsWithin, natural};
 ghost use Rattle.mk_query.specs.Checks.{IsElementName};
 ghost use Rattle.mk_query.specs.Compiled.{NameElements};
 ghost use Rattle.mk_query.specs.Drawn.{by_numbers};
 ghost use Rattle.mk_query.specs.KindMarks.{AreKnownAt, AreKnownIn, IsKindAt, IsKindBy, IsKindIn, kind_with};
 
 use crate::list_places::ListPlace;
-use mk_ctab::{RawList, RawTable, natural};
+use mk_ctab::{RawList, RawTable};
+use mk_demands::natural;
 use mk_elements::number_of;
 use mk_model::{Elements, Kind};
 use mk_props::{Property, Symbols};

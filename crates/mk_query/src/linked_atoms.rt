@@ -1,11 +1,11 @@
 // The links that name the atoms, in one pass over the properties.
 ghost use Rattle.std.specs.Prelude.{◌≡◌, ◌==◌, ◌∷◌, [], IfOk, length};
 ghost use Rattle.std.specs.List.{filter};
-ghost use Rattle.mk_ctab.specs.Numbers.{natural};
+ghost use Rattle.mk_demands.specs.Numbers.{natural};
 ghost use Rattle.mk_query.specs.Drawn.{links_for, links_of};
 ghost use Rattle.mk_query.specs.LinkMarks.{AreLinked, AreMoreLinks, HasMoreLinks};
 
-use mk_ctab::natural;
+use mk_demands::natural;
 use mk_props::{LinkEntry, Property};
 use mk_text::Memory;
 use std::alloc::Global;

@@ -2,7 +2,7 @@
 ghost use Rattle.std.specs.Prelude.{◌≡◌, ◌≢◌, ◌≤◌, ◌≤ℤ◌, ◌↔◌, ℕ, pos, IfOk, IsTrue, length};
 ghost use Rattle.mk_text.specs.Items.{FindsLeast};
 ghost use Rattle.mk_model.specs.Templates.{joins};
-ghost use Rattle.mk_ctab.specs.Numbers.{IsAtom, natural};
+ghost use Rattle.mk_demands.specs.Numbers.{IsAtom, natural};
 ghost use Rattle.mk_query.specs.BlockSearch.{AreNumbersOf};
 ghost use Rattle.mk_query.specs.Checks.{IsQueryBond};
 ghost use Rattle.mk_query.specs.LinkChecks.{HasLink};
@@ -14,7 +14,7 @@ use crate::bonded::Bonded;
 use crate::drawn_bonds::{joins, query_bonds_of};
 use crate::linked_atoms::Linked;
 use crate::notes::Notes;
-use mk_ctab::{is_atom, natural};
+use mk_demands::{is_atom, natural};
 use mk_model::QueryBond;
 use mk_props::LinkEntry;
 use mk_text::Memory;

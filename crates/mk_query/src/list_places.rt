@@ -1,10 +1,11 @@
 // The lists of elements that are in force, in one pass over the lists and one over the properties.
 ghost use Rattle.std.specs.Prelude.{◌≡◌, ◌≤◌, ◌<◌, IfOk, length};
-ghost use Rattle.mk_ctab.specs.Numbers.{natural};
+ghost use Rattle.mk_demands.specs.Numbers.{natural};
 ghost use Rattle.mk_query.specs.Drawn.{all_lists};
 ghost use Rattle.mk_query.specs.ListMarks.{AreInForce, IsListNoted, IsPlaceAt};
 
-use mk_ctab::{RawList, RawTable, natural};
+use mk_ctab::{RawList, RawTable};
+use mk_demands::natural;
 use mk_props::{AtomList, Property};
 use mk_text::Memory;
 use std::alloc::Global;

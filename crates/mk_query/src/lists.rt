@@ -1,7 +1,7 @@
 // What is demanded of the lists of elements.
 ghost use Rattle.std.specs.Prelude.{◌≡◌, ◌≤◌, ◌==◌, ◌&&◌, ◌∷◌, ◌↔◌, [], pos, true, All, List, IfOk, IsTrue, length, map, if◌then◌else◌};
 ghost use Rattle.mk_text.specs.Items.{FindsLeast};
-ghost use Rattle.mk_ctab.specs.Numbers.{IsAtom, IsWithin, natural};
+ghost use Rattle.mk_demands.specs.Numbers.{IsAtom, IsWithin, natural};
 ghost use Rattle.mk_query.specs.Checks.{IsElementName};
 ghost use Rattle.mk_query.specs.Drawn.{by_numbers, ElementList, lists_at, symbol_lists};
 ghost use Rattle.mk_query.specs.Marks.{AreMarks, AreMore, IsListMark, lists_for};
@@ -9,7 +9,8 @@ ghost use Rattle.mk_query.specs.SiteChecks.{HasKnownMembers, HasLists, IsListed}
 
 use crate::atom_checks::is_element_name;
 use crate::drawn::is_symbol;
-use mk_ctab::{RawAtom, RawList, RawTable, is_atom, is_within, natural};
+use mk_ctab::{RawAtom, RawList, RawTable};
+use mk_demands::{is_atom, is_within, natural};
 use mk_props::{AtomList, Property, Symbols};
 use mk_text::Memory;
 use std::alloc::Global;

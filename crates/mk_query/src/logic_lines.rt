@@ -2,12 +2,12 @@
 ghost use Rattle.std.specs.Prelude.{◌≡◌, ◌≤◌, ◌<◌, ◌^◌, ◌==◌, ◌↔◌, ℕ, pos, true, IfOk, IsTrue, List, length, slice_index, if◌then◌else◌};
 ghost use Rattle.mk_text.specs.Items.{FindsLeast};
 ghost use Rattle.mk_model.specs.declared.group.Interval.{Interval};
-ghost use Rattle.mk_ctab.specs.Numbers.{IsWithin, natural};
+ghost use Rattle.mk_demands.specs.Numbers.{IsWithin, natural};
 ghost use Rattle.mk_logic.specs.RangeTexts.{IsRangeText};
 ghost use Rattle.mk_query.specs.LogicSearch.{AreLastLogics, HasLogicIn, IsLogicalBy, IsMarkedBy, IsRightLogicBy, names_group};
 
 use crate::draft::GROUPS;
-use mk_ctab::{is_within, natural};
+use mk_demands::{is_within, natural};
 use mk_logic::read_range;
 use mk_props::{LogicLine, Property};
 use mk_text::Memory;

@@ -1,7 +1,7 @@
 // What is demanded of the orders of sites' neighbours.
 ghost use Rattle.std.specs.Prelude.{◌≡◌, ◌≤◌, ◌<◌, ◌+◌, ◌-◌, ◌^◌, ◌==◌, ◌||◌, ◌↔◌, ℕ, pos, false, Some, IfOk, IsTrue, length, slice_index_or, if◌then◌else◌};
 ghost use Rattle.mk_text.specs.Items.{FindsLeast};
-ghost use Rattle.mk_ctab.specs.Numbers.{IsAtom, natural};
+ghost use Rattle.mk_demands.specs.Numbers.{IsAtom, natural};
 ghost use Rattle.mk_query.specs.declared.drawn.Near.TheVariants.{Nothing};
 ghost use Rattle.mk_query.specs.OrderSearch.{Gives, IsOrderBy, IsOrderedBy, IsSeen, Names, OrdersNear};
 ghost use Rattle.mk_query.specs.SiteChecks.{HasSiteOrder, HasSitePlace};
@@ -9,7 +9,7 @@ ghost use Rattle.mk_query.specs.SiteChecks.{HasSiteOrder, HasSitePlace};
 use crate::drawn::Near;
 use crate::notes::Notes;
 use crate::sites::site_mark;
-use mk_ctab::{is_atom, natural};
+use mk_demands::{is_atom, natural};
 use mk_props::{Pair, Property, SiteOrder};
 use mk_text::Memory;
 use std::alloc::Global;

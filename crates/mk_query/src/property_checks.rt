@@ -1,10 +1,10 @@
 // What is demanded of a query's properties.
 ghost use Rattle.std.specs.Prelude.{◌≡◌, ◌≢◌, ◌<◌, ◌^◌, ◌↔◌, pos, negsuc, All, IsTrue, length};
 ghost use Rattle.mk_text.specs.Items.{FindsLeast, OfItem};
-ghost use Rattle.mk_ctab.specs.Numbers.{IsAtom, IsWithin};
+ghost use Rattle.mk_demands.specs.Numbers.{IsAtom, IsWithin};
 ghost use Rattle.mk_query.specs.Checks.{AreLinksOf, HasQueryValues, IsQueryProperty, IsRingBondCount, NamesItsAtoms};
 
-use mk_ctab::{are_for_atoms, have_values, is_atom, is_within};
+use mk_demands::{are_for_atoms, have_values, is_atom, is_within};
 use mk_props::{AtomList, LinkEntry, Pair, Property, SiteOrder};
 
 /// The first property that gives something to an atom that isn't there, or a value that there

@@ -1,7 +1,7 @@
 // The groups of a raw query.
 ghost use Rattle.std.specs.Prelude.{◌≡◌, ◌<◌, ◌+◌, ◌++◌, ◌^◌, pos, All, IfOk, None, OnOk, Some, length};
 ghost use Rattle.std.specs.Ordering.{int_eq};
-ghost use Rattle.mk_ctab.specs.Numbers.{IsWithin};
+ghost use Rattle.mk_demands.specs.Numbers.{IsWithin};
 ghost use Rattle.mk_rgfile.specs.QueryFacts.{member_count, members_in};
 ghost use Rattle.mk_query.specs.Compiled.{AreGroupsOf, IsLogicOf, logic_for, members_from};
 ghost use Rattle.mk_query.specs.GroupMarks.{HasKnownLogic, IsKnownLogic, logic_by, part_members};
@@ -9,7 +9,7 @@ ghost use Rattle.mk_query.specs.LogicSearch.{names_group};
 ghost use Rattle.mk_query.specs.Passed.{HasPassed};
 
 use crate::draft::GROUPS;
-use mk_ctab::natural;
+use mk_demands::natural;
 use mk_logic::read_range;
 use mk_model::Group;
 use mk_props::{LogicLine, Property};

@@ -1,13 +1,13 @@
 // The neighbours of sites in their order, in one pass over the properties.
 ghost use Rattle.std.specs.Prelude.{◌≡◌, ◌<◌, ◌∷◌, [], pos, IfOk, length, map, slice_index_or};
 ghost use Rattle.std.specs.Ordering.{int_eq};
-ghost use Rattle.mk_ctab.specs.Numbers.{natural};
+ghost use Rattle.mk_demands.specs.Numbers.{natural};
 ghost use Rattle.mk_query.specs.Compiled.{atom_placed};
 ghost use Rattle.mk_query.specs.SlotMarks.{AreOrdered, HaveEnds, IsPutAt, ends_near, ends_placed};
 
 use crate::drawn::Near;
 use crate::notes::Notes;
-use mk_ctab::natural;
+use mk_demands::natural;
 use mk_props::{Pair, Property, SiteOrder};
 use mk_text::Memory;
 use std::alloc::Global;

@@ -9,7 +9,7 @@ use crate::drawn::has_group;
 use crate::linked_atoms::Linked;
 use crate::notes::Notes;
 use crate::site_orders::{SiteEnds, ordered_ends};
-use mk_ctab::natural;
+use mk_demands::natural;
 use mk_model::Slot;
 use mk_text::{Memory, Numbers};
 use std::alloc::Global;

@@ -2,7 +2,7 @@
 ghost use Rattle.std.specs.Prelude.{◌≡◌, ◌∷◌, [], IfOk, length};
 ghost use Rattle.mk_query.specs.LastValues.{AreLastValues, AreValuesPut, pairs_of};
 
-use mk_ctab::natural;
+use mk_demands::natural;
 use mk_props::{Pair, Property};
 use mk_text::Memory;
 use std::alloc::Global;

@@ -28,12 +28,12 @@ use Rattle.mk_valence.specs.Hydrogens.{added_hydrogens, bond_orders_sum, marked_
 use Rattle.mk_ctab.specs.declared.raw.RawAtom.{RawAtom}
 use Rattle.mk_ctab.specs.declared.raw.RawBond.{RawBond}
 use Rattle.mk_ctab.specs.declared.raw.RawTable.{RawTable}
-use Rattle.mk_ctab.specs.Bonds.{HasTwoEnds, IsEdgeFront, IsNewBond, JoinSame, raw_edge, edges_of}
-use Rattle.mk_ctab.proofs.BondLemmas.{is_graph}
-use Rattle.mk_ctab.proofs.EdgeLemmas.{IsBetween-edge_of}
-use Rattle.mk_ctab.specs.Charges.{charge_at, charge_of_column, lists_values, last_or, radical_at, radical_of_column, radical_pairs, radicals_of, values_for}
-use Rattle.mk_ctab.specs.Numbers.{IsAtom, IsWithin, natural}
-use Rattle.mk_ctab.specs.Values.{AreForAtoms, HasKnownValues, HaveValues, NamesAtoms}
+use Rattle.mk_demands.specs.Bonds.{HasTwoEnds, IsEdgeFront, IsNewBond, JoinSame, raw_edge, edges_of}
+use Rattle.mk_demands.proofs.BondLemmas.{is_graph}
+use Rattle.mk_demands.proofs.EdgeLemmas.{IsBetween-edge_of}
+use Rattle.mk_demands.specs.Charges.{charge_at, charge_of_column, lists_values, last_or, radical_at, radical_of_column, radical_pairs, radicals_of, values_for}
+use Rattle.mk_demands.specs.Numbers.{IsAtom, IsWithin, natural}
+use Rattle.mk_demands.specs.Values.{AreForAtoms, HasKnownValues, HaveValues, NamesAtoms}
 use Rattle.mk_mol.specs.Checks.{HasKnownType, IsKnownAtom, IsElementSymbol, IsOfMolecules}
 use Rattle.mk_mol.specs.Filled.{AreGains, AreWrittenAtoms, IsFilled, IsWrittenAtom, gained_by, hydrogen_atom, hydrogen_bonds, kinds_at, owners}
 use Rattle.mk_mol.specs.FirstFault.{MoleculeCheck, MoleculeDemands, IsFirstMoleculeFault, MeetsCheck, MeetsAllChecks, MeetsChecksBelow, few_bonds, known_atoms, known_properties, known_types, known_values, named_atoms, new_bonds, molecule_check_number}

@@ -1,5 +1,5 @@
 use Rattle.std.proofs.Common.{All, take}
-use Rattle.mk_ctab.specs.TableSpelling.{AtomFits, IsSymbol}
+use Rattle.mk_spelling.specs.TableSpelling.{AtomFits, IsSymbol}
 use Rattle.mk_ground_trials.proofs.writing_checks.atoms_fit.Given as goal
 
 abbrev pub invariant-loop-atom : goal.invariant-loop-atom

@@ -1,7 +1,7 @@
 use Rattle.std.proofs.Common.{refl}
 use Rattle.std.proofs.lemmas.List.Elements.{All-more}
-use Rattle.mk_ctab.specs.TableSpelling.{BondFits}
-use Rattle.mk_ctab.proofs.GraphicLemmas.{all_taken}
+use Rattle.mk_spelling.specs.TableSpelling.{BondFits}
+use Rattle.mk_spelling.proofs.GraphicLemmas.{all_taken}
 use Rattle.mk_ground_trials.proofs.writing_checks.bonds_fit.Goals as goal
 
 pub loop-bond-preserved : goal.loop-bond-preserved

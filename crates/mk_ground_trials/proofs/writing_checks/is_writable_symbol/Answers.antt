@@ -1,5 +1,5 @@
 use Rattle.std.proofs.Common.{◌∙◌, sym}
-use Rattle.mk_ctab.proofs.GraphicLemmas.{is_symbol}
+use Rattle.mk_spelling.proofs.GraphicLemmas.{is_symbol}
 use Rattle.mk_ground_trials.proofs.writing_checks.is_writable_symbol.Goals as goal
 
 pub returns-then-symbol-width-clause-fits : goal.returns-then-symbol-width-clause-fits

@@ -1,5 +1,5 @@
 use Rattle.std.proofs.Common.{All, take}
-use Rattle.mk_ctab.specs.TableSpelling.{LinkFits}
+use Rattle.mk_spelling.specs.TableSpelling.{LinkFits}
 use Rattle.mk_ground_trials.proofs.writing_checks.links_fit.Given as goal
 
 abbrev pub invariant-loop-link : goal.invariant-loop-link

@@ -1,6 +1,6 @@
 use Rattle.std.proofs.Common.{refl}
-use Rattle.mk_ctab.specs.TableSpelling.{ListFits}
-use Rattle.mk_ctab.proofs.GraphicLemmas.{all_taken, one_more}
+use Rattle.mk_spelling.specs.TableSpelling.{ListFits}
+use Rattle.mk_spelling.proofs.GraphicLemmas.{all_taken, one_more}
 use Rattle.mk_ground_trials.proofs.writing_checks.lists_fit.Goals as goal
 
 pub loop-list-preserved : goal.loop-list-preserved

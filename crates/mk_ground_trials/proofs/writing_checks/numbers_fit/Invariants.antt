@@ -1,5 +1,5 @@
 use Rattle.std.proofs.Common.{All, take}
-use Rattle.mk_ctab.specs.TableSpelling.{FitsThree}
+use Rattle.mk_spelling.specs.TableSpelling.{FitsThree}
 use Rattle.mk_ground_trials.proofs.writing_checks.numbers_fit.Given as goal
 
 abbrev pub invariant-loop-number : goal.invariant-loop-number

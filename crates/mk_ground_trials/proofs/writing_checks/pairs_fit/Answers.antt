@@ -1,7 +1,7 @@
 use Rattle.std.proofs.Common.{rules, refl}
 use Rattle.std.proofs.lemmas.List.Elements.{All-more}
-use Rattle.mk_ctab.specs.TableSpelling.{PairFits}
-use Rattle.mk_ctab.proofs.GraphicLemmas.{all_taken}
+use Rattle.mk_spelling.specs.TableSpelling.{PairFits}
+use Rattle.mk_spelling.proofs.GraphicLemmas.{all_taken}
 use Rattle.mk_ground_trials.proofs.writing_checks.pairs_fit.Goals as goal
 
 pub loop-pair-preserved : goal.loop-pair-preserved

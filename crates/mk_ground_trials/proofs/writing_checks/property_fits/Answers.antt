@@ -1,5 +1,5 @@
 use Rattle.std.proofs.Common.{sym, subst}
-use Rattle.mk_ctab.specs.TableSpelling.{SymbolsEnd}
+use Rattle.mk_spelling.specs.TableSpelling.{SymbolsEnd}
 use Rattle.mk_ground_trials.proofs.writing_checks.property_fits.Goals as goal
 
 pub returns-in-List-clause-symbols_end : goal.returns-in-List-clause-symbols_end

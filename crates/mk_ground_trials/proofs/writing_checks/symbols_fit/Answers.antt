@@ -1,8 +1,8 @@
 use Rattle.std.proofs.Common.{◌≡◌, ℕ, ◌≤◌, ◌<◌, List, [], get_or, length, refl, ◌∙◌, arith}
 use Rattle.std.proofs.lemmas.List.{get_or_default}
 use Rattle.mk_text.specs.Lines.{EndsWith}
-use Rattle.mk_ctab.specs.TableSpelling.{IsSymbol}
-use Rattle.mk_ctab.proofs.GraphicLemmas.{all_taken, one_more}
+use Rattle.mk_spelling.specs.TableSpelling.{IsSymbol}
+use Rattle.mk_spelling.proofs.GraphicLemmas.{all_taken, one_more}
 use Rattle.mk_ground_trials.proofs.writing_checks.symbols_fit.Goals as goal
 
 pub loop-i-preserved : goal.loop-i-preserved

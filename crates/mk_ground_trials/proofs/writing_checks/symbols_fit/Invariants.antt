@@ -1,6 +1,6 @@
 use Rattle.std.proofs.Common.{All, take}
 use Rattle.mk_text.specs.Lines.{EndsWith}
-use Rattle.mk_ctab.specs.TableSpelling.{IsSymbol}
+use Rattle.mk_spelling.specs.TableSpelling.{IsSymbol}
 use Rattle.mk_ground_trials.proofs.writing_checks.symbols_fit.Given as goal
 
 abbrev pub invariant-loop-i : goal.invariant-loop-i

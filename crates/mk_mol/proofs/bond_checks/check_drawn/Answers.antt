@@ -1,6 +1,6 @@
 use Rattle.mk_mol.specs.FirstFault.{new_bonds, known_types, few_bonds, MeetsCheck}
 use Rattle.mk_mol.proofs.FaultLemmas.{below_more, fault}
-use Rattle.mk_ctab.proofs.ForCallers.{whole, is_graph, crowded, none_crowded}
+use Rattle.mk_demands.proofs.ForCallers.{whole, is_graph, crowded, none_crowded}
 use Rattle.mk_mol.proofs.bond_checks.check_drawn.Goals as goal
 
 pub first_no_new_bond-requires-clause-front : goal.first_no_new_bond-requires-clause-front

@@ -2,7 +2,7 @@ use Rattle.std.proofs.Common.{◌≡◌, ◌∙◌, ◌+◌, ◌++◌, ◌≤◌
 use Rattle.std.proofs.lemmas.List.{length-map}
 use Rattle.mk_model.specs.declared.edge.Edge.{Edge}
 use Rattle.mk_model.specs.Edges.{IsSimple, rows_of}
-use Rattle.mk_ctab.specs.Bonds.{raw_edge}
+use Rattle.mk_demands.specs.Bonds.{raw_edge}
 use Rattle.mk_mol.specs.Filled.{AreGains, hydrogen_atom, hydrogen_bonds, owners}
 use Rattle.mk_mol.proofs.FilledLemmas.{few_filled, filled_graph, molecule, is_filled}
 use Rattle.mk_mol.proofs.filling.fill.Goals as goal

@@ -3,7 +3,7 @@ use Rattle.mk_ctab.specs.declared.raw.RawAtom.{RawAtom}
 use Rattle.mk_mol.specs.Checks.{IsKnownAtom}
 use Rattle.mk_mol.specs.FirstFault.{known_atoms}
 use Rattle.mk_text.proofs.ForCallers.{all_of}
-use Rattle.mk_ctab.proofs.ForCallers.{numbers-within}
+use Rattle.mk_demands.proofs.ForCallers.{numbers-within}
 use Rattle.mk_mol.proofs.GainLemmas.{known_kinds, numbers_of, near_size, few_numbers, gained_is}
 use Rattle.mk_mol.proofs.hydrogen_filling.gained_at.Goals as goal
 

@@ -1,5 +1,5 @@
 use Rattle.std.proofs.Common.{ℕ, ◌<◌, ◌+◌}
-use Rattle.mk_ctab.specs.Values.{NamesAtoms}
+use Rattle.mk_demands.specs.Values.{NamesAtoms}
 use Rattle.mk_text.specs.Items.{OfItem}
 use Rattle.mk_mol.proofs.property_checks.first_misnamed.Given as goal
 

@@ -1,6 +1,6 @@
 use Rattle.std.proofs.Common.{sym, ◌∙◌}
 use Rattle.std.proofs.lemmas.Bool.{true≢false}
-use Rattle.mk_ctab.specs.Values.{HasKnownValues}
+use Rattle.mk_demands.specs.Values.{HasKnownValues}
 use Rattle.mk_text.proofs.ForCallers.{items-more, items-fail, items-all}
 use Rattle.mk_mol.proofs.property_checks.first_unknown_value.Goals as goal
 

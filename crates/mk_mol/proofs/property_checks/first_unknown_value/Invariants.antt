@@ -1,5 +1,5 @@
 use Rattle.std.proofs.Common.{ℕ, ◌<◌, ◌+◌}
-use Rattle.mk_ctab.specs.Values.{HasKnownValues}
+use Rattle.mk_demands.specs.Values.{HasKnownValues}
 use Rattle.mk_text.specs.Items.{OfItem}
 use Rattle.mk_mol.proofs.property_checks.first_unknown_value.Given as goal
 

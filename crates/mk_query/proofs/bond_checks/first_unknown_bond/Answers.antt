@@ -1,5 +1,5 @@
 use Rattle.mk_text.specs.Items.{FindsLeast}
-use Rattle.mk_ctab.specs.Bonds.{IsNewBondAt}
+use Rattle.mk_demands.specs.Bonds.{IsNewBondAt}
 use Rattle.mk_query.proofs.BondLemmas.{query_bonds}
 use Rattle.mk_query.proofs.bond_checks.first_unknown_bond.Goals as goal
 

@@ -1,6 +1,6 @@
 use Rattle.std.proofs.Common.{refl, sym, ap, ◌∙◌, ◌≡◌, arith}
 use Rattle.std.proofs.lemmas.Bool.{true≢false}
-use Rattle.mk_ctab.specs.Numbers.{natural}
+use Rattle.mk_demands.specs.Numbers.{natural}
 use Rattle.mk_query.proofs.LabelMarkLemmas.{known_number, label_known, label_unknown}
 use Rattle.mk_query.proofs.drawn.and_label.Goals as goal
 

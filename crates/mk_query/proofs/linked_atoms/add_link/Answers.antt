@@ -1,7 +1,7 @@
 use Rattle.std.proofs.Common.{◌≡◌, ◌∙◌, [], ◌∷◌, ap, subst, rules, arith, w32}
 use Rattle.std.proofs.lemmas.Int.{to_z-of_z}
 use mir.Val.{SFits}
-use Rattle.mk_ctab.specs.Numbers.{natural}
+use Rattle.mk_demands.specs.Numbers.{natural}
 use Rattle.mk_query.specs.declared.linked_atoms.Linked.{Linked}
 use Rattle.mk_query.specs.LinkMarks.{HasMoreLinks}
 use Rattle.mk_query.proofs.LinkMarkLemmas.{link-put}

@@ -3,7 +3,7 @@ use Rattle.std.proofs.lemmas.Bool.{true≢false, false≢true}
 use Rattle.std.proofs.lemmas.List.{take_all}
 use Rattle.std.proofs.lemmas.List.Elements.{All-more}
 use Rattle.std.specs.Prelude.{pos}
-use Rattle.mk_ctab.specs.Numbers.{IsWithin}
+use Rattle.mk_demands.specs.Numbers.{IsWithin}
 use Rattle.mk_query.proofs.lists.are_numbers.Goals as goal
 
 pub loop-number-preserved : goal.loop-number-preserved

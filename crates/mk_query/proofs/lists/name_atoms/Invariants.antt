@@ -1,6 +1,6 @@
 use Rattle.std.proofs.Common.{take, All}
 use Rattle.mk_ctab.specs.declared.raw.RawList.{RawList}
-use Rattle.mk_ctab.specs.Numbers.{IsAtom}
+use Rattle.mk_demands.specs.Numbers.{IsAtom}
 use Rattle.mk_query.proofs.lists.name_atoms.Given as goal
 
 abbrev pub invariant-loop-list : goal.invariant-loop-list

@@ -3,7 +3,7 @@ use Rattle.std.proofs.lemmas.Bool.{true≢false, false≢true}
 use Rattle.std.proofs.lemmas.List.{take_all}
 use Rattle.std.proofs.lemmas.List.Elements.{All-more}
 use Rattle.mk_props.specs.declared.property.LinkEntry.{LinkEntry}
-use Rattle.mk_ctab.specs.Numbers.{IsAtom}
+use Rattle.mk_demands.specs.Numbers.{IsAtom}
 use Rattle.mk_query.proofs.property_checks.are_links_of.Goals as goal
 
 pub loop-link-preserved : goal.loop-link-preserved

@@ -1,5 +1,5 @@
 use Rattle.std.proofs.Common.{take, All}
-use Rattle.mk_ctab.specs.Numbers.{IsAtom}
+use Rattle.mk_demands.specs.Numbers.{IsAtom}
 use Rattle.mk_props.specs.declared.property.LinkEntry.{LinkEntry}
 use Rattle.mk_query.proofs.property_checks.are_links_of.Given as goal
 

@@ -1,6 +1,0 @@
-use Rattle.std.proofs.Common.{◌≡◌, drop}
-use Rattle.mk_ctab.specs.Charges.{lists_values}
-use Rattle.mk_ctab.proofs.charges.lists_values.Given as goal
-
-abbrev pub invariant-loop-property : goal.invariant-loop-property
-invariant-loop-property l = lists_values (drop l.property-index l.props) ≡ lists_values l.props

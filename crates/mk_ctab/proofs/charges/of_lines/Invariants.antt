@@ -1,8 +1,0 @@
-use Rattle.std.proofs.Common.{take}
-use Rattle.std.specs.Prelude.{All}
-use Rattle.mk_ctab.specs.ChargePutting.{AreOfLines}
-use Rattle.mk_ctab.specs.Charges.{HasRadical}
-use Rattle.mk_ctab.proofs.charges.of_lines.Given as goal
-
-abbrev pub invariant-loop-line : goal.invariant-loop-line
-invariant-loop-line l = AreOfLines l.aside (take l.line-index l.lines) l.list.items × All HasRadical l.list.items

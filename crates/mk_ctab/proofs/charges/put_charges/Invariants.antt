@@ -1,8 +1,0 @@
-use Rattle.std.proofs.Common.{[], take}
-use Rattle.std.specs.Prelude.{All}
-use Rattle.mk_ctab.specs.ChargePutting.{ArePut}
-use Rattle.mk_ctab.specs.Charges.{HasRadical}
-use Rattle.mk_ctab.proofs.charges.put_charges.Given as goal
-
-abbrev pub invariant-loop-pair : goal.invariant-loop-pair
-invariant-loop-pair l = ArePut (take l.pair-index l.pairs) [] l.fn.list l.list × All HasRadical l.list

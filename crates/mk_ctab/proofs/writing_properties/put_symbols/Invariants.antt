@@ -1,7 +1,0 @@
-use Rattle.std.proofs.Common.{◌≡◌, ◌++◌, take}
-use Rattle.std.specs.List.{flat_map}
-use Rattle.mk_ctab.specs.TableSpelling.{at_left}
-use Rattle.mk_ctab.proofs.writing_properties.put_symbols.Given as goal
-
-abbrev pub invariant-loop-i : goal.invariant-loop-i
-invariant-loop-i l = l.out.items ≡ l.initial.out.items ++ flat_map (at_left 4) (take l.i l.symbols)

@@ -1,0 +1,5 @@
+pub mod EdgeLemmas
+pub mod BondLemmas
+pub mod ChargePuttingLemmas
+pub mod ChargeLemmas
+pub mod ForCallers

@@ -1,0 +1,6 @@
+pub mod Numbers
+pub mod Bonds
+pub mod BondSearch
+pub mod Values
+pub mod Charges
+pub mod ChargePutting

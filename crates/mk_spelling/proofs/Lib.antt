@@ -1,0 +1,11 @@
+pub mod ThreeLemmas
+pub mod AppendLemmas
+pub mod StandingLemmas
+pub mod LineSpellingLemmas
+pub mod EndLemmas
+pub mod EntrySpellingLemmas
+pub mod PropertySpellingLemmas
+pub mod NoLfLemmas
+pub mod WholeLineLemmas
+pub mod TableSpellingLemmas
+pub mod GraphicLemmas
