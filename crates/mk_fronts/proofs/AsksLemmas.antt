@@ -15,8 +15,8 @@ use Rattle.mk_model.specs.Graphs.{GraphView}
 use Rattle.mk_model.specs.Molecules.{Molecule}
 use Rattle.mk_model.specs.Queries.{QueryView}
 use Rattle.mk_model.specs.Hits.{HasNoEmbedding}
-use Rattle.mk_open.specs.Alone.{HoldsNoneAlone, IsAloneCode, alone_code}
-use Rattle.mk_open.specs.Fronts.{IsFrontCode, front_code}
+use Rattle.mk_open_codes.specs.Alone.{HoldsNoneAlone, IsAloneCode, alone_code}
+use Rattle.mk_open_codes.specs.Fronts.{IsFrontCode, front_code}
 use Rattle.mk_fronts.specs.Asks.{AreAsksOf, HoldsNoGraph, IsAskOf}
 
 -- ---- what is kept

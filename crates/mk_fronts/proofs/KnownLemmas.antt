@@ -3,7 +3,7 @@
 use Rattle.std.proofs.Common.{◌≡◌, ℕ, ◌+◌, ◌≤◌, ◌<◌}
 use Rattle.mk_model.specs.Molecules.{Molecule}
 use Rattle.mk_model.specs.Queries.{QueryView}
-use Rattle.mk_open.specs.Alone.{HoldsNoneAlone}
+use Rattle.mk_open_codes.specs.Alone.{HoldsNoneAlone}
 use Rattle.mk_fronts.specs.Fronts.{FrontsView, IsKnownOf}
 
 -- what is known is so in the molecule, and the query is the same

@@ -5,7 +5,7 @@ use Rattle.std.proofs.lemmas.Bool.{ltb-true, ltb-false}
 use Rattle.std.proofs.lemmas.Grind.{common_steps}
 use Rattle.mk_model.specs.OpenSlots.{most_at}
 use Rattle.mk_model.specs.Queries.{QueryView, slots_of}
-use Rattle.mk_open.specs.Alone.{root_slot}
+use Rattle.mk_open_codes.specs.Alone.{root_slot}
 use Rattle.mk_fronts.specs.Told.{AreChoices}
 
 -- for each of the first n slots how many numbers may stand for it

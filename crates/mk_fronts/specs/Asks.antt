@@ -13,8 +13,8 @@ use Rattle.mk_model.specs.Screens.{IsNeedOf}
 use Rattle.mk_match.specs.declared.asked.Asked.{Asked}
 use Rattle.mk_match.specs.Asked.{AreAsked}
 use Rattle.mk_model.specs.Hits.{HasNoEmbedding}
-use Rattle.mk_open.specs.Fronts.{IsFrontCode}
-use Rattle.mk_open.specs.OpenGraphs.{IsOpenGraph}
+use Rattle.mk_open_codes.specs.Fronts.{IsFrontCode}
+use Rattle.mk_open_codes.specs.OpenGraphs.{IsOpenGraph}
 
 -- the counts are what the graph asks for, and the need is what it needs of a screen
 pub record IsAsk (graph : GraphView) (asked : Asked) (need : Screen) : Type 0 where

@@ -10,7 +10,7 @@ use Rattle.mk_model.specs.Molecules.{Molecule}
 use Rattle.mk_model.specs.Queries.{QueryView}
 use Rattle.mk_match.specs.declared.asked.Counts.{Counts}
 use Rattle.mk_match.specs.Asked.{AreThere}
-use Rattle.mk_open.specs.Fronts.{HoldsNone, IsNeedOfAll}
+use Rattle.mk_open_codes.specs.Fronts.{HoldsNone, IsNeedOfAll}
 use Rattle.mk_fronts.specs.declared.told.Told.{Told}
 use Rattle.mk_fronts.specs.Told.{IsSo}
 

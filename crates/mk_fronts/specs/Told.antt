@@ -6,7 +6,7 @@ use Rattle.std.specs.Prelude.{◌≡◌, ◌<◌, ℕ, List, false, length, slic
 use Rattle.mk_model.specs.Molecules.{Molecule}
 use Rattle.mk_model.specs.OpenSlots.{most_at}
 use Rattle.mk_model.specs.Queries.{QueryView, slots_of}
-use Rattle.mk_open.specs.Alone.{HoldsNoneAlone, root_slot}
+use Rattle.mk_open_codes.specs.Alone.{HoldsNoneAlone, root_slot}
 use Rattle.mk_fronts.specs.declared.told.Told.{Told}
 
 -- where it was told that the molecule can't hold a number alone at a slot of the root, it doesn't

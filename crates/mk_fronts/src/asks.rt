@@ -3,8 +3,8 @@ ghost use Rattle.std.specs.Prelude.{◌≡◌, false, IfOk};
 ghost use Rattle.mk_model.specs.Hits.{HasNoEmbedding};
 ghost use Rattle.mk_model.specs.Screens.{IsNeedOf, IsScreenOf};
 ghost use Rattle.mk_match.specs.Asked.{AreThere};
-ghost use Rattle.mk_open.specs.OpenCodes.{IsOpenCode};
-ghost use Rattle.mk_open.specs.OpenGraphs.{IsOpenGraph};
+ghost use Rattle.mk_open_codes.specs.OpenCodes.{IsOpenCode};
+ghost use Rattle.mk_open_codes.specs.OpenGraphs.{IsOpenGraph};
 
 use mk_match::{Asked, Counts, cannot_hold, counts_asked, may_hold};
 use mk_model::{Graph, Memory, Mol, Query, Screen};

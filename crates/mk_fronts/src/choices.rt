@@ -1,7 +1,7 @@
 // How many numbers may stand for each slot of the root, and where what is told of them stands.
 ghost use Rattle.std.specs.Prelude.{◌≡◌, IfOk};
 ghost use Rattle.mk_fronts.specs.Told.{AreChoices};
-ghost use Rattle.mk_open.specs.Alone.{alone_code};
+ghost use Rattle.mk_open_codes.specs.Alone.{alone_code};
 
 use mk_model::{Memory, Query};
 use mk_open::{choices_of, root_slots};

@@ -3,7 +3,7 @@ ghost use Rattle.std.specs.Prelude.{◌≡◌, ◌≤◌, [], false, IfOk, IfSom
 ghost use Rattle.mk_model.specs.Codes.{IsCode};
 ghost use Rattle.mk_model.specs.Nodes.{BeginsCode};
 ghost use Rattle.mk_model.specs.Screens.{IsScreenOf};
-ghost use Rattle.mk_open.specs.Fronts.{HoldsNone, IsFrontCode, IsNeedOfAll};
+ghost use Rattle.mk_open_codes.specs.Fronts.{HoldsNone, IsFrontCode, IsNeedOfAll};
 ghost use Rattle.mk_fronts.specs.Fronts.{BeginsWithNone, IsKnownOf, IsReady, KnowsNothing};
 
 use crate::asks::Ask;

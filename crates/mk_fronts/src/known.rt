@@ -6,8 +6,8 @@ ghost use Rattle.mk_model.specs.OpenSlots.{most_at};
 ghost use Rattle.mk_model.specs.Queries.{slots_of};
 ghost use Rattle.mk_model.specs.Screens.{IsScreenOf};
 ghost use Rattle.mk_match.specs.Asked.{AreThere};
-ghost use Rattle.mk_open.specs.Alone.{ArePlaces, HoldsNoneAlone, root_slot};
-ghost use Rattle.mk_open.specs.Fronts.{HoldsNone};
+ghost use Rattle.mk_open_codes.specs.Alone.{ArePlaces, HoldsNoneAlone, root_slot};
+ghost use Rattle.mk_open_codes.specs.Fronts.{HoldsNone};
 ghost use Rattle.mk_fronts.specs.Fronts.{BeginsWithNone, IsKnownOf, KnowsNothing};
 ghost use Rattle.mk_fronts.specs.Told.{IsPlaceAt};
 

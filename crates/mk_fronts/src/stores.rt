@@ -6,8 +6,8 @@ ghost use Rattle.mk_model.specs.OpenSlots.{most_at};
 ghost use Rattle.mk_model.specs.Queries.{QueryView, slots_of};
 ghost use Rattle.mk_model.specs.Screens.{IsScreenOf};
 ghost use Rattle.mk_match.specs.Asked.{AreThere};
-ghost use Rattle.mk_open.specs.Alone.{HoldsNoneAlone, alone_code, root_slot};
-ghost use Rattle.mk_open.specs.Fronts.{IsFrontCode};
+ghost use Rattle.mk_open_codes.specs.Alone.{HoldsNoneAlone, alone_code, root_slot};
+ghost use Rattle.mk_open_codes.specs.Fronts.{IsFrontCode};
 ghost use Rattle.mk_fronts.specs.Asks.{HoldsNoGraph, IsAskOf};
 
 use crate::asks::Ask;

@@ -2,7 +2,7 @@
 ghost use Rattle.std.specs.Prelude.{◌≡◌, false, All, IfSome};
 ghost use Rattle.mk_model.specs.Molecules.{Molecule};
 ghost use Rattle.mk_model.specs.Queries.{QueryView};
-ghost use Rattle.mk_open.specs.Alone.{HoldsNoneAlone};
+ghost use Rattle.mk_open_codes.specs.Alone.{HoldsNoneAlone};
 ghost use Rattle.mk_fronts.specs.Told.{IsSo};
 
 /// Whether the molecule may hold a number at a slot of the root, where all other slots are left open.

@@ -19,12 +19,12 @@ use Rattle.mk_marks.specs.Bare.{bare_bonds}
 use Rattle.mk_pieces.specs.Fragments.{HasOrdered, IsFragment, IsLowerFirst, bare}
 use Rattle.mk_pieces.proofs.GraphLemmas.{fragment_sketch}
 use Rattle.mk_pieces.proofs.OrderLemmas.{ordered_of, pairs_once}
-use Rattle.mk_open.specs.OpenCodes.{IsOpenCode, open_spelling}
-use Rattle.mk_open.specs.OpenGraphs.{IsOpenGraph, weaker_atom, weaker_bond}
-use Rattle.mk_open.specs.Opening.{IsOpened, OpenBegins}
-use Rattle.mk_open.proofs.CompletionLemmas.{open_fragment}
-use Rattle.mk_open.proofs.OpenChoiceLemmas.{one_open_choice}
-use Rattle.mk_open.proofs.PartLemmas.{weakened, weaker_fragment}
+use Rattle.mk_open_codes.specs.OpenCodes.{IsOpenCode, open_spelling}
+use Rattle.mk_open_codes.specs.OpenGraphs.{IsOpenGraph, weaker_atom, weaker_bond}
+use Rattle.mk_open_codes.specs.Opening.{IsOpened, OpenBegins}
+use Rattle.mk_open_codes.proofs.CompletionLemmas.{open_fragment}
+use Rattle.mk_open_codes.proofs.OpenChoiceLemmas.{one_open_choice}
+use Rattle.mk_open_codes.proofs.PartLemmas.{weakened, weaker_fragment}
 
 pub open_begins : (query : QueryView) (code : List ℕ) → IsOpenCode query 0 code → OpenBegins query (slots_of query 0) code
 open_begins query code is = record { choice = is.choice; rest = []; made = is.made; spelt = append-nil (open_spelling is.choice) ∙ is.spelt }

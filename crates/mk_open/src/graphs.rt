@@ -1,11 +1,11 @@
 // The graph of an open code.
 ghost use Rattle.std.specs.Prelude.{◌≡◌, ℤ, IfOk, OnOk, map};
 ghost use Rattle.mk_pieces.specs.Fragments.{bare};
-ghost use Rattle.mk_open.specs.OpenCodes.{IsOpenCode};
-ghost use Rattle.mk_open.specs.OpenGraphs.{IsOpenGraph, weaker_atom, weaker_bond, weaker_kind, weaker_rings};
+ghost use Rattle.mk_open_codes.specs.OpenCodes.{IsOpenCode};
+ghost use Rattle.mk_open_codes.specs.OpenGraphs.{IsOpenGraph, weaker_atom, weaker_bond, weaker_kind, weaker_rings};
 
-use crate::open_codes::opened_by;
 use mk_model::{Graph, GraphAtom, GraphBond, Memory, Query, QueryBond, put_in_order};
+use mk_open_codes::opened_by;
 use mk_rings::marked_graph;
 use std::alloc::Global;
 

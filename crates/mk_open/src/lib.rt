@@ -1,28 +1,19 @@
-//! Open codes: what all codes that begin alike have in common.
+//! The graph of an open code, made: what all codes that begin alike have in common.
 //!
-//! An open code is a structural code in which slots may be left open. Callers use one promise: where
-//! the graph of an open code, which `open_graph` makes, has no embedding in a molecule, no code that
-//! completes the open code has one (`NoHitNoCompletion` in `specs/Laws.antt`).
+//! Callers use one promise. `open_graph` gives exactly the graph of an open code (`IsOpenGraph` in
+//! mk_open_codes' `specs/OpenGraphs.antt`). So the laws there speak of what it gives: where it has no
+//! embedding in a molecule, no code that completes the open code has one.
 //!
-//! Which numbers are an open code stands in `specs/OpenCodes.antt`, and its graph in
-//! `specs/OpenGraphs.antt`. What a search makes of it isn't known here.
+//! Only what waits for the marks of mk_rings stands here. Open codes and their laws are left to
+//! mk_open_codes, whose functions are handed on, all but `opened_by`.
 #![tactic(auto)]
 
-mod fronts;
 mod graphs;
-mod laws;
-mod loose;
-mod open_codes;
-mod parts;
-mod places;
-mod slots;
 
-pub use fronts::{alone_code, front_code};
 pub use graphs::open_graph;
-pub use laws::{
-    alone_fronts_hold_none, completions_cover_its_need, completions_hold_the_open_graph,
-    fronts_are_completed, fronts_are_passed_over, fronts_have_open_codes, fronts_hold_none,
-    no_hit_no_completion, open_codes_are_read_one_way, root_need, slots_hold_none,
+pub use mk_open_codes::{
+    alone_code, alone_fronts_hold_none, choices_of, completions_cover_its_need,
+    completions_hold_the_open_graph, front_code, fronts_are_completed, fronts_are_passed_over,
+    fronts_have_open_codes, fronts_hold_none, no_hit_no_completion, open_codes_are_read_one_way,
+    root_need, root_places, root_slots, slots_hold_none,
 };
-pub use places::root_places;
-pub use slots::{choices_of, root_slots};

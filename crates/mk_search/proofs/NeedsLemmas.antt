@@ -20,7 +20,7 @@ use Rattle.mk_rows.specs.declared.by_number.Numbered.{Numbered}
 use Rattle.mk_rows.specs.Rows.{IsLeastFrom as IsLeastNumber, NoneFrom}
 use Rattle.mk_index.specs.Postings.{HaveScreens, IsCandidate, IsNextCandidate, NoCandidate}
 use Rattle.mk_expand.proofs.ForCallers.{one_graph}
-use Rattle.mk_open.specs.Fronts.{IsNeedOfAll}
+use Rattle.mk_open_codes.specs.Fronts.{IsNeedOfAll}
 use Rattle.mk_search.specs.Records.{HasKeys, IsNextRecord, NoRecord}
 use Rattle.mk_search.proofs.RecordsLemmas.{held_number}
 

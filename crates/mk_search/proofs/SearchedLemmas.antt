@@ -30,7 +30,7 @@ use Rattle.mk_search.specs.Starts.{first_number, rest_in}
 use Rattle.mk_search.specs.Occurrences.{BelongsTo, IsBegunFor, IsCodeFrom, Leaves, TakesNext, given, is_open, reached}
 use Rattle.mk_search.specs.Pages.{IsHeldIn}
 use Rattle.mk_search.specs.Passing.{KnowOf}
-use Rattle.mk_open.specs.Fronts.{IsNeedOfAll}
+use Rattle.mk_open_codes.specs.Fronts.{IsNeedOfAll}
 use Rattle.mk_search.specs.Records.{IsNextRecord, NoRecord}
 use Rattle.mk_search.specs.Stages.{Finds, FindsIn, FindsKey, FindsNoKey, FindsNone, IsBegunKey, IsReadyHere, IsReadyIn, IsRecord, IsStanding, OccursIn}
 use Rattle.mk_search.specs.Turns.{StandsBy}

@@ -33,7 +33,7 @@ use Rattle.mk_search.specs.Occurrences.{BelongsTo, Leaves, is_open, reached}
 use Rattle.mk_search.specs.Pages.{IsHeldIn}
 use Rattle.mk_search.specs.Passing.{KnowOf}
 use Rattle.mk_search.specs.Turns.{IsHigher, StandsBy, debt_in}
-use Rattle.mk_open.specs.Fronts.{IsNeedOfAll}
+use Rattle.mk_open_codes.specs.Fronts.{IsNeedOfAll}
 
 -- the number of a record that is held, as a list
 pub record IsRecord (rows : List (Numbered Molecule)) (front : List ℕ) : Type 0 where

@@ -4,7 +4,7 @@ ghost use Rattle.std.specs.Prelude.{◌≡◌, ◌≤◌, ◌+◌, ◌∷◌, []
 ghost use Rattle.mk_rows.specs.Rows.{NoneFrom};
 ghost use Rattle.mk_search.specs.Levels.{AtFronts};
 ghost use Rattle.mk_search.specs.Occurrences.{BelongsTo};
-ghost use Rattle.mk_open.specs.Fronts.{IsNeedOfAll};
+ghost use Rattle.mk_open_codes.specs.Fronts.{IsNeedOfAll};
 ghost use Rattle.mk_search.specs.Stages.{ComesTo, Finds, IsReady, IsRecord, OccursIn, OwesFrom, debt_at, open_in, pairs_from};
 
 use crate::occurrences::Occurrences;

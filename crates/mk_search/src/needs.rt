@@ -4,7 +4,7 @@ ghost use Rattle.mk_model.specs.Screens.{Covers};
 ghost use Rattle.mk_screen.specs.Covering.{CoversBits, CoversCounts};
 ghost use Rattle.mk_search.specs.Kept.{IsKept};
 ghost use Rattle.mk_search.specs.Passing.{FrontsOf};
-ghost use Rattle.mk_open.specs.Fronts.{IsNeedOfAll};
+ghost use Rattle.mk_open_codes.specs.Fronts.{IsNeedOfAll};
 
 use crate::expansions::{Expansion, expansion_by, keep};
 use crate::passing::{fronts_of, need_by};

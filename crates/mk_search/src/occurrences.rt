@@ -4,7 +4,7 @@ ghost use Rattle.std.specs.Prelude.{◌≡◌, ◌≤◌, ◌+◌, ◌++◌, ℕ
 ghost use Rattle.mk_model.specs.Molecules.{Molecule};
 ghost use Rattle.mk_model.specs.Screens.{IsScreenOf};
 ghost use Rattle.mk_match.specs.Maps.{IsMadeFrom};
-ghost use Rattle.mk_open.specs.Fronts.{IsNeedOfAll};
+ghost use Rattle.mk_open_codes.specs.Fronts.{IsNeedOfAll};
 ghost use Rattle.mk_search.specs.Occurrences.{BelongsTo, IsOpened, IsOpenOf, IsTakenHere, Leaves, TakesNext, given};
 ghost use Rattle.mk_search.specs.Passing.{FrontsOf, KnowOf};
 ghost use Rattle.mk_search.specs.Turns.{IsAtCode, IsCodeShown, IsHigher, IsRefused, OwesFew, StandsBy};

@@ -4,7 +4,7 @@ ghost use Rattle.mk_model.specs.Codes.{IsCode};
 ghost use Rattle.mk_model.specs.Molecules.{Molecule};
 ghost use Rattle.mk_model.specs.Queries.{QueryView};
 ghost use Rattle.mk_model.specs.Screens.{IsScreenOf};
-ghost use Rattle.mk_open.specs.Fronts.{IsNeedOfAll};
+ghost use Rattle.mk_open_codes.specs.Fronts.{IsNeedOfAll};
 ghost use Rattle.mk_fronts.specs.Fronts.{BeginsWithNone};
 ghost use Rattle.mk_search.specs.Passing.{FrontsOf, IsBehindFront, KnowOf};
 

@@ -1,7 +1,7 @@
 // The next record that may have a key.
 ghost use Rattle.std.specs.Prelude.{◌≡◌, ◌<◌, IfNone, IfSome};
 ghost use Rattle.mk_index.specs.Postings.{HaveScreens, IsNextCandidate, NoCandidate};
-ghost use Rattle.mk_open.specs.Fronts.{IsNeedOfAll};
+ghost use Rattle.mk_open_codes.specs.Fronts.{IsNeedOfAll};
 ghost use Rattle.mk_search.specs.Records.{IsNextRecord, NoRecord};
 
 use mk_index::Shelf;

@@ -1,7 +1,7 @@
 use Rattle.std.proofs.Common.{◌∙◌, ap, map}
 use Rattle.mk_pieces.specs.Fragments.{bare}
 use Rattle.mk_pieces.proofs.ForCallers.{root_small}
-use Rattle.mk_open.specs.OpenGraphs.{weaker_atom, weaker_bond}
+use Rattle.mk_open_codes.specs.OpenGraphs.{weaker_atom, weaker_bond}
 use Rattle.mk_open.proofs.MadeLemmas.{bare_twice, made_graph, made_ordered, made_sketch, open_begins}
 use Rattle.mk_open.proofs.graphs.open_graph.Goals as goal
 

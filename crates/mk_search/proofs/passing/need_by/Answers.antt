@@ -1,6 +1,6 @@
 use Rattle.std.proofs.Common.{subst}
 use Rattle.mk_model.specs.Queries.{QueryView}
-use Rattle.mk_open.specs.Fronts.{IsNeedOfAll}
+use Rattle.mk_open_codes.specs.Fronts.{IsNeedOfAll}
 use Rattle.mk_search.proofs.passing.need_by.Goals as goal
 
 pub returns : goal.returns

@@ -7,7 +7,7 @@ use Rattle.mk_model.specs.OpenSlots.{most_at}
 use Rattle.mk_model.specs.Queries.{slots_of}
 use Rattle.mk_model.proofs.FitsOnLiterals.{query, root}
 use Rattle.mk_model.proofs.OnLiterals.{group, plain_group, single}
-use Rattle.mk_open.specs.Alone.{root_slot}
+use Rattle.mk_open_codes.specs.Alone.{root_slot}
 use Rattle.mk_trials.proofs.open_tests.codes.Goals as goal
 
 -- the link stands twice, and the site is vacant

@@ -1,6 +1,6 @@
 use Rattle.std.proofs.Common.{[], ◌≡◌, false, ap, ◌∙◌, subst}
 use Rattle.mk_model.specs.Queries.{QueryView}
-use Rattle.mk_open.specs.Fronts.{HoldsNone}
+use Rattle.mk_open_codes.specs.Fronts.{HoldsNone}
 use Rattle.mk_fronts.specs.Fronts.{FrontsView}
 use Rattle.mk_fronts.proofs.fronts.Fronts.begin.Goals as goal
 

@@ -1,5 +1,5 @@
 use Rattle.std.proofs.Common.{subst}
-use Rattle.mk_open.specs.Fronts.{IsNeedOfAll}
+use Rattle.mk_open_codes.specs.Fronts.{IsNeedOfAll}
 use Rattle.mk_fronts.specs.Fronts.{FrontsView}
 use Rattle.mk_fronts.proofs.fronts.Fronts.need.Goals as goal
 

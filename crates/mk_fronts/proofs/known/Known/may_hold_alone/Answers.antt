@@ -1,7 +1,7 @@
 use Rattle.std.proofs.Common.{◌≡◌, ap, subst, sym}
 use Rattle.std.specs.Prelude.{All}
 use Rattle.mk_model.specs.Queries.{QueryView}
-use Rattle.mk_open.specs.Alone.{HoldsNoneAlone}
+use Rattle.mk_open_codes.specs.Alone.{HoldsNoneAlone}
 use Rattle.mk_fronts.specs.Fronts.{FrontsView, IsKnownOf}
 use Rattle.mk_fronts.specs.Told.{IsSo}
 use Rattle.mk_fronts.proofs.known.Known.may_hold_alone.Goals as goal

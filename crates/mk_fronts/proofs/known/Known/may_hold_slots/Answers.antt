@@ -1,6 +1,6 @@
 use Rattle.std.proofs.Common.{[], ◌≡◌, false, subst}
 use Rattle.mk_model.specs.Queries.{QueryView}
-use Rattle.mk_open.specs.Fronts.{HoldsNone}
+use Rattle.mk_open_codes.specs.Fronts.{HoldsNone}
 use Rattle.mk_fronts.proofs.known.Known.may_hold_slots.Goals as goal
 
 pub returns-then-not-branch-clause-none : goal.returns-then-not-branch-clause-none

@@ -1,5 +1,0 @@
-use Rattle.mk_open.proofs.LawLemmas.{covered}
-use Rattle.mk_open.proofs.laws.completions_cover_its_need.Goals as goal
-
-pub returns : goal.returns
-returns c = covered

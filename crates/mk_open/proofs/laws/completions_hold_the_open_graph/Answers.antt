@@ -1,5 +1,0 @@
-use Rattle.mk_open.proofs.LawLemmas.{held}
-use Rattle.mk_open.proofs.laws.completions_hold_the_open_graph.Goals as goal
-
-pub returns : goal.returns
-returns c = held

@@ -1,5 +1,0 @@
-use Rattle.mk_open.proofs.FrontLemmas.{passed_over}
-use Rattle.mk_open.proofs.laws.fronts_are_passed_over.Goals as goal
-
-pub returns : goal.returns
-returns c = passed_over

@@ -1,5 +1,0 @@
-use Rattle.mk_open.proofs.FrontLemmas.{has_open_code}
-use Rattle.mk_open.proofs.laws.fronts_have_open_codes.Goals as goal
-
-pub returns : goal.returns
-returns c = has_open_code

@@ -1,5 +1,0 @@
-use Rattle.mk_open.proofs.AloneLemmas.{fronts_none}
-use Rattle.mk_open.proofs.laws.fronts_hold_none.Goals as goal
-
-pub returns : goal.returns
-returns c = fronts_none

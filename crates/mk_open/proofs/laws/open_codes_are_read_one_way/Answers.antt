@@ -1,5 +1,0 @@
-use Rattle.mk_open.proofs.OpenChoiceLemmas.{law}
-use Rattle.mk_open.proofs.laws.open_codes_are_read_one_way.Goals as goal
-
-pub returns : goal.returns
-returns c = law

@@ -1,5 +1,0 @@
-use Rattle.mk_open.proofs.AloneLemmas.{slots_none}
-use Rattle.mk_open.proofs.laws.slots_hold_none.Goals as goal
-
-pub returns : goal.returns
-returns c = slots_none

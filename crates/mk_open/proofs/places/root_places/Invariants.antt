@@ -1,5 +1,0 @@
-use Rattle.mk_open.proofs.PassingLemmas.{Places}
-use Rattle.mk_open.proofs.places.root_places.Given as goal
-
-abbrev pub invariant-loop-slot : goal.invariant-loop-slot
-invariant-loop-slot l = Places l.query l.code l.slot-index l.places.items l.at

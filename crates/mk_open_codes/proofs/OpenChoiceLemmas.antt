@@ -1,0 +1,190 @@
+-- Open choices: read one way, and shared by the choices that agree with them.
+--     one_open_choice     numbers that begin with an open choice at some slots begin with no other
+--     law                 numbers spell at most one open choice
+--     pieces_grow         what slots become by an open choice stands in what they become by a choice
+--                         that agrees
+--     root_shared         so what the root becomes is shared
+use Rattle.std.proofs.Common.{◌≡◌, ◌∙◌, ℕ, ◌<◌, Bool, true, false, cond, List, [], ◌∷◌, ◌++◌, length, refl, sym, ap, subst, arith, append_assoc}
+use Rattle.mk_model.specs.declared.template.Slot.{Slot}
+use Rattle.mk_model.specs.declared.template.Slot.TheVariants.{Link, Site}
+use Rattle.mk_model.specs.Codes.{Choice, IsChoice}
+use Rattle.mk_model.specs.Codes.Choice.{done, repeated, unfilled, filled}
+use Rattle.mk_model.specs.Expansions.{expansion, joined, left_open, pieces_of, template_of}
+use Rattle.mk_model.specs.Labels.{draws_rest_hydrogens, member}
+use Rattle.mk_model.specs.Pieces.{numbers_to}
+use Rattle.mk_model.specs.Pieces.Piece.{Hydrogens, Nothing}
+use Rattle.mk_model.specs.Queries.{QueryView, slots_of}
+use Rattle.mk_model.specs.QueryFits.{QueryFits}
+use Rattle.mk_model.specs.Templates.{neighbour_count}
+use Rattle.mk_pieces.proofs.ChoiceFits.{AreKnownSlots, chosen_there, kept_template, known_slots, slots_of_template, template_fit}
+use Rattle.mk_pieces.proofs.EndLemmas.{sites_apart}
+use Rattle.mk_open_codes.specs.OpenCodes.{Agrees, IsOpenChoice, OpenChoice, OpenCodesAreReadOneWay, open_spelling}
+use Rattle.mk_open_codes.specs.OpenCodes.OpenChoice.{no_more, undecided, repeats, vacates, fills}
+use Rattle.mk_open_codes.specs.OpenGraphs.{open_expansion, open_pieces, opened}
+use Rattle.mk_open_codes.proofs.LevelLemmas.{level_shared}
+use Rattle.mk_open_codes.proofs.PlaceLemmas.{IsLevel, level_places}
+use Rattle.mk_open_codes.proofs.SharedLemmas.{AllGrow, GrowsBy, IsShared}
+use Rattle.mk_open_codes.proofs.SplitLemmas.{heads, tails}
+
+-- ---- read one way
+
+-- two open choices are one, and so is what comes behind their numbers
+pub record AreOneOpen (choice other : OpenChoice) (rest others : List ℕ) : Type 0 where
+  pub choices : choice ≡ other
+  pub rests : rest ≡ others
+
+-- numbers that begin with an open choice at some slots begin with no other
+pub one_open_choice : (query : QueryView) (slots : List Slot) (choice other : OpenChoice) (rest others : List ℕ)
+    → IsOpenChoice query slots choice → IsOpenChoice query slots other → open_spelling choice ++ rest ≡ open_spelling other ++ others → AreOneOpen choice other rest others
+one_open_choice query [] no_more no_more rest others is is' same = record { choices = refl; rests = same }
+one_open_choice query [] no_more (undecided more) rest others is is' same = absurd is'
+one_open_choice query [] no_more (repeats n more) rest others is is' same = absurd is'
+one_open_choice query [] no_more (vacates n more) rest others is is' same = absurd is'
+one_open_choice query [] no_more (fills k inside more) rest others is is' same = absurd is'
+one_open_choice query [] (undecided more) other rest others is is' same = absurd is
+one_open_choice query [] (repeats n more) other rest others is is' same = absurd is
+one_open_choice query [] (vacates n more) other rest others is is' same = absurd is
+one_open_choice query [] (fills k inside more) other rest others is is' same = absurd is
+one_open_choice query (slot ∷ slots) (undecided more) (undecided more') rest others is is' same =
+    let behind = one_open_choice query slots more more' rest others is is' (tails 0 0 _ _ same) in
+    record { choices = ap undecided behind.choices; rests = behind.rests }
+one_open_choice query (Link atom most from to ∷ slots) no_more other rest others is is' same = absurd is
+one_open_choice query (Link atom most from to ∷ slots) (vacates n more) other rest others is is' same = absurd is
+one_open_choice query (Link atom most from to ∷ slots) (fills k inside more) other rest others is is' same = absurd is
+one_open_choice query (Link atom most from to ∷ slots) (undecided more) no_more rest others is is' same = absurd is'
+one_open_choice query (Link atom most from to ∷ slots) (undecided more) (repeats n' more') rest others is is' same = absurd (omega (arith, heads 0 n' _ _ same, is'.0))
+one_open_choice query (Link atom most from to ∷ slots) (undecided more) (vacates n' more') rest others is is' same = absurd is'
+one_open_choice query (Link atom most from to ∷ slots) (undecided more) (fills k' inside' more') rest others is is' same = absurd is'
+one_open_choice query (Link atom most from to ∷ slots) (repeats n more) no_more rest others is is' same = absurd is'
+one_open_choice query (Link atom most from to ∷ slots) (repeats n more) (undecided more') rest others is is' same = absurd (omega (arith, heads n 0 _ _ same, is.0))
+one_open_choice query (Link atom most from to ∷ slots) (repeats n more) (vacates n' more') rest others is is' same = absurd is'
+one_open_choice query (Link atom most from to ∷ slots) (repeats n more) (fills k' inside' more') rest others is is' same = absurd is'
+one_open_choice query (Link atom most from to ∷ slots) (repeats n more) (repeats n' more') rest others is is' same =
+    let behind = one_open_choice query slots more more' rest others is.2 is'.2 (tails n n' _ _ same) in
+    let number = heads n n' _ _ same in
+    let choices = behind.choices in
+    record { choices = cc; rests = behind.rests }
+one_open_choice query (Site atom groups first second ∷ slots) no_more other rest others is is' same = absurd is
+one_open_choice query (Site atom groups first second ∷ slots) (repeats n more) other rest others is is' same = absurd is
+one_open_choice query (Site atom groups first second ∷ slots) (undecided more) no_more rest others is is' same = absurd is'
+one_open_choice query (Site atom groups first second ∷ slots) (undecided more) (repeats n' more') rest others is is' same = absurd is'
+one_open_choice query (Site atom groups first second ∷ slots) (undecided more) (vacates n' more') rest others is is' same = absurd (omega (arith, heads 0 n' _ _ same, is'.0))
+one_open_choice query (Site atom groups first second ∷ slots) (undecided more) (fills k' inside' more') rest others is is' same = absurd (omega (arith, heads 0 k' _ _ same, is'.0))
+one_open_choice query (Site atom groups first second ∷ slots) (vacates n more) no_more rest others is is' same = absurd is'
+one_open_choice query (Site atom groups first second ∷ slots) (vacates n more) (undecided more') rest others is is' same = absurd (omega (arith, heads n 0 _ _ same, is.0))
+one_open_choice query (Site atom groups first second ∷ slots) (vacates n more) (repeats n' more') rest others is is' same = absurd is'
+one_open_choice query (Site atom groups first second ∷ slots) (vacates n more) (vacates n' more') rest others is is' same =
+    let behind = one_open_choice query slots more more' rest others is.1 is'.1 (tails n n' _ _ same) in
+    let number = heads n n' _ _ same in
+    let choices = behind.choices in
+    record { choices = cc; rests = behind.rests }
+one_open_choice query (Site atom groups first second ∷ slots) (vacates n more) (fills k' inside' more') rest others is is' same =
+    absurd (omega (arith, heads n k' _ _ same, is.0, is'.1))
+one_open_choice query (Site atom groups first second ∷ slots) (fills k inside more) no_more rest others is is' same = absurd is'
+one_open_choice query (Site atom groups first second ∷ slots) (fills k inside more) (undecided more') rest others is is' same = absurd (omega (arith, heads k 0 _ _ same, is.0))
+one_open_choice query (Site atom groups first second ∷ slots) (fills k inside more) (repeats n' more') rest others is is' same = absurd is'
+one_open_choice query (Site atom groups first second ∷ slots) (fills k inside more) (vacates n' more') rest others is is' same =
+    absurd (omega (arith, heads k n' _ _ same, is.1, is'.0))
+one_open_choice query (Site atom groups first second ∷ slots) (fills k inside more) (fills k' inside' more') rest others is is' same =
+    let number = heads k k' _ _ same in
+    let made : IsOpenChoice query (slots_of query (member query (Site atom groups first second) k)) inside' =
+    subst (λ (n : ℕ). IsOpenChoice query (slots_of query (member query (Site atom groups first second) n)) inside')
+    (sym number) is'.2 in
+    let both : open_spelling inside ++ (open_spelling more ++ rest) ≡ open_spelling inside' ++ (open_spelling more' ++ others) =
+    sym (append_assoc (open_spelling inside) (open_spelling more) rest) ∙ tails k k' _ _ same ∙ append_assoc (open_spelling inside') (open_spelling more') others in
+    let first = one_open_choice query (slots_of query (member query (Site atom groups first second) k)) inside inside' (open_spelling more ++ rest) (open_spelling more' ++ others) is.2 made both in
+    let behind = one_open_choice query slots more more' rest others is.3 is'.3 first.rests in
+    let choices = behind.choices in
+    let insides = first.choices in
+    record { choices = cc; rests = behind.rests }
+
+pub law : OpenCodesAreReadOneWay
+law query t open_code one other =
+    let same : open_spelling one.choice ++ [] ≡ open_spelling other.choice ++ [] = ap (λ (xs : List ℕ). xs ++ []) (one.spelt ∙ sym other.spelt) in
+    (one_open_choice query (slots_of query t) one.choice other.choice [] [] one.made other.made same).choices
+
+-- ---- shared
+
+-- what an unfilled site becomes is the same in a part and in the whole
+vacant_grows : (query : QueryView) (slot : Slot) → (places : List ℕ) × GrowsBy (left_open query slot) (left_open query slot) places
+vacant_grows query slot = by (draws_rest_hydrogens query slot)
+  where
+    by : (b : Bool) → (places : List ℕ) × GrowsBy (cond b (Hydrogens (neighbour_count slot)) Nothing) (cond b (Hydrogens (neighbour_count slot)) Nothing) places
+    by true = (numbers_to (neighbour_count slot), (refl, refl))
+    by false = ([], refl)
+
+-- a template whose slots have become pieces by an open choice and by one that agrees
+level_of : (query : QueryView) (fits : QueryFits query) (t : ℕ) (there : t < length query.templates) (open_choice : OpenChoice) (choice : Choice) (made : IsChoice query (slots_of query t) choice)
+    (others : List (List ℕ)) → AllGrow (open_pieces query (slots_of query t) open_choice) (pieces_of query (slots_of query t) choice) others
+    → IsLevel (template_of query t) (open_pieces query (slots_of query t) open_choice) (pieces_of query (slots_of query t) choice) others
+level_of query fits t there open_choice choice made others grow = record {
+  kept = kept_template query fits t there;
+  apart = sites_apart query fits t there;
+  fit = template_fit query fits t there choice made;
+  grow = grow;
+}
+
+-- what slots become by an open choice stands in what they become by a choice that agrees
+pub pieces_grow : (query : QueryView) (fits : QueryFits query) (slots : List Slot) (open_choice : OpenChoice) (choice : Choice) → AreKnownSlots query slots → IsChoice query slots choice
+    → Agrees open_choice choice → (others : List (List ℕ)) × AllGrow (open_pieces query slots open_choice) (pieces_of query slots choice) others
+unfolding open_pieces pieces_of
+pieces_grow query fits [] no_more done known is agrees = ([], tt)
+pieces_grow query fits [] (undecided more) done known is agrees = absurd agrees
+pieces_grow query fits [] (repeats n more) done known is agrees = absurd agrees
+pieces_grow query fits [] (vacates n more) done known is agrees = absurd agrees
+pieces_grow query fits [] (fills k inside more) done known is agrees = absurd agrees
+pieces_grow query fits [] open_choice (repeated n more) known is agrees = absurd is
+pieces_grow query fits [] open_choice (unfilled n more) known is agrees = absurd is
+pieces_grow query fits [] open_choice (filled k inside more) known is agrees = absurd is
+pieces_grow query fits (Link atom most from to ∷ slots) open_choice done known is agrees = absurd is
+pieces_grow query fits (Link atom most from to ∷ slots) open_choice (unfilled n more) known is agrees = absurd is
+pieces_grow query fits (Link atom most from to ∷ slots) open_choice (filled k inside more) known is agrees = absurd is
+pieces_grow query fits (Link atom most from to ∷ slots) no_more (repeated n more) known is agrees = absurd agrees
+pieces_grow query fits (Link atom most from to ∷ slots) (undecided others) (repeated n more) known is agrees =
+    (let rest = pieces_grow query fits slots others more known.1 is.2 agrees in ([] ∷ rest.0, (refl, rest.1)))
+pieces_grow query fits (Link atom most from to ∷ slots) (repeats m others) (repeated n more) known is agrees =
+    (let rest = pieces_grow query fits slots others more known.1 is.2 agrees.1 in (numbers_to m ∷ rest.0, ((agrees.0, refl), rest.1)))
+pieces_grow query fits (Link atom most from to ∷ slots) (vacates m others) (repeated n more) known is agrees = absurd agrees
+pieces_grow query fits (Link atom most from to ∷ slots) (fills m within others) (repeated n more) known is agrees = absurd agrees
+pieces_grow query fits (Site atom groups first second ∷ slots) open_choice done known is agrees = absurd is
+pieces_grow query fits (Site atom groups first second ∷ slots) open_choice (repeated n more) known is agrees = absurd is
+pieces_grow query fits (Site atom groups first second ∷ slots) no_more (unfilled n more) known is agrees = absurd agrees
+pieces_grow query fits (Site atom groups first second ∷ slots) (undecided others) (unfilled n more) known is agrees =
+    (let rest = pieces_grow query fits slots others more known.1 is.1 agrees in ([] ∷ rest.0, (refl, rest.1)))
+pieces_grow query fits (Site atom groups first second ∷ slots) (repeats m others) (unfilled n more) known is agrees = absurd agrees
+pieces_grow query fits (Site atom groups first second ∷ slots) (vacates m others) (unfilled n more) known is agrees =
+    (let rest = pieces_grow query fits slots others more known.1 is.1 agrees.1 in let own = vacant_grows query (Site atom groups first second) in (own.0 ∷ rest.0, (own.1, rest.1)))
+pieces_grow query fits (Site atom groups first second ∷ slots) (fills m within others) (unfilled n more) known is agrees = absurd agrees
+pieces_grow query fits (Site atom groups first second ∷ slots) no_more (filled k inside more) known is agrees = absurd agrees
+pieces_grow query fits (Site atom groups first second ∷ slots) (undecided others) (filled k inside more) known is agrees =
+    (let rest = pieces_grow query fits slots others more known.1 is.3 agrees in ([] ∷ rest.0, (refl, rest.1)))
+pieces_grow query fits (Site atom groups first second ∷ slots) (repeats m others) (filled k inside more) known is agrees = absurd agrees
+pieces_grow query fits (Site atom groups first second ∷ slots) (vacates m others) (filled k inside more) known is agrees = absurd agrees
+pieces_grow query fits (Site atom groups first second ∷ slots) (fills m within others) (filled k inside more) known is agrees =
+    let u = member query (Site atom groups first second) k in
+    let there = chosen_there query (Site atom groups first second) k is.0 is.1 in
+    let same = slots_of_template query u there.0 in
+    let inner = pieces_grow query fits (slots_of query u) within inside (rw same (known_slots query fits u there.0)) is.2 agrees.1 in
+    let level = level_of query fits u there.0 within inside is.2 inner.0 inner.1 in
+    let shared = level_shared (template_of query u) (open_pieces query (slots_of query u) within) (pieces_of query (slots_of query u) inside) inner.0 level in
+    let places = level_places (template_of query u) (pieces_of query (slots_of query u) inside) inner.0 in
+    let rest = pieces_grow query fits slots others more known.1 is.3 agrees.2 in
+    (places ∷ rest.0, (subst (grown_by u inside places) (sym agrees.0) shared, rest.1))
+  where
+    -- the part that the n-th member becomes is shared with what template u becomes
+    grown_by : (u : ℕ) → Choice → List ℕ → ℕ → Type 0
+    grown_by u inside places n =
+        let v = member query (Site atom groups first second) n in
+        IsShared (opened (template_of query v) (open_pieces query (slots_of query v) within)) (joined (template_of query u) (pieces_of query (slots_of query u) inside)) places
+
+-- what a template becomes by an open choice is shared with what it becomes by one that agrees
+pub template_shared : (query : QueryView) (fits : QueryFits query) (t : ℕ) → t < length query.templates → (open_choice : OpenChoice) (choice : Choice) → IsChoice query (slots_of query t) choice
+    → Agrees open_choice choice → (places : List ℕ) × IsShared (open_expansion query t open_choice) (expansion query t choice) places
+unfolding open_expansion expansion
+template_shared query fits t there open_choice choice made agrees =
+    let same = slots_of_template query t there in
+    let grown = pieces_grow query fits (slots_of query t) open_choice choice (rw same (known_slots query fits t there)) made agrees in (
+      level_places (template_of query t) (pieces_of query (slots_of query t) choice) grown.0,
+      level_shared (template_of query t) (open_pieces query (slots_of query t) open_choice) (pieces_of query (slots_of query t) choice) grown.0
+          (level_of query fits t there open_choice choice made grown.0 grown.1),
+    )

@@ -1,0 +1,78 @@
+-- Slots that become pieces, one after another.
+--     Left                        some slots have become pieces, and the code goes on with a choice at the others
+--     left_none, left_more, left_all
+use Rattle.std.proofs.Common.{◌≡◌, ◌∙◌, ℕ, ◌+◌, ◌<◌, ◌≤◌, List, [], ◌∷◌, ◌++◌, length, get_or, drop, refl, sym, ap, append_assoc}
+use Rattle.std.proofs.lemmas.List.{drop_more, drop_all, append-nil}
+use Rattle.mk_model.specs.Pieces.{Piece}
+use Rattle.mk_model.specs.declared.template.Slot.{Slot}
+use Rattle.mk_open_codes.specs.OpenCodes.{OpenChoice, IsOpenChoice, open_spelling}
+use Rattle.mk_open_codes.specs.OpenCodes.OpenChoice.{no_more, undecided, repeats, vacates, fills}
+use Rattle.mk_open_codes.specs.OpenGraphs.{open_pieces}
+use Rattle.mk_model.specs.Queries.{QueryView}
+use Rattle.mk_open_codes.proofs.OpenChoiceLemmas.{one_open_choice}
+use Rattle.mk_open_codes.specs.Opening.{AreOpenChosen, OpenBegins}
+use Rattle.mk_open_codes.proofs.SplitLemmas.{IsOpenSplit, open_split}
+
+-- The first k slots have become these pieces by the numbers between two places, and the code goes on with a choice at the
+-- others; both together are a choice at all slots.
+pub record Left (query : QueryView) (slots : List Slot) (k : ℕ) (code now : List ℕ) (pieces : List Piece) : Type 0 where
+  pub others : OpenChoice
+  pub rest : List ℕ
+  pub whole : OpenChoice
+  pub made_others : IsOpenChoice query (drop k slots) others
+  pub spelt_others : open_spelling others ++ rest ≡ now
+  pub made : IsOpenChoice query slots whole
+  pub spelt : open_spelling whole ++ rest ≡ code
+  pub are : pieces ++ open_pieces query (drop k slots) others ≡ open_pieces query slots whole
+
+pub left_none : (query : QueryView) (slots : List Slot) (code : List ℕ) → OpenBegins query slots code → Left query slots 0 code code []
+left_none query slots code begins = record {
+  others = begins.choice;
+  rest = begins.rest;
+  whole = begins.choice;
+  made_others = begins.made;
+  spelt_others = begins.spelt;
+  made = begins.made;
+  spelt = begins.spelt;
+  are = refl;
+}
+
+module _ (query : QueryView) (slots : List Slot) (k : ℕ) (code now : List ℕ) (pieces : List Piece) (d : Slot) (below : k < length slots) (left : Left query slots k code now pieces) where
+  next : IsOpenSplit query (get_or slots k d ∷ []) (drop (k + 1) slots) left.others
+  next = open_split query (get_or slots k d ∷ []) (drop (k + 1) slots) left.others (rw (drop_more slots k d below) at left.made_others)
+
+  behind : open_spelling next.first ++ (open_spelling next.second ++ left.rest) ≡ now
+  behind = sym (append_assoc (open_spelling next.first) (open_spelling next.second) left.rest) ∙ ap (λ s. s ++ left.rest) (sym next.spelt) ∙ left.spelt_others
+
+  pub left_begins : OpenBegins query (get_or slots k d ∷ []) now
+  left_begins = record { choice = next.first; rest = open_spelling next.second ++ left.rest; made = next.first_made; spelt = behind }
+
+  pub left_more : (now' : List ℕ) (p : Piece) → AreOpenChosen query (get_or slots k d ∷ []) now now' (p ∷ []) → Left query slots (k + 1) code now' (pieces ++ p ∷ [])
+  left_more now' p chosen =
+      let same = one_open_choice query (get_or slots k d ∷ []) next.first chosen.choice (open_spelling next.second ++ left.rest) now' next.first_made chosen.made (behind ∙ sym chosen.spelt) in
+      let piece : p ∷ [] ≡ open_pieces query (get_or slots k d ∷ []) next.first = chosen.are ∙ ap (open_pieces query (get_or slots k d ∷ [])) (sym same.choices) in
+      let all : pieces ++ open_pieces query (get_or slots k d ∷ drop (k + 1) slots) left.others ≡ open_pieces query slots left.whole = rw (drop_more slots k d below) at left.are in
+      record {
+        others = next.second;
+        rest = left.rest;
+        whole = left.whole;
+        made_others = next.second_made;
+        spelt_others = same.rests;
+        made = left.made;
+        spelt = left.spelt;
+        are = append_assoc pieces (p ∷ []) (open_pieces query (drop (k + 1) slots) next.second) ∙ ap (λ s. pieces ++ (s ++ open_pieces query (drop (k + 1) slots) next.second)) piece
+            ∙ ap (λ s. pieces ++ s) (sym next.pieces) ∙ all;
+      }
+
+pub left_all : (query : QueryView) (slots : List Slot) (k : ℕ) (code now : List ℕ) (pieces : List Piece) → length slots ≤ k → Left query slots k code now pieces
+    → AreOpenChosen query slots code now pieces
+unfolding open_pieces
+left_all query slots k code now pieces past left = by left.others (rw (drop_all k slots past) at left.made_others) left.spelt_others (rw (drop_all k slots past) at left.are)
+  where
+    by : (others : OpenChoice) → IsOpenChoice query [] others → open_spelling others ++ left.rest ≡ now → pieces ++ open_pieces query [] others ≡ open_pieces query slots left.whole
+        → AreOpenChosen query slots code now pieces
+    by no_more is spelt are = record { choice = left.whole; made = left.made; spelt = ap (λ s. open_spelling left.whole ++ s) (sym spelt) ∙ left.spelt; are = sym (append-nil pieces) ∙ are }
+    by (undecided others) is spelt are = absurd is
+    by (repeats n others) is spelt are = absurd is
+    by (vacates n others) is spelt are = absurd is
+    by (fills k' inside others) is spelt are = absurd is
