@@ -10,8 +10,8 @@ use Rattle.mk_model.specs.Graphs.{GraphView}
 use Rattle.mk_model.specs.Molecules.{Molecule}
 use Rattle.mk_model.specs.Queries.{QueryView}
 use Rattle.mk_model.specs.Screens.{IsNeedOf}
-use Rattle.mk_match.specs.declared.asked.Asked.{Asked}
-use Rattle.mk_match.specs.Asked.{AreAsked}
+use Rattle.mk_counts.specs.declared.asked.Asked.{Asked}
+use Rattle.mk_counts.specs.Asked.{AreAsked}
 use Rattle.mk_model.specs.Hits.{HasNoEmbedding}
 use Rattle.mk_open_codes.specs.Fronts.{IsFrontCode}
 use Rattle.mk_open_codes.specs.OpenGraphs.{IsOpenGraph}

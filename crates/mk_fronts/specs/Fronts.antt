@@ -8,8 +8,8 @@ use Rattle.std.specs.Prelude.{◌≤◌, ℕ, List, Option, IfSome, length, take
 use Rattle.mk_model.specs.declared.screen.Screen.{Screen}
 use Rattle.mk_model.specs.Molecules.{Molecule}
 use Rattle.mk_model.specs.Queries.{QueryView}
-use Rattle.mk_match.specs.declared.asked.Counts.{Counts}
-use Rattle.mk_match.specs.Asked.{AreThere}
+use Rattle.mk_counts.specs.declared.asked.Counts.{Counts}
+use Rattle.mk_counts.specs.Asked.{AreThere}
 use Rattle.mk_open_codes.specs.Fronts.{HoldsNone, IsNeedOfAll}
 use Rattle.mk_fronts.specs.declared.told.Told.{Told}
 use Rattle.mk_fronts.specs.Told.{IsSo}

@@ -2,14 +2,15 @@
 ghost use Rattle.std.specs.Prelude.{◌≡◌, false, IfOk};
 ghost use Rattle.mk_model.specs.Hits.{HasNoEmbedding};
 ghost use Rattle.mk_model.specs.Screens.{IsNeedOf, IsScreenOf};
-ghost use Rattle.mk_match.specs.Asked.{AreThere};
+ghost use Rattle.mk_counts.specs.Asked.{AreThere};
 ghost use Rattle.mk_open_codes.specs.OpenCodes.{IsOpenCode};
 ghost use Rattle.mk_open_codes.specs.OpenGraphs.{IsOpenGraph};
 
-use mk_match::{Asked, Counts, cannot_hold, counts_asked, may_hold};
+use mk_counts::{Asked, Counts, cannot_hold, counts_asked};
 use mk_model::{Graph, Memory, Mol, Query, Screen};
 use mk_open::open_graph;
 use mk_screen::{is_covered, need_of};
+use mk_walk::may_hold;
 use std::alloc::Global;
 use std::marker::Model;
 
@@ -17,7 +18,7 @@ use std::marker::Model;
 const MOST_TURNS: u32 = 2_000;
 
 /// A graph, what it asks for in numbers, and what it needs of a screen.
-#[derive(Debug, Drop)]
+#[derive(Drop)]
 pub struct Ask {
     graph: Graph,
     asked: Asked,

@@ -11,6 +11,7 @@ use crate::known::Known;
 use mk_model::{Memory, Mol, Query, Screen};
 use mk_open::{root_need, root_places, root_slots};
 use std::alloc::Global;
+use std::fmt;
 use std::marker::Model;
 
 /// What a query's fronts ask for, and what is known of them in one molecule: which of them it can't
@@ -18,13 +19,20 @@ use std::marker::Model;
 ///
 /// A front is numbers with which codes begin. The codes of a query are asked for in rising order, so a
 /// code shares fronts with the one before it, and those aren't asked for again.
-#[derive(Debug, Drop)]
+#[derive(Drop)]
 pub struct Fronts<'a> {
     known: Known<'a>,
     need: Screen,
     places: Vec<u32>,
     last: Vec<u32>,
     begun: bool,
+}
+
+impl fmt::Debug for Fronts<'_> {
+    // It shows nothing of what is known.
+    fn fmt<W: fmt::Write>(&self, f: &mut fmt::Formatter<W>) -> fmt::Result {
+        f.debug_struct("Fronts").finish_non_exhaustive()
+    }
 }
 
 impl<'a> Model for Fronts<'a> {

@@ -5,7 +5,7 @@ ghost use Rattle.mk_model.specs.Nodes.{BeginsCode};
 ghost use Rattle.mk_model.specs.OpenSlots.{most_at};
 ghost use Rattle.mk_model.specs.Queries.{slots_of};
 ghost use Rattle.mk_model.specs.Screens.{IsScreenOf};
-ghost use Rattle.mk_match.specs.Asked.{AreThere};
+ghost use Rattle.mk_counts.specs.Asked.{AreThere};
 ghost use Rattle.mk_open_codes.specs.Alone.{ArePlaces, HoldsNoneAlone, root_slot};
 ghost use Rattle.mk_open_codes.specs.Fronts.{HoldsNone};
 ghost use Rattle.mk_fronts.specs.Fronts.{BeginsWithNone, IsKnownOf, KnowsNothing};
@@ -14,7 +14,7 @@ ghost use Rattle.mk_fronts.specs.Told.{IsPlaceAt};
 use crate::choices::{choices, place_of, put_alone, starts};
 use crate::stores::Stores;
 use crate::told::{Told, forget, nothing, put, told_at};
-use mk_match::{Counts, counts_there};
+use mk_counts::{Counts, counts_there};
 use mk_model::{Memory, Mol, Query, Screen};
 use mk_open::{alone_fronts_hold_none, fronts_hold_none, slots_hold_none};
 use std::alloc::Global;
@@ -25,7 +25,7 @@ const MOST_TOLD: usize = 65_536;
 
 /// The graphs that are kept, how many numbers may stand for each slot of the root, and of one
 /// molecule what it has and what was told of numbers alone.
-#[derive(Debug, Drop)]
+#[derive(Drop)]
 pub struct Known<'a> {
     stores: Stores<'a>,
     there: Option<Counts>,

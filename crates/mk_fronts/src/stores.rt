@@ -5,14 +5,14 @@ ghost use Rattle.mk_model.specs.Nodes.{BeginsCode};
 ghost use Rattle.mk_model.specs.OpenSlots.{most_at};
 ghost use Rattle.mk_model.specs.Queries.{QueryView, slots_of};
 ghost use Rattle.mk_model.specs.Screens.{IsScreenOf};
-ghost use Rattle.mk_match.specs.Asked.{AreThere};
+ghost use Rattle.mk_counts.specs.Asked.{AreThere};
 ghost use Rattle.mk_open_codes.specs.Alone.{HoldsNoneAlone, alone_code, root_slot};
 ghost use Rattle.mk_open_codes.specs.Fronts.{IsFrontCode};
 ghost use Rattle.mk_fronts.specs.Asks.{HoldsNoGraph, IsAskOf};
 
 use crate::asks::Ask;
 use indexmap::IndexMap;
-use mk_match::Counts;
+use mk_counts::Counts;
 use mk_model::{Memory, Mol, Query, Screen};
 use mk_open::{alone_code, front_code};
 use std::alloc::Global;
@@ -26,7 +26,7 @@ const MOST_BYTES: usize = 33_554_432;
 ///
 /// Where the young graphs take too much room, they become the elder ones, and those are let go.
 /// An elder one that is asked for again is put among the young.
-#[derive(Debug, Drop)]
+#[derive(Drop)]
 pub struct Stores<'a> {
     young: IndexMap<Vec<u32>, Ask>,
     elder: IndexMap<Vec<u32>, Ask>,

@@ -7,7 +7,7 @@ ghost use Rattle.mk_fronts.specs.Told.{IsSo};
 
 /// Whether the molecule may hold a number at a slot of the root, where all other slots are left open.
 /// Numbers count from 1, so the number 0 says that nothing was told.
-#[derive(Clone, Copy, Debug)]
+#[derive(Clone, Copy)]
 pub struct Told {
     pub slot: usize,
     pub number: u32,

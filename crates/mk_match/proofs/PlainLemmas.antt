@@ -20,9 +20,8 @@ use Rattle.mk_model.specs.Tests.{meets}
 use Rattle.mk_model.specs.Fitting.{FitsAtom, LiesOn, is_drawn_hydrogen, is_hydrogen, passes_at, passes_some}
 use Rattle.mk_model.specs.Hits.{image, IsHit, IsPlainAt, IsPlainDrawn}
 use Rattle.mk_tests.proofs.ForCallers.{alone, around, fits_by, meets_around}
-use Rattle.mk_match.specs.Plain.{HitsAreListed, are_distinct, atoms_fit, bonds_fit, each_bonded, fits_atom, has_ends, hits_of, images_rise, is_hit, is_plain_at, is_plain_drawn, is_plain_bond, is_plain_test, lies_on, meets_some, rises_at, takes_first, takes_lower_at}
-use Rattle.mk_match.proofs.HydrogensLemmas.{plain_test_found, plain_test_given}
-use Rattle.mk_match.proofs.ListTestLemmas.{all_found, all_given, all_places, all_recursion, any_found, any_given, distinct_found, distinct_given}
+use Rattle.mk_walk.specs.Plain.{HitsAreListed, are_distinct, atoms_fit, bonds_fit, each_bonded, fits_atom, has_ends, hits_of, images_rise, is_hit, is_plain_at, is_plain_drawn, is_plain_bond, is_plain_test, lies_on, meets_some, rises_at, takes_first, takes_lower_at}
+use Rattle.mk_walk.proofs.ForCallers.{all_found, all_given, all_places, all_recursion, any_found, any_given, distinct_found, distinct_given, plain_test_found, plain_test_given}
 
 -- ---- atoms
 

@@ -1,16 +1,2 @@
-pub mod Table
-pub mod Hydrogens
-pub mod Begun
-pub mod EarlierBonds
-pub mod Candidates
-pub mod Counts
-pub mod Asked
-pub mod Walk
-pub mod Outlook
-pub mod Search
 pub mod Maps
 pub mod Lending
-pub mod Plain
-pub mod Turns
-pub mod SearchTurns
-pub mod Held

@@ -15,10 +15,10 @@ use Rattle.mk_model.specs.Hits.{IsHit}
 use Rattle.mk_model.specs.Nodes.{Pays}
 use Rattle.mk_model.specs.declared.turn.Turn.{Turn}
 use Rattle.mk_model.specs.declared.turn.Turn.TheVariants.{Item, Moved, End}
-use Rattle.mk_match.specs.declared.search.Search.{Search}
-use Rattle.mk_match.specs.Search.{IsLeft, IsOwed, IsSearch}
-use Rattle.mk_match.specs.Turns.{IsMapNode}
-use Rattle.mk_match.specs.Walk.{SameFrom}
+use Rattle.mk_walk.specs.declared.search.Search.{Search}
+use Rattle.mk_walk.specs.Search.{IsLeft, IsOwed, IsSearch}
+use Rattle.mk_walk.specs.Turns.{IsMapNode}
+use Rattle.mk_walk.specs.Walk.{SameFrom}
 
 -- what is seen of a `Maps`: its graph, its molecule, the place from which hits are left, and what is
 -- owed there

@@ -3,11 +3,11 @@ ghost use Rattle.std.specs.Prelude.{◌≡◌, ◌≤◌, ◌<◌, ◌+◌, ◌+
 ghost use Rattle.std.specs.Borrow.{sem};
 ghost use Rattle.mk_model.specs.Hits.{IsHit};
 ghost use Rattle.mk_text.specs.Rising.{IsLeastFrom};
-ghost use Rattle.mk_match.specs.Search.{IsDebt};
+ghost use Rattle.mk_walk.specs.Search.{IsDebt};
 
-use crate::counts::has_too_few;
-use crate::search::Search;
+use mk_counts::has_too_few;
 use mk_model::{Graph, Map, Memory, Mol, Place, Steps, Turn};
+use mk_walk::Search;
 use std::alloc::Global;
 use std::marker::Model;
 use std::sync::ledger::Ledger;

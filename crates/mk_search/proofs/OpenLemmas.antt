@@ -19,7 +19,7 @@ use Rattle.mk_model.proofs.ForCallers.{code_of_valid}
 use Rattle.mk_choice.specs.Codes.{CodesLeft, IsNext}
 use Rattle.mk_choice.proofs.ForCallers.{no_valid_begins_another}
 use Rattle.mk_expand.proofs.ForCallers.{one_graph}
-use Rattle.mk_match.specs.Asked.{AreAsked}
+use Rattle.mk_counts.specs.Asked.{AreAsked}
 use Rattle.mk_search.specs.declared.expansions.Expansion.{Expansion}
 use Rattle.mk_search.specs.declared.occurrences.Open.{Open}
 use Rattle.mk_search.specs.Begins.{IsLeftBy}

@@ -30,9 +30,9 @@ use Rattle.mk_model.proofs.ForCallers.{below_more, chooses_of, code_is_short, co
 use Rattle.mk_choice.specs.Codes.{CodesLeft, IsMadeFrom, IsMoved, IsNext}
 use Rattle.mk_choice.proofs.ForCallers.{no_valid_begins_another}
 use Rattle.mk_choice.proofs.FrontLemmas.{least_through, same_here, same_of, same_through}
-use Rattle.mk_match.specs.Asked.{AreAsked}
+use Rattle.mk_counts.specs.Asked.{AreAsked}
 use Rattle.mk_match.specs.Maps.{MapsLeft, IsTurn as IsTurnOfMaps}
-use Rattle.mk_match.specs.Turns.{IsMapNode}
+use Rattle.mk_walk.specs.Turns.{IsMapNode}
 use Rattle.mk_pieces.proofs.ForCallers.{root_small}
 use Rattle.mk_pieces.proofs.JoinedLemmas.{length_atoms}
 use Rattle.mk_pieces.proofs.RoomLemmas.{template_size}

@@ -4,7 +4,7 @@
 use Rattle.mk_model.specs.Expansions.{IsExpansion}
 use Rattle.mk_model.specs.Queries.{QueryView}
 use Rattle.mk_model.specs.Screens.{IsNeedOf}
-use Rattle.mk_match.specs.Asked.{AreAsked}
+use Rattle.mk_counts.specs.Asked.{AreAsked}
 use Rattle.mk_search.specs.declared.expansions.Expansion.{Expansion}
 
 -- the graph is the expansion of the query by the code, its counts are what it asks for, and its

@@ -22,7 +22,7 @@ use Rattle.mk_model.specs.Nodes.{BeginsCode, IsPartialHit, Pays, SameFrom}
 use Rattle.mk_model.specs.Queries.{QueryView, slots_of}
 use Rattle.mk_model.specs.Screens.{Covers, IsScreenOf}
 use Rattle.mk_choice.specs.Codes.{CodesLeft, IsMadeFrom}
-use Rattle.mk_match.specs.Counts.{HasNoHit}
+use Rattle.mk_counts.specs.Counts.{HasNoHit}
 use Rattle.mk_match.specs.Maps.{MapsLeft, IsMadeFrom as AreMadeFrom, IsTurn as IsTurnOfMaps}
 use Rattle.mk_fronts.specs.Fronts.{BeginsWithNone}
 use Rattle.mk_search.specs.declared.expansions.Expansion.{Expansion}

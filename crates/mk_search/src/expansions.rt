@@ -3,12 +3,12 @@ ghost use Rattle.std.specs.Prelude.{◌≡◌, ◌<◌, ◌↔◌, ◌∷◌, �
 ghost use Rattle.mk_model.specs.Codes.{IsCode};
 ghost use Rattle.mk_model.specs.Queries.{QueryView};
 ghost use Rattle.mk_model.specs.Screens.{Covers, IsNeedOf, IsScreenOf};
-ghost use Rattle.mk_match.specs.Asked.{AreAsked};
-ghost use Rattle.mk_match.specs.Counts.{HasNoHit};
+ghost use Rattle.mk_counts.specs.Asked.{AreAsked};
+ghost use Rattle.mk_counts.specs.Counts.{HasNoHit};
 ghost use Rattle.mk_search.specs.Kept.{IsKept};
 
+use mk_counts::{Asked, cannot_hold, counts_asked, counts_there};
 use mk_expand::expand;
-use mk_match::{Asked, cannot_hold, counts_asked, counts_there};
 use mk_model::{Graph, Memory, Mol, Query};
 use mk_screen::{Screen, is_covered, need_of};
 use std::alloc::Global;

@@ -3,9 +3,11 @@
 // by checks/plain.
 ghost use Rattle.std.specs.Prelude.{◌≡◌, ◌<◌};
 
+use mk_counts::{cannot_hold, counts_asked, counts_there};
 use mk_fixtures::{graph_of_sketch, mol_of_sketch};
-use mk_match::{Maps, cannot_hold, counts_asked, counts_there, least_map, may_hold};
+use mk_match::{Maps, least_map};
 use mk_model::{Graph, Map, Memory, Mol, Place, Steps, Turn};
+use mk_walk::may_hold;
 use std::alloc::Global;
 use std::marker::Brand;
 use std::sync::ledger::{Blank, Ledger};

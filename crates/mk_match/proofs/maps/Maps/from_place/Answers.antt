@@ -1,5 +1,5 @@
 use Rattle.std.proofs.Common.{arith}
-use Rattle.mk_match.proofs.SearchTurnLemmas.{owed_at}
+use Rattle.mk_walk.proofs.ForCallers.{owed_at}
 use Rattle.mk_match.proofs.maps.Maps.from_place.Goals as goal
 
 pub invariant_of-result : goal.invariant_of-result

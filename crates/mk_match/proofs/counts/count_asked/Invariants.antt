@@ -1,7 +1,0 @@
-use Rattle.std.proofs.Common.{◌≡◌, take}
-use Rattle.std.specs.Prelude.{count_by}
-use Rattle.mk_match.specs.Counts.{asks_for}
-use Rattle.mk_match.proofs.counts.count_asked.Given as goal
-
-abbrev pub invariant-loop-atom : goal.invariant-loop-atom
-invariant-loop-atom l = l.count ≡ count_by (asks_for l.z) (take l.atom-index l.atoms)

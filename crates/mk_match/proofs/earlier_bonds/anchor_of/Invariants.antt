@@ -1,6 +1,0 @@
-use Rattle.std.proofs.Common.{take, All}
-use Rattle.mk_match.specs.EarlierBonds.{IsElsewhere}
-use Rattle.mk_match.proofs.earlier_bonds.anchor_of.Given as goal
-
-abbrev pub invariant-loop-number : goal.invariant-loop-number
-invariant-loop-number l = All (IsElsewhere l.graph l.first) (take l.number-index l.number-items)

@@ -1,5 +1,0 @@
-use Rattle.mk_match.proofs.HeldLemmas.{CameSoFar}
-use Rattle.mk_match.proofs.held.may_hold.Given as goal
-
-abbrev pub invariant-loop : goal.invariant-loop
-invariant-loop l = CameSoFar l.graph l.mol l.counter l.search

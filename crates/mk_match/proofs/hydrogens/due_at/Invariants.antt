@@ -1,5 +1,0 @@
-use Rattle.mk_match.proofs.HydrogensLemmas.{IsDueTo}
-use Rattle.mk_match.proofs.hydrogens.due_at.Given as goal
-
-abbrev pub invariant-loop-x : goal.invariant-loop-x
-invariant-loop-x l = IsDueTo l.graph l.host l.atom l.x l.due

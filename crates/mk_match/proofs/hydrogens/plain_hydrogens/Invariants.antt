@@ -1,5 +1,0 @@
-use Rattle.mk_match.proofs.HydrogensLemmas.{AreListed}
-use Rattle.mk_match.proofs.hydrogens.plain_hydrogens.Given as goal
-
-abbrev pub invariant-loop-x : goal.invariant-loop-x
-invariant-loop-x l = AreListed l.graph l.x l.list.items

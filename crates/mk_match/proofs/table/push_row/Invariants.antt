@@ -1,5 +1,0 @@
-use Rattle.mk_match.proofs.TableLemmas.{IsRowTo}
-use Rattle.mk_match.proofs.table.push_row.Given as goal
-
-abbrev pub invariant-loop-m : goal.invariant-loop-m
-invariant-loop-m l = IsRowTo l.graph l.mol l.x l.m l.fits.items

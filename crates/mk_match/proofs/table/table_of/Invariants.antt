@@ -1,5 +1,0 @@
-use Rattle.mk_match.specs.Table.{AreRows}
-use Rattle.mk_match.proofs.table.table_of.Given as goal
-
-abbrev pub invariant-loop-x : goal.invariant-loop-x
-invariant-loop-x l = AreRows l.graph l.mol l.x l.fits.items

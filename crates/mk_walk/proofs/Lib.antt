@@ -1,0 +1,16 @@
+pub mod CandidateLemmas
+pub mod PassedLemmas
+pub mod ListsFromLemmas
+pub mod ListTestLemmas
+pub mod BondCountLemmas
+pub mod HydrogensLemmas
+pub mod FreeHydrogensLemmas
+pub mod BegunLemmas
+pub mod TableLemmas
+pub mod OutlookLemmas
+pub mod WalkLemmas
+pub mod EarlierBondsLemmas
+pub mod TurnLemmas
+pub mod SearchTurnLemmas
+pub mod HeldLemmas
+pub mod ForCallers

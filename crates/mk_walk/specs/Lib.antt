@@ -1,0 +1,12 @@
+pub mod Table
+pub mod Hydrogens
+pub mod Begun
+pub mod EarlierBonds
+pub mod Candidates
+pub mod Walk
+pub mod Outlook
+pub mod Search
+pub mod Plain
+pub mod Turns
+pub mod SearchTurns
+pub mod Held
