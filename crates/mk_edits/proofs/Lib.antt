@@ -1,2 +1,1 @@
-pub mod QueriesLemmas
 pub mod LoadingLemmas

@@ -1,14 +1,13 @@
-//! What `match`, `search`, `resume` and `enum` come to. It is found before anything is changed: a refusal with its line, or an answer and the changes that
-//! it makes.
+//! What `match`, `search`, `resume` and `enum` come to. It is found before anything is changed: a
+//! refusal with its line, or an answer and the changes that it makes.
 //!
 //! Callers use one promise for each command, that of `match_found`, `search_found` and the others:
 //! the effect is exactly that of the command on the tables (`IsMatch` in `specs/Match.antt`,
 //! `IsSearch` in `specs/Searching.antt`, and so on), and the change that it makes fits.
 //!
-//! What the commands that edit and list come to stands in `mk_edits`, and what a file holds is
-//! judged in `mk_found`. It knows no words of a
-//! command, commits nothing and writes nothing: see `mk_session`. It reads no columns: see
-//! `mk_ctab`.
+//! What the commands that edit and list come to stands in `mk_edits` and `mk_query_edits`, and what
+//! a file holds is judged in `mk_found`. It knows no words of a command, commits nothing and writes
+//! nothing: see `mk_session`. It reads no columns: see `mk_ctab`.
 #![tactic(auto)]
 
 mod hit_lines;

@@ -7,8 +7,8 @@
 //! line (`specs/QueryFiles.antt`), and `file_line` gives the line with which a molecules' file is
 //! refused (`specs/MoleculeFiles.antt`).
 //!
-//! What each command comes to stands above, in `mk_edits`, `mk_effects`, `mk_rtable` and
-//! `mk_drill`, which don't wait for each other.
+//! What each command comes to stands above, in `mk_edits`, `mk_query_edits`, `mk_effects`,
+//! `mk_rtable` and `mk_drill`, which don't wait for each other.
 #![tactic(auto)]
 
 mod answers;

@@ -6,7 +6,7 @@
 //! rows of it read, or the first that doesn't is named (`saved_of`, `specs/StoredRows.antt`), and
 //! each change that fits makes of it what a batch makes of tables (`Saved::install`).
 //!
-//! It knows no command, no answer and no file: see `mk_edits`.
+//! It knows no command, no answer and no file: see `mk_query_edits`.
 #![tactic(auto)]
 
 mod names;

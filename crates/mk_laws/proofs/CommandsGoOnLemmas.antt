@@ -32,7 +32,7 @@ use Rattle.mk_kept.specs.StoredRows.{CanGoOn, EachReads, ReadsCursor, ReadsQuery
 use Rattle.mk_edits.specs.Loading.{IsEditMade, IsEdited, IsReplace, NoRecordReplaced, ReplacesHeld}
 use Rattle.mk_effects.specs.Match.{IsMatch, ListsKeys, QueryRefused, Searches}
 use Rattle.mk_found.specs.MoleculeFiles.{ComesByFile, GoesByMolecules, MoleculesRefused, MoleculesTooLong}
-use Rattle.mk_edits.specs.Queries.{FileIsRefused, Forgets, IsForget, IsKeep, Keeps, NameIsHeld, NoQueryForgotten, QueriesAreFull, TextsAreFull, drop_of, forget_changes, kept_text}
+use Rattle.mk_query_edits.specs.Queries.{FileIsRefused, Forgets, IsForget, IsKeep, Keeps, NameIsHeld, NoQueryForgotten, QueriesAreFull, TextsAreFull, drop_of, forget_changes, kept_text}
 use Rattle.mk_edits.specs.Records.{IsRemove, IsShow, NoRecordRemoved, NoRecordShown, Removes, Shows}
 use Rattle.mk_kept.specs.Saved.{IsMeant, greatest_number, kept_tables, longest_place}
 use Rattle.mk_kept.specs.SavedPending.{IsInPlace}
@@ -41,7 +41,7 @@ use Rattle.mk_effects.specs.Structures.{IsEnum, NoQueryEnumerated, WritesStructu
 use Rattle.mk_rtable.specs.Answer.{IsTableAnswer, NoQueryTabled, WritesRows}
 use Rattle.mk_kept.specs.Named.{IsQueryNamed}
 use Rattle.mk_kept.proofs.ForCallers.{all_of_each, below_all, none_above_greatest, drop_cursor_goes_on, drop_query_goes_on, later_cursor_goes_on, new_cursor_goes_on, put_query_goes_on, named_of, search_is_held, place_is_kept}
-use Rattle.mk_edits.proofs.QueriesLemmas.{among_all, forget_places, kept_is_meant}
+use Rattle.mk_query_edits.proofs.QueriesLemmas.{among_all, forget_places, kept_is_meant}
 
 -- the laws of other crates on which this one rests
 pub record KeepingLaws : Type 0 where

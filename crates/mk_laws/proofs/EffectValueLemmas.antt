@@ -35,7 +35,7 @@ use Rattle.mk_query.proofs.QueryLemmas.{fits_query}
 use Rattle.mk_rgfile.proofs.ForCallers.{query_keeps}
 use Rattle.mk_search.specs.Pages.{IsHeldIn}
 use Rattle.mk_search.proofs.ForCallers.{keys_listed, paced_pages_there}
-use Rattle.mk_search.proofs.ListingLemmas.{list_same}
+use Rattle.mk_expansions.proofs.ListingLemmas.{list_same}
 use Rattle.mk_rtable.specs.declared.rows.TableRow.{TableRow}
 use Rattle.mk_rtable.specs.Table.{IsRGroupTable}
 use Rattle.mk_rtable.specs.Text.{table_text}
@@ -56,8 +56,8 @@ use Rattle.mk_edits.specs.Loading.{NoRecordReplaced, ReplacesHeld}
 use Rattle.mk_edits.specs.Loading.{IsEditMade, IsEdited, IsReplace, loaded_text, replaced_text}
 use Rattle.mk_effects.specs.Match.{IsMatch, IsRecord1, IsSearchOfFile, ListsKeys, QueryRefused, Searches, TurnOfMolecules, TurnOfQuery}
 use Rattle.mk_found.specs.MoleculeFiles.{ComesByFile, GoesByMolecules, IsFileLine, MoleculesRefused, MoleculesTooLong}
-use Rattle.mk_edits.specs.Queries.{FileIsRefused, Forgets, Keeps, NameIsHeld, NoQueryForgotten, QueriesAreFull, TextsAreFull}
-use Rattle.mk_edits.specs.Queries.{IsForget, IsFree, IsKeep, forget_changes, full_queries_text, kept_text, name_held_text}
+use Rattle.mk_query_edits.specs.Queries.{FileIsRefused, Forgets, Keeps, NameIsHeld, NoQueryForgotten, QueriesAreFull, TextsAreFull}
+use Rattle.mk_query_edits.specs.Queries.{IsForget, IsFree, IsKeep, forget_changes, full_queries_text, kept_text, name_held_text}
 use Rattle.mk_found.specs.Lines.{named_line, no_query_text}
 use Rattle.mk_found.specs.QueryFiles.{IsQueryHeldBy}
 use Rattle.mk_kept.specs.QueryText.{IsQueryOfText}

@@ -33,8 +33,8 @@ use Rattle.mk_edits.specs.Loading.{NoRecordReplaced, ReplacesHeld}
 use Rattle.mk_edits.specs.Loading.{IsEditMade, IsEdited, IsReplace}
 use Rattle.mk_effects.specs.Match.{IsMatch, ListsKeys, QueryRefused, Searches}
 use Rattle.mk_found.specs.MoleculeFiles.{ComesByFile, GoesByMolecules, MoleculesRefused, MoleculesTooLong}
-use Rattle.mk_edits.specs.Queries.{FileIsRefused, Forgets, Keeps, NameIsHeld, NoQueryForgotten, QueriesAreFull, TextsAreFull}
-use Rattle.mk_edits.specs.Queries.{IsForget, IsKeep, drop_of, forget_changes, kept_text}
+use Rattle.mk_query_edits.specs.Queries.{FileIsRefused, Forgets, Keeps, NameIsHeld, NoQueryForgotten, QueriesAreFull, TextsAreFull}
+use Rattle.mk_query_edits.specs.Queries.{IsForget, IsKeep, drop_of, forget_changes, kept_text}
 use Rattle.mk_edits.specs.Records.{IsRemove, IsShow}
 use Rattle.mk_edits.specs.Records.{NoRecordRemoved, NoRecordShown, Removes, Shows}
 use Rattle.mk_kept.specs.Named.{IsQueryNamed}
@@ -48,7 +48,7 @@ use Rattle.mk_rtable.specs.Answer.{IsTableAnswer, NoQueryTabled, WritesRows}
 use Rattle.mk_effects.specs.Searching.{ListsAll, ListsRest, MovesPlace, NoQuerySearched, NoSearchResumed, SavesPlace, SearchesAreFull}
 use Rattle.mk_laws.specs.Values.{CanBeAsked, EffectsKeepQueries}
 use Rattle.mk_laws.proofs.EffectValueLemmas.{its_query, text_fits}
-use Rattle.mk_edits.proofs.QueriesLemmas.{among_all, forget_places, kept_is_meant}
+use Rattle.mk_query_edits.proofs.QueriesLemmas.{among_all, forget_places, kept_is_meant}
 use Rattle.mk_kept.proofs.SavedLemmas.{below_all, none_above_greatest}
 use Rattle.mk_kept.proofs.NamedLemmas.{named_of}
 

@@ -9,7 +9,7 @@ use Rattle.mk_outside.specs.declared.tables.QueryRow.{QueryRow}
 use Rattle.mk_found.specs.declared.files.HeldQuery.TheVariants.{Query, Refused}
 use Rattle.mk_found.specs.Effects.{Answers, Effect, Refuses}
 use Rattle.mk_found.specs.Files.{Look}
-use Rattle.mk_edits.specs.Queries.{FileIsRefused, Forgets, IsForget, IsFree, IsKeep, Keeps, NameIsHeld, NoQueryForgotten, QueriesAreFull, TextsAreFull, full_queries_text, kept_text, name_held_text}
+use Rattle.mk_query_edits.specs.Queries.{FileIsRefused, Forgets, IsForget, IsFree, IsKeep, Keeps, NameIsHeld, NoQueryForgotten, QueriesAreFull, TextsAreFull, full_queries_text, kept_text, name_held_text}
 use Rattle.mk_found.specs.Lines.{named_line}
 use Rattle.mk_found.specs.QueryFiles.{IsQueryHeld, IsQueryRefused, query_bytes}
 use Rattle.mk_kept.specs.Saved.{HasRoomFor, greatest_number, is_named, most_queries}

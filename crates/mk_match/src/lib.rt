@@ -5,8 +5,8 @@
 //! `specs/Rising.antt`). `Maps` gives the hits from a place on, one after another, and its place
 //! (`specs/Maps.antt`). Either ticks exactly one begin.
 //!
-//! Both go on with the search of mk_walk. `least_map` counts elements first, by mk_counts. What these
-//! two tell of a graph and a molecule is handed on. Codes and libraries aren't known here.
+//! Both go on with the search of mk_walk. `least_map` counts elements first, by mk_counts. What
+//! these two tell of a graph and a molecule is handed on. Codes and libraries aren't known here.
 #![tactic(auto)]
 
 mod laws;

@@ -19,7 +19,7 @@ use Rattle.mk_rows.specs.Rows.{NoneFrom, holds}
 use Rattle.mk_search.specs.Begun.{Begun, IsPairLeft, IsPairOf}
 use Rattle.mk_search.specs.Hits.{GoesUp, HitsLeft, IsMadeFrom, TakesKey, TakesNone}
 use Rattle.mk_search.specs.Pages.{IsHeldIn}
-use Rattle.mk_search.specs.Starts.{first_number}
+use Rattle.mk_expansions.specs.Starts.{first_number}
 use Rattle.mk_search.proofs.ForCallers.{begun_append, begun_none, begun_same, held_number, one_molecule}
 use Rattle.mk_rtable.specs.declared.rows.TableRow.{TableRow}
 use Rattle.mk_rtable.specs.Begins.{BeginsOfTable, IsPairToLeast}

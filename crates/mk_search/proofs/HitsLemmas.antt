@@ -20,10 +20,10 @@ use Rattle.mk_search.specs.Begins.{BeginsOfPage, BeginsWithOneOf, IsLeftBy, IsPa
 use Rattle.mk_search.specs.Begun.{Begun, IsPairLeft, IsPairOf}
 use Rattle.mk_search.specs.Hits.{HitsLeft, IsMadeFrom, IsNextKey, TakesKey, TakesNone}
 use Rattle.mk_search.specs.Pages.{IsHeldIn, IsPage}
-use Rattle.mk_search.specs.Starts.{first_number}
+use Rattle.mk_expansions.specs.Starts.{first_number}
 use Rattle.mk_search.proofs.BegunLemmas.{begun_append, begun_none, begun_same}
 use Rattle.mk_search.proofs.LevelLemmas.{longer, nested, shorter}
-use Rattle.mk_search.proofs.StartsLemmas.{before_zero, shorter_below}
+use Rattle.mk_expansions.proofs.StartsLemmas.{before_zero, shorter_below}
 
 -- ---- lists
 

@@ -11,9 +11,9 @@ use Rattle.mk_text.specs.Rising.{IsBelow, IsLeast, IsLeastFrom}
 use Rattle.mk_text.proofs.ForCallers.{below_after, below_behind, below_joined, below_or_not, below_through, below_what_isnt, between_none, not_below_after, not_below_itself}
 use Rattle.mk_model.specs.Nodes.{SameFrom}
 use Rattle.mk_model.proofs.ForCallers.{not_below_front}
-use Rattle.mk_search.specs.Starts.{IsBehind}
+use Rattle.mk_expansions.specs.Starts.{IsBehind}
 use Rattle.mk_search.specs.Levels.{AtBacks, AtFronts, IsPair}
-use Rattle.mk_search.proofs.StartsLemmas.{behind_same, shorter_below}
+use Rattle.mk_expansions.proofs.StartsLemmas.{behind_same, shorter_below}
 
 -- ---- the order
 

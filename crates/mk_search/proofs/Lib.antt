@@ -1,8 +1,5 @@
-pub mod ListingLemmas
-pub mod StartsLemmas
 pub mod LevelLemmas
 pub mod BegunLemmas
-pub mod OccurrencesLemmas
 pub mod OpenLemmas
 pub mod PassingLemmas
 pub mod PayLemmas
@@ -14,7 +11,6 @@ pub mod NeedsLemmas
 pub mod StagesLemmas
 pub mod SearchedLemmas
 pub mod RecordTurnsLemmas
-pub mod PlainLemmas
 pub mod PagesLemmas
 pub mod HitsLemmas
 pub mod PacedLemmas

@@ -17,7 +17,7 @@ use Rattle.mk_search.specs.declared.occurrences.Open.{Open}
 use Rattle.mk_search.specs.Begun.{Begun}
 use Rattle.mk_search.specs.Occurrences.{IsBegunFor, IsCodeFrom, IsNoneOpened, IsOpenedAt, Leaves, TakesHere, TakesNext, reached}
 use Rattle.mk_search.proofs.BegunLemmas.{begun_append, begun_none}
-use Rattle.mk_search.proofs.StartsLemmas.{before_zero}
+use Rattle.mk_expansions.proofs.StartsLemmas.{before_zero}
 
 -- ---- the next occurrence
 

@@ -2,9 +2,7 @@
 --     from_start                  no code is open at the start
 --     none_here, taken_here       nothing more, or the next hit, of the code that is open
 --     none_left, begun_opened, hitless_passed     no code left, or the next one, which is opened or passed
---     kept_more                   an expansion is kept behind others
 use Rattle.std.proofs.Common.{◌≡◌, ℕ, ◌+◌, inl, inr, Bool, true, false, if◌then◌else◌, List, [], ◌∷◌, ◌++◌, All, drop, Option, Some, None, refl, sym, ap, subst, ◌∙◌, append-nil, append_assoc}
-use Rattle.std.proofs.lemmas.List.Elements.{All-drop, All-push}
 use Rattle.mk_text.specs.Rising.{IsBelow, IsLeast, IsLeastFrom}
 use Rattle.mk_text.proofs.ForCallers.{below_after, below_joined, below_or_not, below_through, between_none, not_below_after, not_below_itself}
 use Rattle.mk_model.specs.Expansions.{IsExpansion}
@@ -20,18 +18,18 @@ use Rattle.mk_choice.specs.Codes.{CodesLeft, IsNext}
 use Rattle.mk_choice.proofs.ForCallers.{no_valid_begins_another}
 use Rattle.mk_expand.proofs.ForCallers.{one_graph}
 use Rattle.mk_counts.specs.Asked.{AreAsked}
-use Rattle.mk_search.specs.declared.expansions.Expansion.{Expansion}
+use Rattle.mk_expansions.specs.declared.expansions.Expansion.{Expansion}
 use Rattle.mk_search.specs.declared.occurrences.Open.{Open}
 use Rattle.mk_search.specs.Begins.{IsLeftBy}
 use Rattle.mk_search.specs.Begun.{Begun}
-use Rattle.mk_search.specs.Kept.{IsKept}
+use Rattle.mk_expansions.specs.Kept.{IsKept}
 use Rattle.mk_search.specs.Levels.{AtBacks, AtFronts, IsPair}
 use Rattle.mk_search.specs.Occurrences.{HitsBehind, IsCodeFrom, IsNoneOpened, IsOpenOf, IsOpenedAt, Leaves, LeavesBy, LeavesOpen, TakesHere, is_open}
-use Rattle.mk_search.specs.Starts.{IsBehind, IsStart}
+use Rattle.mk_expansions.specs.Starts.{IsBehind, IsStart}
 use Rattle.mk_search.specs.Turns.{IsBegunAt, IsHitless}
 use Rattle.mk_search.proofs.BegunLemmas.{begun_none, begun_one, begun_over, not_after}
 use Rattle.mk_search.proofs.LevelLemmas.{closes, ends, goes_up, longer, nested, opens, shorter, takes, takes_least}
-use Rattle.mk_search.proofs.StartsLemmas.{back_is_above, before_zero, no_longer_code, none_below_start}
+use Rattle.mk_expansions.proofs.StartsLemmas.{back_is_above, before_zero, no_longer_code, none_below_start}
 
 module _ (query : QueryView) (mol : Molecule) where
   -- ---- pairs
@@ -272,12 +270,3 @@ module _ (query : QueryView) (mol : Molecule) (place : List ℕ) (old next new :
             least_code.from placed b.one_more;
         for_it = λ is. record { placed = placed; held = inl refl };
       }
-
--- what is kept when an expansion was put behind the others, or couldn't be
-pub kept_more : (query : QueryView) (expansion : Expansion) (n : ℕ) (old room new : List Expansion) (ok : Bool) → room ≡ drop n old → new ≡ (if ok then room ++ expansion ∷ [] else room)
-    → All (IsKept query) old → IsKept query expansion → All (IsKept query) new
-kept_more query expansion n old room new true room_is is all one =
-    subst (λ (list : List Expansion). All (IsKept query) list) (sym (is ∙ ap (λ (list : List Expansion). list ++ expansion ∷ []) room_is))
-    (All-push (IsKept query) (drop n old) expansion (All-drop (IsKept query) n old all) one)
-kept_more query expansion n old room new false room_is is all one =
-    subst (λ (list : List Expansion). All (IsKept query) list) (sym (is ∙ room_is)) (All-drop (IsKept query) n old all)

@@ -25,13 +25,13 @@ use Rattle.mk_search.specs.Hits.{HitsLeft, IsMadeFrom, MovesOn, TakesNone, Takes
 use Rattle.mk_search.specs.Laws.{PacedAndOthersAreAll}
 use Rattle.mk_search.specs.Paced.{AreUpTo, IsPacedPage}
 use Rattle.mk_search.specs.Pages.{IsHeldIn}
-use Rattle.mk_search.specs.Starts.{first_number}
+use Rattle.mk_expansions.specs.Starts.{first_number}
 use Rattle.mk_search.proofs.BegunLemmas.{begun_append, begun_none, begun_same}
 use Rattle.mk_search.proofs.HitsLemmas.{one_code_before, place_behind_last}
 use Rattle.mk_search.proofs.LevelLemmas.{between_begins, over_not, same_if_neither}
 use Rattle.mk_search.proofs.PagesLemmas.{key_has_few}
 use Rattle.mk_search.proofs.PayLemmas.{PaysFor, below_later, for_one, pays_nothing, pays_on, stand_fewer}
-use Rattle.mk_search.proofs.StartsLemmas.{shorter_below}
+use Rattle.mk_expansions.proofs.StartsLemmas.{shorter_below}
 
 -- ---- pairs and places
 

@@ -33,7 +33,7 @@ use Rattle.mk_search.specs.Turns.{IsCodeShown}
 use Rattle.mk_search.proofs.BegunLemmas.{begun_over}
 use Rattle.mk_search.proofs.LevelLemmas.{between_begins, goes_up}
 use Rattle.mk_search.proofs.OpenLemmas.{begun_opened, hitless_passed}
-use Rattle.mk_search.proofs.StartsLemmas.{before_zero}
+use Rattle.mk_expansions.proofs.StartsLemmas.{before_zero}
 
 -- ---- numbers
 

@@ -29,7 +29,7 @@ use Rattle.mk_search.specs.Begins.{IsLeftBy}
 use Rattle.mk_search.specs.Begun.{Begun, IsPairLeft}
 use Rattle.mk_search.specs.Hits.{HitsLeft, MovesOn, TakesOutKey}
 use Rattle.mk_search.specs.Levels.{AtBacks, IsPair}
-use Rattle.mk_search.specs.Starts.{rest_in}
+use Rattle.mk_expansions.specs.Starts.{rest_in}
 use Rattle.mk_search.specs.Occurrences.{Leaves, is_open, reached}
 use Rattle.mk_search.specs.Pages.{IsHeldIn}
 use Rattle.mk_search.specs.Passing.{KnowOf}
@@ -41,7 +41,7 @@ use Rattle.mk_search.proofs.PayLemmas.{PaysFor, as_one, below_later, for_one, pa
 use Rattle.mk_search.proofs.RecordsLemmas.{one_molecule, records_apart}
 use Rattle.mk_search.proofs.SearchedLemmas.{HasSearched, begun_in, begun_key, begun_later}
 use Rattle.mk_search.proofs.StagesLemmas.{behind_number, found_at, found_key, found_none, key_pair, rest_same}
-use Rattle.mk_search.proofs.StartsLemmas.{behind_same}
+use Rattle.mk_expansions.proofs.StartsLemmas.{behind_same}
 use Rattle.mk_search.proofs.TurnsLemmas.{higher_cons, one_higher}
 
 -- ---- the order

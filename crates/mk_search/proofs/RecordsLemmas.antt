@@ -15,7 +15,7 @@ use Rattle.mk_rows.specs.Rows.{holds, item_at}
 use Rattle.mk_rows.proofs.ForCallers.{no_item}
 use Rattle.mk_search.specs.Pages.{IsHeldIn}
 use Rattle.mk_search.specs.Stages.{IsRecord}
-use Rattle.mk_search.proofs.ListingLemmas.{IsMade}
+use Rattle.mk_expansions.proofs.ListingLemmas.{IsMade}
 
 -- an occurrence in the molecule of the record, and both together aren't below the place
 pub record IsFoundBehind (rows : List (Numbered Molecule)) (query : QueryView) (place front back : List ℕ) : Type 0 where

@@ -26,7 +26,7 @@ use Rattle.mk_search.specs.declared.stages.Stage.TheVariants.{From, In, Ended}
 use Rattle.mk_search.specs.Begins.{IsLeftBy}
 use Rattle.mk_search.specs.Begun.{Begun, IsPairLeft}
 use Rattle.mk_search.specs.Levels.{AtFronts}
-use Rattle.mk_search.specs.Starts.{first_number, rest_in}
+use Rattle.mk_expansions.specs.Starts.{first_number, rest_in}
 use Rattle.mk_search.specs.Occurrences.{BelongsTo, IsBegunFor, IsCodeFrom, Leaves, TakesNext, given, is_open, reached}
 use Rattle.mk_search.specs.Pages.{IsHeldIn}
 use Rattle.mk_search.specs.Passing.{KnowOf}
@@ -35,7 +35,7 @@ use Rattle.mk_search.specs.Records.{IsNextRecord, NoRecord}
 use Rattle.mk_search.specs.Stages.{Finds, FindsIn, FindsKey, FindsNoKey, FindsNone, IsBegunKey, IsReadyHere, IsReadyIn, IsRecord, IsStanding, OccursIn}
 use Rattle.mk_search.specs.Turns.{StandsBy}
 use Rattle.mk_search.proofs.BegunLemmas.{begun_append, begun_none}
-use Rattle.mk_search.proofs.StartsLemmas.{behind_same}
+use Rattle.mk_expansions.proofs.StartsLemmas.{behind_same}
 use Rattle.mk_search.proofs.StagesLemmas.{at_first, at_next, behind_number, found_at, found_key, found_none, no_key, no_record_held, number_from, ready_in, rest_same}
 
 -- ---- what is begun

@@ -15,11 +15,11 @@ use Rattle.mk_rows.specs.declared.by_number.Numbered.{Numbered}
 use Rattle.mk_rows.specs.Rows.{holds, IsGreatest, NoneFrom}
 use Rattle.mk_search.specs.Begins.{IsLeftBy}
 use Rattle.mk_search.specs.Levels.{AtBacks, AtFronts, IsPair}
-use Rattle.mk_search.specs.Starts.{first_number, rest_in}
+use Rattle.mk_expansions.specs.Starts.{first_number, rest_in}
 use Rattle.mk_search.specs.Pages.{IsHeldIn}
 use Rattle.mk_search.specs.Records.{HasKeys, IsNextRecord, NoRecord}
 use Rattle.mk_search.specs.Stages.{IsRecord, OccursIn}
-use Rattle.mk_search.specs.Starts.{IsBehind}
+use Rattle.mk_expansions.specs.Starts.{IsBehind}
 use Rattle.mk_search.proofs.LevelLemmas.{at_back, closes, goes_up, none_behind, opens, takes_least}
 use Rattle.mk_search.proofs.RecordsLemmas.{held_number, one_molecule, passed_down, passed_up, records_apart}
 

@@ -41,14 +41,14 @@ use Rattle.mk_search.specs.Begins.{IsLeftBy}
 use Rattle.mk_search.specs.Begun.{Begun}
 use Rattle.mk_search.specs.Levels.{AtBacks, IsPair}
 use Rattle.mk_search.specs.Occurrences.{HitsBehind, IsCodeFrom, IsOpenedAt, Leaves, is_open, reached}
-use Rattle.mk_search.specs.Starts.{IsBehind, IsStart}
+use Rattle.mk_expansions.specs.Starts.{IsBehind, IsStart}
 use Rattle.mk_search.specs.Turns.{IsBegunAt, IsCodeShown, IsHigher, IsInnerNode, IsShut, IsTurnHere, IsTurnIn, LeavesNone, MovesTo, OwesFew, StandsIn, TakesOut, TurnsMaps, debt_in}
 use Rattle.mk_search.proofs.BegunLemmas.{begun_none, begun_over}
 use Rattle.mk_search.proofs.LevelLemmas.{at_back, backs_same, fronts_from, goes_up, longer, nested, over_not, same_backs, same_fronts, shorter}
 use Rattle.mk_search.proofs.OpenLemmas.{begun_opened, behind_hits, hitless_passed, is_pair, none_here, none_left, taken_here}
 use Rattle.mk_search.proofs.PassingLemmas.{behind_front_none, behind_over, front_passed}
 use Rattle.mk_search.proofs.PayLemmas.{PaysFor, as_one, below_later, for_one, pays_lifted, pays_on, stand_lifted}
-use Rattle.mk_search.proofs.StartsLemmas.{before_zero, behind_same, no_longer_code}
+use Rattle.mk_expansions.proofs.StartsLemmas.{before_zero, behind_same, no_longer_code}
 
 -- ---- the higher of two lists
 

@@ -18,7 +18,7 @@ use Rattle.mk_model.specs.Queries.{QueryView}
 use Rattle.mk_rows.specs.declared.by_number.Numbered.{Numbered}
 use Rattle.mk_rows.specs.Rows.{NoneFrom}
 use Rattle.mk_search.specs.Begun.{Begun, IsPairLeft}
-use Rattle.mk_search.specs.Starts.{first_number}
+use Rattle.mk_expansions.specs.Starts.{first_number}
 use Rattle.mk_search.specs.Pages.{IsHeldIn}
 
 -- what is seen of a `Hits`: the rows, the query and the place from which keys are left; the list

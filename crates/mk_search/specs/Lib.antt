@@ -1,5 +1,3 @@
-pub mod Starts
-pub mod Kept
 pub mod Pages
 pub mod Records
 pub mod Begins

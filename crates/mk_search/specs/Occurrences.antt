@@ -24,7 +24,7 @@ use Rattle.mk_search.specs.declared.occurrences.Occurrences.{Occurrences}
 use Rattle.mk_search.specs.declared.occurrences.Open.{Open}
 use Rattle.mk_search.specs.Begins.{IsLeftBy}
 use Rattle.mk_search.specs.Begun.{Begun, IsCovered}
-use Rattle.mk_search.specs.Kept.{IsKept}
+use Rattle.mk_expansions.specs.Kept.{IsKept}
 use Rattle.mk_search.specs.Levels.{AtBacks, AtFronts}
 use Rattle.mk_search.specs.Passing.{FrontsOf}
 

@@ -28,7 +28,7 @@ use Rattle.mk_search.specs.declared.stages.Stage.TheVariants.{From, In, Ended}
 use Rattle.mk_search.specs.Begins.{IsLeftBy}
 use Rattle.mk_search.specs.Begun.{Begun, IsPairLeft}
 use Rattle.mk_search.specs.Levels.{AtBacks, AtFronts}
-use Rattle.mk_search.specs.Starts.{rest_in}
+use Rattle.mk_expansions.specs.Starts.{rest_in}
 use Rattle.mk_search.specs.Occurrences.{BelongsTo, Leaves, is_open, reached}
 use Rattle.mk_search.specs.Pages.{IsHeldIn}
 use Rattle.mk_search.specs.Passing.{KnowOf}

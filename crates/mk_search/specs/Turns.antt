@@ -25,11 +25,11 @@ use Rattle.mk_choice.specs.Codes.{CodesLeft, IsMadeFrom}
 use Rattle.mk_counts.specs.Counts.{HasNoHit}
 use Rattle.mk_match.specs.Maps.{MapsLeft, IsMadeFrom as AreMadeFrom, IsTurn as IsTurnOfMaps}
 use Rattle.mk_fronts.specs.Fronts.{BeginsWithNone}
-use Rattle.mk_search.specs.declared.expansions.Expansion.{Expansion}
+use Rattle.mk_expansions.specs.declared.expansions.Expansion.{Expansion}
 use Rattle.mk_search.specs.declared.occurrences.Open.{Open}
 use Rattle.mk_search.specs.Begun.{Begun}
-use Rattle.mk_search.specs.Kept.{IsKept}
-use Rattle.mk_search.specs.Starts.{IsBehind}
+use Rattle.mk_expansions.specs.Kept.{IsKept}
+use Rattle.mk_expansions.specs.Starts.{IsBehind}
 use Rattle.mk_search.specs.Occurrences.{IsBegunFor, IsCodeFrom, Leaves, is_open, reached}
 use Rattle.mk_search.specs.Passing.{IsBehindFront}
 

@@ -10,7 +10,7 @@ ghost use Rattle.mk_search.specs.Stages.{ComesTo, Finds, IsReady, IsRecord, Occu
 use crate::occurrences::Occurrences;
 use crate::records::next_record;
 use crate::stages::{Came, Row, Stage};
-use crate::starts::{has_slots, rest_in};
+use mk_expansions::{has_slots, rest_in};
 use mk_index::Shelf;
 use mk_model::{Memory, Screen, Steps, Turn};
 use std::alloc::Global;

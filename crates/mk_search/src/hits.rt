@@ -6,7 +6,7 @@ ghost use Rattle.mk_search.specs.Turns.{IsHigher};
 use crate::finding::{following, next_key, next_turn};
 use crate::occurrences::Occurrences;
 use crate::stages::{Came, Stage};
-use crate::starts::{first_number, is_below};
+use mk_expansions::{first_number, is_below};
 use mk_index::Shelf;
 use mk_model::{Key, Memory, Place, Query, Screen, Steps, Turn};
 use std::alloc::Global;

@@ -3,7 +3,8 @@
 //! Callers use one promise. `page` gives the first so many keys that aren't below a place, in
 //! rising order, and the place behind them (`IsPage` in `specs/Pages.antt`). What a key is stands
 //! in mk_model's `specs/Keys.antt`, and the order in mk_text's `specs/Rising.antt`. `least_hit`
-//! gives the least of them, and `least_key_of` is the plain program on one molecule.
+//! gives the least of them, and `least_key_of`, which mk_expansions makes, is the plain program on one
+//! molecule.
 //!
 //! A page is a loop over `Hits`, which goes from record to record, from code to code and from hit to
 //! hit. The matcher of a code stays open from key to key, and one `Codes` is rewound from record to
@@ -15,7 +16,6 @@
 //! numbers a molecule can't hold to mk_fronts.
 #![tactic(auto)]
 
-mod expansions;
 mod finding;
 mod hits;
 mod laws;
@@ -26,10 +26,8 @@ mod pacing;
 mod pages;
 mod paging;
 mod passing;
-mod plain;
 mod records;
 mod stages;
-mod starts;
 mod turns;
 
 pub use hits::Hits;
@@ -38,9 +36,9 @@ pub use laws::{
     one_page_from_a_place, paced_and_others_are_all, paced_pages_are_there,
     page_and_others_are_all, page_and_others_are_listed, places_are_short,
 };
+pub use mk_expansions::least_key_of;
 pub use mk_model::{Key, Keys, Memory, Place};
 pub use paced::{Paced, Stop};
 pub use pacing::page_within;
 pub use pages::Page;
 pub use paging::{least_hit, page};
-pub use plain::least_key_of;

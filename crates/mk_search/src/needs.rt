@@ -2,13 +2,13 @@
 ghost use Rattle.std.specs.Prelude.{◌≡◌, [], All, IfOk, IfSome};
 ghost use Rattle.mk_model.specs.Screens.{Covers};
 ghost use Rattle.mk_screen.specs.Covering.{CoversBits, CoversCounts};
-ghost use Rattle.mk_search.specs.Kept.{IsKept};
+ghost use Rattle.mk_expansions.specs.Kept.{IsKept};
 ghost use Rattle.mk_search.specs.Passing.{FrontsOf};
 ghost use Rattle.mk_open_codes.specs.Fronts.{IsNeedOfAll};
 
-use crate::expansions::{Expansion, expansion_by, keep};
 use crate::passing::{fronts_of, need_by};
 use mk_choice::Codes;
+use mk_expansions::{Expansion, expansion_by, keep};
 use mk_fronts::Fronts;
 use mk_model::{Memory, Query, Screen};
 use std::alloc::Global;

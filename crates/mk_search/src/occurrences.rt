@@ -9,13 +9,12 @@ ghost use Rattle.mk_search.specs.Occurrences.{BelongsTo, IsOpened, IsOpenOf, IsT
 ghost use Rattle.mk_search.specs.Passing.{FrontsOf, KnowOf};
 ghost use Rattle.mk_search.specs.Turns.{IsAtCode, IsCodeShown, IsHigher, IsRefused, OwesFew, StandsBy};
 
-use crate::expansions::{Expansion, expansion_by, keep, may_hold};
 use crate::needs::fronts_and_need;
 use crate::passing::{forget, passed, put_behind_front};
 use crate::stages::Row;
-use crate::starts::{behind, start};
 use mk_choice::Codes;
 use mk_counts::Asked;
+use mk_expansions::{Expansion, behind, expansion_by, keep, may_hold, start};
 use mk_fronts::Fronts;
 use mk_match::Maps;
 use mk_model::{Memory, Query, Screen, Steps};

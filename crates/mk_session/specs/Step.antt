@@ -12,7 +12,7 @@ use Rattle.mk_found.specs.Files.{Look}
 use Rattle.mk_edits.specs.Loading.{IsLoad, IsReplace, IsTurnOfReplace}
 use Rattle.mk_effects.specs.Match.{IsMatch, IsTurnOfMatch}
 use Rattle.mk_session.specs.Orders.{Order}
-use Rattle.mk_edits.specs.Queries.{IsForget, IsKeep, IsTurnOfKeep}
+use Rattle.mk_query_edits.specs.Queries.{IsForget, IsKeep, IsTurnOfKeep}
 use Rattle.mk_edits.specs.Records.{IsRemove, IsShow, list_text}
 use Rattle.mk_effects.specs.Searching.{IsResume, IsSearch}
 use Rattle.mk_effects.specs.Structures.{IsEnum}

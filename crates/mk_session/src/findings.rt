@@ -11,15 +11,14 @@ ghost use Rattle.mk_session.specs.Stepping.{Seeks, found_without_files};
 ghost use Rattle.mk_session.specs.StepTicks.{BeginsOfCommand};
 
 use mk_drill::drill_found;
-use mk_edits::{
-    forget_found, keep_found, list_found, load_found, remove_found, replace_found, show_found,
-};
+use mk_edits::{list_found, load_found, remove_found, replace_found, show_found};
 use mk_effects::{enum_found, match_found, resume_found, search_found};
 use mk_found::{Found, StepFail};
 use mk_kept::Saved;
 use mk_library::Library;
 use mk_model::{Memory, Steps};
 use mk_outside::Files;
+use mk_query_edits::{forget_found, keep_found};
 use mk_rtable::table_found;
 use mk_words::Command;
 use std::alloc::Global;

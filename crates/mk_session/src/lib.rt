@@ -5,8 +5,9 @@
 //! written, the tables kept and the status are those of the run (`IsRun` in `specs/Run.antt`);
 //! every other status comes with its cause and leaves what `specs/Ends.antt` says. Which words are
 //! a command stands in mk_words, and what a command comes to in `specs/Step.antt` and the files of
-//! mk_edits and mk_effects that it cites. Laws over runs stand in mk_laws. Which stored rows read stands in mk_kept, what a hit is in
-//! mk_model, the records of an SDfile in mk_sdfile, and the molecule of a table in mk_mol.
+//! mk_edits, mk_query_edits and mk_effects that it cites. Laws over runs stand in mk_laws. Which
+//! stored rows read stands in mk_kept, what a hit is in mk_model, the records of an SDfile in
+//! mk_sdfile, and the molecule of a table in mk_mol.
 //!
 //! Only this crate knows what a command does. It reads no columns: see `mk_ctab`.
 #![tactic(auto)]

@@ -3,10 +3,11 @@
 ghost use Rattle.std.specs.Prelude.{◌≡◌, ◌<◌, ◌≤◌};
 
 use crate::key_tests::{Records, are_keys_from, shelf_of_records};
+use mk_expansions::least_key_of;
 use mk_fixtures::{mol_of_sketch, query_of_two_sites};
 use mk_index::Shelf;
 use mk_model::{Key, Memory, Mol, Place, Query, Steps};
-use mk_search::{Hits, Page, least_hit, least_key_of, page};
+use mk_search::{Hits, Page, least_hit, page};
 use std::alloc::Global;
 use std::marker::Brand;
 use std::process::Abort;

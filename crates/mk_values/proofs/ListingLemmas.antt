@@ -7,7 +7,7 @@ use Rattle.mk_text.specs.Rising.{IsRisingListOfAll}
 use Rattle.mk_model.specs.Keys.{IsKey, Remains}
 use Rattle.mk_model.specs.Molecules.{Molecule}
 use Rattle.mk_model.specs.Queries.{QueryView}
-use Rattle.mk_search.proofs.ListingLemmas.{list_same}
+use Rattle.mk_expansions.proofs.ListingLemmas.{list_same}
 pub use Rattle.mk_search.proofs.ForCallers.{taken_first}
 
 -- a key over molecules is one over all that are held so

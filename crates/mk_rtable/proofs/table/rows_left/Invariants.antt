@@ -1,5 +1,5 @@
 use Rattle.std.proofs.Common.{◌≤◌, ◌-◌, map}
-use Rattle.mk_search.specs.Starts.{first_number}
+use Rattle.mk_expansions.specs.Starts.{first_number}
 use Rattle.mk_rtable.specs.Table.{numbers_of_row}
 use Rattle.mk_rtable.proofs.RecordsLemmas.{HasRowsTo}
 use Rattle.mk_rtable.proofs.table.rows_left.Given as goal

@@ -1,5 +1,5 @@
 use Rattle.std.proofs.Common.{◌∙◌, ◌∷◌, ap, sym}
-use Rattle.mk_search.specs.Starts.{first_number}
+use Rattle.mk_expansions.specs.Starts.{first_number}
 use Rattle.mk_search.proofs.RecordTurnsLemmas.{moves_on, on_ready, out_ready, takes_out}
 use Rattle.mk_search.proofs.SearchedLemmas.{standing_from, standing_in}
 use Rattle.mk_search.proofs.hits.Hits.advance.Goals as goal

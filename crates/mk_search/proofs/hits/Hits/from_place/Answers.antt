@@ -1,5 +1,5 @@
 use Rattle.std.proofs.Common.{◌∙◌, ap, sym}
-use Rattle.mk_search.specs.Starts.{first_number}
+use Rattle.mk_expansions.specs.Starts.{first_number}
 use Rattle.mk_search.proofs.SearchedLemmas.{standing_from}
 use Rattle.mk_search.proofs.hits.Hits.from_place.Goals as goal
 

@@ -1,5 +1,5 @@
 use Rattle.std.proofs.Common.{◌≡◌, ◌∙◌, ◌∷◌, ◌++◌, [], ℕ, List, inl, inr, ap, refl, subst, sym}
-use Rattle.mk_search.specs.Starts.{first_number}
+use Rattle.mk_expansions.specs.Starts.{first_number}
 use Rattle.mk_search.specs.Stages.{IsReadyHere}
 use Rattle.mk_search.proofs.SearchedLemmas.{standing_from, standing_in}
 use Rattle.mk_search.proofs.hits.Hits.next.Goals as goal

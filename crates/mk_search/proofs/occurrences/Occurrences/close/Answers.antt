@@ -2,7 +2,7 @@ use Rattle.std.proofs.Common.{◌≡◌, Option, Some, refl, subst, sym}
 use Rattle.std.specs.Prelude.{IfSome}
 use Rattle.mk_model.specs.Graphs.{GraphView}
 use Rattle.mk_search.specs.declared.occurrences.Open.{Open}
-use Rattle.mk_search.specs.Kept.{IsKept}
+use Rattle.mk_expansions.specs.Kept.{IsKept}
 use Rattle.mk_search.specs.Occurrences.{IsOpenOf}
 use Rattle.mk_search.proofs.occurrences.Occurrences.close.Goals as goal
 

@@ -1,6 +1,6 @@
 use Rattle.std.proofs.Common.{◌≡◌, ◌∙◌, ◌∷◌, ◌++◌, [], List, ℕ, Some, inl, inr, ap, refl, subst, sym}
 use Rattle.mk_choice.specs.Codes.{CodesLeft}
-use Rattle.mk_search.specs.Starts.{IsBehind}
+use Rattle.mk_expansions.specs.Starts.{IsBehind}
 use Rattle.mk_search.proofs.occurrences.Occurrences.open_code.Goals as goal
 
 pub returns-then-branch-clause-shown : goal.returns-then-branch-clause-shown
