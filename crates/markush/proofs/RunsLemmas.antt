@@ -1,54 +1,53 @@
 -- A run over a keeper as a run over a store.
---     over_store      what is said of the keeper is said of some tables that were told
-use Rattle.std.specs.Prelude.{◌≡◌, ℕ, List, Option, Some, Result, IsTrue}
+--     over_store      what is said of the tables that the keeper tells is left out
+use Rattle.std.specs.Prelude.{◌≡◌, ℕ, List, Option, Some, None, ⊤, refl}
 use Rattle.std.proofs.Common.{subst}
-use Rattle.sqlite_wal.specs.Recovery.{Image}
-use Rattle.sqlite_trees.specs.declared.store.Store.{Ghosts}
-use Rattle.sqlite.specs.Held.{Held}
 use Rattle.mk_outside.specs.declared.tables.Tables.{Tables}
-use Rattle.mk_outside.specs.declared.answers.KeepFail.{KeepFail}
 use Rattle.mk_session.specs.declared.status.Status.{Status}
 use Rattle.mk_session.specs.Headline.{Headline}
-use Rattle.mk_session.specs.Outcomes.{World}
-use Rattle.mk_sqlite.specs.Keeps.{FilesStandFor}
-use Rattle.mk_sqlite.specs.Keeper.{kept_tables, IsKeptSound, is_kept_sound}
-use Rattle.mk_sqlite.proofs.ForCallers.{kept_sound, kept_sound_if}
+use Rattle.mk_session.specs.Outcomes.{IsQuiet, WentSo}
+use Rattle.mk_session.specs.Outcomes.WentSo.{InputUnread, Ended}
 use Rattle.markush.specs.Runs.{Outside, with_keeper, RunsOverStore}
 
--- what holds where the keeper is sound holds where a stronger condition does
-weaker : (A B : Type 0) (words : List (List ℕ)) (old new : World) (ends : Status) → (A → B) → Headline B words old new ends → Headline A words old new ends
-weaker A B words old new ends f h = record {
-  input = h.input;
-  t = h.t;
-  added = h.added;
-  left = h.left;
-  input_told = h.input_told;
-  tables_told = λ a. h.tables_told (f a);
-  written = h.written;
-  kept = λ a. h.kept (f a);
-  went_so = h.went_so;
-  answered = h.answered;
-  headline = h.headline;
-  complete = h.complete;
-  input_end = h.input_end;
-  input_same = h.input_same;
-  input_taken = h.input_taken;
-  rest_same = h.rest_same;
-  missed = h.missed;
-}
+module _ (words : List (List ℕ)) (old new : Outside) (first last : Option Tables) (count faults : ℕ) (ends : Status) where
+  -- how a run went says nothing of what the keeper told
+  untold_went : (input : List ℕ) (t : Tables) (added : List ℕ) (left : Tables) → WentSo words input t (with_keeper old first count) (with_keeper new last faults) added left ends
+      → WentSo words input t (with_keeper old None count) (with_keeper new None faults) added left ends
+  untold_went input t added left (InputUnread kind rose same none kept read) = InputUnread kind rose same none kept read
+  untold_went input t added left (Ended same went) = Ended same went
 
--- what is said of the keeper is said of some tables that were told
-pub over_store : {S : Type 0} (g : Ghosts S) (image : Image) (words : List (List ℕ)) (old new : Outside) (ends : Status) (first last : Result (Held S) KeepFail) (count faults : ℕ)
-    → count ≡ 0 → ((t : Tables) → FilesStandFor image t → IsKeptSound g first → kept_tables g first ≡ Some t) → (IsKeptSound g last → IsKeptSound g first)
-    → Headline (IsKeptSound g last) words (with_keeper old (kept_tables g first) count) (with_keeper new (kept_tables g last) faults) ends → RunsOverStore image words old new ends
-over_store g image words old new ends first last count faults zero starts sound run = record {
-  sound_first = is_kept_sound g first;
-  sound_last = is_kept_sound g last;
-  first = kept_tables g first;
-  last = kept_tables g last;
-  faults = faults;
-  starts = λ t stand is. starts t stand (kept_sound g first is);
-  sound = λ is. kept_sound_if g first (sound (kept_sound g last is));
-  run = weaker (IsTrue (is_kept_sound g last)) (IsKeptSound g last) words (with_keeper old (kept_tables g first) 0) (with_keeper new (kept_tables g last) faults) ends (kept_sound g last)
-      (subst (λ n. Headline (IsKeptSound g last) words (with_keeper old (kept_tables g first) n) (with_keeper new (kept_tables g last) faults) ends) zero run);
-}
+  -- nor does it that no call failed
+  untold_quiet : IsQuiet (with_keeper old None count) (with_keeper new None faults) → IsQuiet (with_keeper old first count) (with_keeper new last faults)
+  untold_quiet q = record { same = q.same; input_same = q.input_same; files = q.files; input = q.input; output = q.output; keeper = q.keeper }
+
+  -- what is said of the told tables is left out
+  untold : (sound : Type 0) → Headline sound words (with_keeper old first count) (with_keeper new last faults) ends
+      → Headline ⊤ words (with_keeper old None count) (with_keeper new None faults) ends
+  untold sound h = record {
+    input = h.input;
+    t = h.t;
+    added = h.added;
+    left = h.left;
+    input_told = h.input_told;
+    tables_told = λ _. tt;
+    written = h.written;
+    kept = λ _. tt;
+    went_so = untold_went h.input h.t h.added h.left h.went_so;
+    answered = h.answered;
+    headline = λ quiet. h.headline (untold_quiet quiet);
+    complete = λ quiet. h.complete (untold_quiet quiet);
+    input_end = h.input_end;
+    input_same = λ kind. record { left = (h.input_same kind).left; count = (h.input_same kind).count };
+    input_taken = h.input_taken;
+    rest_same = λ kind. record {
+      tables = refl;
+      files_count = (h.rest_same kind).files_count;
+      keeper_count = (h.rest_same kind).keeper_count;
+      absences = (h.rest_same kind).absences;
+    };
+    missed = h.missed;
+  }
+
+  -- a run over a keeper that is new is one over a store
+  pub over_store : (sound : Type 0) → count ≡ 0 → Headline sound words (with_keeper old first count) (with_keeper new last faults) ends → RunsOverStore words old new ends
+  over_store sound zero h = record { faults = faults; run = subst (λ n. Headline ⊤ words (with_keeper old None n) (with_keeper new None faults) ends) zero (untold sound h) }

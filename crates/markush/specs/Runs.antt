@@ -1,11 +1,10 @@
 -- What a run of the program leaves, with a store and without one.
 --     Outside                         what is told of files, input and output, and how many of
 --                                     their calls failed
---     RunsInMemory .., RunsOverStore image ..     a run without a store, and one with a store whose
---                                                 files have this content at first
---     Runs image path ..              the one or the other
-use Rattle.std.specs.Prelude.{◌≡◌, ◌≢◌, ℕ, Bool, List, Option, Some, None, IsTrue, ⊤}
-use Rattle.sqlite_wal.specs.Recovery.{Image}
+--     RunsInMemory .., RunsOverStore ..     a run without a store, and what is said of one with a
+--                                           store where its keeper isn't handed in
+--     Runs path ..                    the one or the other
+use Rattle.std.specs.Prelude.{◌≡◌, ◌≢◌, ℕ, List, Option, Some, None, ⊤}
 use Rattle.mk_outside.specs.declared.tables.Tables.{Tables}
 use Rattle.mk_outside.specs.Tables.{no_tables}
 use Rattle.mk_session.specs.declared.status.Status.{Status}
@@ -13,7 +12,6 @@ use Rattle.mk_session.specs.declared.status.Status.TheVariants as status
 use Rattle.mk_found.specs.Files.{Look}
 use Rattle.mk_session.specs.Headline.{Headline}
 use Rattle.mk_session.specs.Outcomes.{World}
-use Rattle.mk_sqlite.specs.Keeps.{FilesStandFor}
 
 -- what is told of files, input and output, how many of their calls failed, and how many on a name
 -- that isn't there
@@ -45,20 +43,14 @@ pub record RunsInMemory (words : List (List ℕ)) (old new : Outside) (ends : St
   pub run : Headline ⊤ words (with_keeper old (Some no_tables) 0) (with_keeper new (Some left) 0) ends
   pub no_store : ends ≢ status.Store
 
--- A run over the tables of a file. As long as nobody else writes the file and the disk returns what
--- was written, the keeper is sound and tells its tables; so many of its calls failed.
-pub record RunsOverStore (image : Image) (words : List (List ℕ)) (old new : Outside) (ends : Status) : Type 0 where
-  -- whether the keeper is sound, and the tables that it tells, as the file is opened and at the end
-  pub sound_first : Bool
-  pub sound_last : Bool
-  pub first : Option Tables
-  pub last : Option Tables
+-- A run over the tables of a file: it went as a run from some tables, and so many calls of its keeper
+-- failed. Which tables these are, and which keeper told them, isn't said here: the keeper is made and
+-- let go within. `run_over`, to which it is handed, says it.
+pub record RunsOverStore (words : List (List ℕ)) (old new : Outside) (ends : Status) : Type 0 where
   pub faults : ℕ
-  pub starts : (t : Tables) → FilesStandFor image t → IsTrue sound_first → first ≡ Some t
-  pub sound : IsTrue sound_last → IsTrue sound_first
-  pub run : Headline (IsTrue sound_last) words (with_keeper old first 0) (with_keeper new last faults) ends
+  pub run : Headline ⊤ words (with_keeper old None 0) (with_keeper new None faults) ends
 
 -- a run over the store of the path, where there is one
-abbrev pub Runs : Image → Option (List ℕ) → List (List ℕ) → Outside → Outside → Status → Type 0
-Runs image None words old new ends = RunsInMemory words old new ends
-Runs image (Some path) words old new ends = RunsOverStore image words old new ends
+abbrev pub Runs : Option (List ℕ) → List (List ℕ) → Outside → Outside → Status → Type 0
+Runs None words old new ends = RunsInMemory words old new ends
+Runs (Some path) words old new ends = RunsOverStore words old new ends

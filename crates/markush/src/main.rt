@@ -2,7 +2,8 @@
 //! handed to `run`.
 //!
 //! `run` does what the words or the input say, over the store that the words name or over empty
-//! tables in memory. Its promise is that of `top` of mk_session (`Runs` in `specs/Runs.antt`).
+//! tables in memory. Its promise is that of `top` of mk_session (`Runs` in `specs/Runs.antt`). Of the
+//! tables of a store `run_over` says it, to which their keeper is handed.
 #![tactic(auto)]
 
 ghost use Rattle.std.specs.Prelude.{◌≡◌};

@@ -1,7 +1,6 @@
 // A whole run, with a store or without one.
 ghost use Rattle.std.specs.Prelude.{◌≡◌, map};
 ghost use Rattle.std.specs.String.{string_bytes};
-ghost use Rattle.sqlite_wal.specs.Files.{image_at};
 ghost use Rattle.mk_words.specs.Commands.{kind_of_words, store_path};
 ghost use Rattle.mk_session.specs.Headline.{Headline};
 ghost use Rattle.mk_session.specs.Outcomes.{IsUntouched};
@@ -15,7 +14,8 @@ use sqlite::{Alter, Start};
 use std::alloc::Global;
 
 /// Does what the words or the input say, over the store that the words name, or over empty tables
-/// that are let go at the end. `start` stands for what the store's files hold.
+/// that are let go at the end. `start` stands for what the store's files hold. Which tables a run over
+/// a store has is said by `run_over`.
 pub fn run<F: Files, S: Source, W: Sink, B: Start>(
     rt: &HostRuntime,
     alloc: Global,
@@ -25,7 +25,7 @@ pub fn run<F: Files, S: Source, W: Sink, B: Start>(
     output: &mut W,
     start: B,
 ) -> Status
-    ensures runs { Runs (image_at B.Start) (store_path (map string_bytes words.now)) (map string_bytes words.now)
+    ensures runs { Runs (store_path (map string_bytes words.now)) (map string_bytes words.now)
         (record {
           files = F.look_up files.old;
           input = S.left input.old;
@@ -65,7 +65,7 @@ fn run_over_store<F: Files, S: Source, W: Sink, B: Start>(
     output: &mut W,
     start: B,
 ) -> Status
-    ensures runs { RunsOverStore (image_at B.Start) (map string_bytes words.now)
+    ensures runs { RunsOverStore (map string_bytes words.now)
         (record {
           files = F.look_up files.old;
           input = S.left input.old;

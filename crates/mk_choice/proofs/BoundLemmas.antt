@@ -9,12 +9,22 @@ use Rattle.mk_model.specs.QueryFits.{QueryFits}
 use Rattle.mk_model.specs.Labels.{holds_member_of, is_filled_by, is_member_of, site_labels, member, members_at}
 use Rattle.mk_model.specs.Logic.{filled_of}
 use Rattle.mk_model.specs.OpenSlots.{opened, standing_at, standing_by, Chooses}
-use Rattle.mk_model.proofs.ForCallers.{greatest_contains, has_contains, member_of_one, of_label, place_is, place_within}
+use Rattle.mk_model.proofs.ForCallers.{contains_has, greatest_contains, has_contains, member_of_one, of_label, place_is, place_within}
 use Rattle.mk_choice.proofs.CountLemmas.{filled_both, holds_at}
 use Rattle.mk_choice.proofs.LabelLemmas.{opened_none, opened_some}
 use Rattle.mk_choice.proofs.SlotLemmas.{known_first, known_next, opened_known}
 use Rattle.mk_choice.specs.Bounds.{IsBound, most_filled, most_filled_at}
 use Rattle.mk_choice.specs.Search.{IsKnown}
+
+-- a number that fills a site puts in a member of one of its labels, which fills each group, with all
+-- it opens, at most as often as that label's bound says
+pub record FilledBy (query : QueryView) (bound : ℕ → ℕ → ℕ) (slot : Slot) (k : ℕ) : Type 0 where
+  pub label : ℕ
+  pub low : 1 ≤ label
+  pub high : label ≤ 32
+  pub among : Contains (site_labels slot) label
+  pub once : filled_of query (standing_at slot k) label ≡ 1
+  pub within : (g : ℕ) → 1 ≤ g → g ≤ 32 → bound label g ≤ 512 → filled_of query (standing_at slot k) g + most_filled bound (opened query slot k) g ≤ bound label g
 
 -- one number fills the group, with all it opens, at most as often as the slot's bound says
 module _ (query : QueryView) (fits : QueryFits query) (bound : ℕ → ℕ → ℕ) (bounds : IsBound query bound) (g : ℕ) (low : 1 ≤ g) (high : g ≤ 32) where
@@ -70,3 +80,25 @@ module _ (query : QueryView) (fits : QueryFits query) (bound : ℕ → ℕ → �
       let inside = known_next slot slots (opened query slot k) (opened_known query fits slot k) known in
       let there = filled_within (opened query slot k ++ slots) inside code chooses.2 (omega (arith, all, small, here, both)) in
       omega (arith, all, here, both, there, filled_both query (standing_at slot k) (standing_by query (opened query slot k ++ slots) code) g)
+
+pub filled_by : (query : QueryView) → QueryFits query → (bound : ℕ → ℕ → ℕ) → IsBound query bound → (slot : Slot) (k : ℕ) → IsKnown slot → 1 ≤ k → is_filled_by query slot k ≡ true
+    → FilledBy query bound slot k
+filled_by query fits bound bounds slot k known least fills =
+    let within : k ≤ length (members_at query slot) = grind (arith, nat_tests) in
+    let u : ℕ = member query slot k in
+    let one = of_label query (site_labels slot) u (member_of_one query slot k least within) in
+    let among : Contains (site_labels slot) one.label =
+    (one.place, place_within (site_labels slot) one.place one.label one.at, place_is (site_labels slot) one.place one.label one.label one.at) in
+    let in_range : (1 ≤ one.label) × (one.label ≤ 32) = subst (λ (h : ℕ). (1 ≤ h) × (h ≤ 32)) among.2 (known.labels.in_range one.place one.label among.1) in
+    let held : ◌≡◌ {A = ℕ} (cond (holds_member_of query slot k one.label) 1 0) 1 = rw (fills, contains_has (members_of query one.label) u one.has) refl in
+    record {
+      label = one.label;
+      low = in_range.0;
+      high = in_range.1;
+      among = among;
+      once = omega (arith, held, holds_at query slot k one.label least);
+      within = λ g low high small.
+          let here = by_member query fits bound bounds g low high one.label u in_range.0 one.has small in
+          let same : ◌≡◌ {A = ℕ} (cond (holds_member_of query slot k g) 1 0) (cond (is_member_of query g u) 1 0) = rw fills refl in
+          omega (arith, holds_at query slot k g least, same, here, ap (λ (slots : List Slot). most_filled bound slots g) (opened_some query slot k least within));
+    }

@@ -12,6 +12,8 @@ pub mod BoundLemmas
 pub mod RowLemmas
 pub mod LostLemmas
 pub mod AheadLemmas
+pub mod TogetherLemmas
+pub mod LimitLemmas
 pub mod ExampleFits
 pub mod OnLiterals
 pub mod ForCallers

@@ -25,7 +25,7 @@ use Rattle.mk_choice.proofs.CountLemmas.{sites_both, stands_at}
 -- ---- where more is filled
 
 -- what is asked for stays asked for
-asked_more : (query : QueryView) (filled more : ℕ → ℕ) (g : ℕ) → ((h : ℕ) → filled h ≤ more h) → IsAsked query filled g → IsAsked query more g
+pub asked_more : (query : QueryView) (filled more : ℕ → ℕ) (g : ℕ) → ((h : ℕ) → filled h ≤ more h) → IsAsked query filled g → IsAsked query more g
 asked_more query filled more g up (inl none) = inl none
 asked_more query filled more g up (inr (h, names, some)) = inr (h, names, omega (arith, some, up h))
 
@@ -53,7 +53,7 @@ apart_all range low high n from to apart within =
 
 -- ---- the open sites will stand
 
-sites_stand : (query : QueryView) (g : ℕ) (slots : List Slot) (code : List ℕ) → Chooses query slots code → open_sites slots g ≤ sites_of (standing_by query slots code) g
+pub sites_stand : (query : QueryView) (g : ℕ) (slots : List Slot) (code : List ℕ) → Chooses query slots code → open_sites slots g ≤ sites_of (standing_by query slots code) g
 sites_stand query g [] code chooses = omega arith
 sites_stand query g (slot ∷ slots) [] chooses = absurd chooses
 sites_stand query g (slot ∷ slots) (k ∷ code) chooses =

@@ -1,6 +1,7 @@
 -- What frames come to: the root, a front, the next numbers, and back.
 --     frames_none         the frames of no numbers
 --     ready_none          a `Codes` at the empty place
+--     ready_dead          a `Codes` where no code is valid
 --     frames_begin        a code begins with the numbers of frames
 --     sought_stops, sought_all       where the numbers of a front end
 --     went_back, went_onward, went_none           where no greater number is left
@@ -8,6 +9,7 @@ use Rattle.std.proofs.Common.{◌≡◌, ℕ, ◌+◌, ◌<◌, ◌≤◌, List,
 use Rattle.std.specs.Prelude.{Bool, false}
 use Rattle.std.proofs.lemmas.List.{drop_more, take-append-drop, take_all, take_more}
 use Rattle.mk_text.specs.Rising.{IsBelow, IsLeast, IsLeastFrom}
+use Rattle.mk_text.proofs.ForCallers.{below_through, not_below_itself}
 use Rattle.mk_model.specs.Logic.{IsValid}
 use Rattle.mk_model.specs.Nodes.{BeginsCode, SameFrom}
 use Rattle.mk_model.specs.Queries.{QueryView, slots_of}
@@ -18,8 +20,8 @@ use Rattle.mk_choice.specs.Ahead.{HasRows, IsAhead}
 use Rattle.mk_choice.specs.Bounds.{AreBounds}
 use Rattle.mk_choice.specs.Codes.{IsReady}
 use Rattle.mk_choice.specs.Frames.{AreFrames, IsOnward, from_at, from_of, most_first, numbers_of, open_of}
-use Rattle.mk_choice.specs.Search.{AreNone, IsKnown}
-use Rattle.mk_choice.proofs.FrameLemmas.{IsSought, IsWentBack, begins_at}
+use Rattle.mk_choice.specs.Search.{AreNone, CantComplete, IsKnown}
+use Rattle.mk_choice.proofs.FrameLemmas.{IsSought, IsWentBack, begins_at, completes_behind}
 use Rattle.mk_choice.proofs.FrontLemmas.{least_itself, least_through, none_through, past_up, same_through}
 use Rattle.mk_choice.proofs.MoveLemmas.{back_same, back_up, none_left, settled_open, stands_none, stops_same}
 use Rattle.mk_choice.proofs.StepLemmas.{chosen_of}
@@ -57,6 +59,46 @@ module _ (query : QueryView) (most : List ℕ) where
             (settled_open query most (numbers_of frames) (chosen_of frames) (open_of frames) frames.counts frames.ahead are.stands no_code));
         up = λ below. below;
         owed = λ _. rw from_first tt;
+      }
+
+  -- where no code is valid, anywhere behind the place
+  pub ready_dead : (frames : Frames) (above : ℕ) → AreFrames query most frames → (place kept : List ℕ) → 514 ≤ length kept → length place ≤ length kept → take (length place) kept ≡ place
+      → frames.depth ≡ 0 → frames.once ≡ false → CantComplete query frames.counts (open_of frames) → IsBelow place ((above + 1) ∷ [])
+      → IsReady query most (record {
+        counts = frames.counts;
+        ahead = frames.ahead;
+        numbers = frames.numbers;
+        slots = frames.slots;
+        waiting = frames.waiting;
+        first = frames.first;
+        depth = frames.depth;
+        above = above;
+        once = frames.once;
+        together = frames.together;
+      }) kept (length place) 0
+  ready_dead frames above are place kept room within is depth once dead below =
+      let none : numbers_of frames ≡ [] = ap (λ (n : ℕ). take n frames.numbers.items) depth in
+      let from : from_at frames.once (numbers_of frames) above ≡ (above + 1) ∷ [] =
+      ap (λ (b : Bool). from_at b (numbers_of frames) above) once ∙ ap (λ (xs : List ℕ). xs ++ (above + 1) ∷ []) none in
+      let no_code : (xs : List ℕ) → IsValid query xs → ⊥ =
+      λ xs valid.
+      dead xs (completes_behind query most (numbers_of frames) (chosen_of frames) (open_of frames) frames.counts frames.ahead are.stands xs
+      (subst (λ (ns : List ℕ). IsValid query (ns ++ xs)) (sym none) valid)) in
+      let under : IsBelow place (from_at frames.once (numbers_of frames) above) = subst (IsBelow place) (sym from) below in
+      record {
+        frames_are = record {
+          stands = are.stands;
+          within = are.within;
+          numbers_room = are.numbers_room;
+          slots_room = are.slots_room;
+          open_room = are.open_room;
+          first_within = are.first_within;
+        };
+        within = within;
+        room = room;
+        same = record { on = λ xs has. absurd (no_code xs has); back = λ xs has. absurd (no_code xs has) };
+        up = λ over. not_below_itself place (below_through place (from_at frames.once (numbers_of frames) above) place under (subst (IsBelow (from_at frames.once (numbers_of frames) above)) is over));
+        owed = λ _. subst (λ (xs : List ℕ). IsBelow xs (from_at frames.once (numbers_of frames) above)) (sym is) under;
       }
 
   -- a code begins with the numbers
@@ -123,6 +165,7 @@ module _ (query : QueryView) (most : List ℕ) where
           depth = mid.depth;
           above = last;
           once = mid.once;
+          together = mid.together;
         })
     went_back mid last are numbers once = record {
       are = record {

@@ -3,6 +3,7 @@ pub mod SlotLists
 pub mod Search
 pub mod Bounds
 pub mod Ahead
+pub mod Together
 pub mod Frames
 pub mod Codes
 pub mod Lending

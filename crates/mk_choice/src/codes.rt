@@ -3,7 +3,7 @@
 ghost use Rattle.std.specs.Prelude.{◌≡◌, ◌+◌, ◌<◌, ◌≤◌, ◌==◌, ◌⊎◌, ◌∷◌, ◌++◌, [], ℕ, List, IfErr, IfOk, IsOk, IsTrue, false, if◌then◌else◌, length, take};
 ghost use Rattle.mk_model.specs.Queries.{slots_of};
 ghost use Rattle.std.specs.Borrow.{sem};
-ghost use Rattle.mk_text.specs.Rising.{IsLeastFrom};
+ghost use Rattle.mk_text.specs.Rising.{IsBelow, IsLeastFrom};
 ghost use Rattle.mk_model.specs.Logic.{IsValid};
 ghost use Rattle.mk_model.specs.Nodes.{BeginsCode};
 ghost use Rattle.mk_choice.specs.Codes.{IsReady};
@@ -205,6 +205,10 @@ fn go_to<'a>(frames: &mut Frames<'a>, query: &'a Query, most: &[u32], place: &[u
     ensures ready { (kept : List ℕ) → 514 ≤ length kept → length place.now ≤ length kept → take (length place.now) kept ≡ place.now
         → IsReady query.now most.now frames.new kept (length place.now) result }
 {
+    if frames.is_dead(query, most) {
+        frames.above = past(place);
+        return 0;
+    }
     if begins_all(query, place) {
         return 0;
     }
@@ -225,4 +229,14 @@ fn begins_all(query: &Query, place: &[u32]) -> bool
         return false;
     }
     !slots_of(query, 0).is_empty()
+}
+
+// The greatest number, which no number of the place is above.
+fn past(place: &[u32]) -> u32
+    ensures { IsBelow place.now ((result + 1) ∷ []) }
+{
+    let Some(first) = place.first() else {
+        return u32::MAX;
+    };
+    (*first).max(u32::MAX)
 }

@@ -7,20 +7,22 @@ ghost use Rattle.mk_model.specs.Logic.{IsValid};
 ghost use Rattle.mk_model.specs.Nodes.{BeginsCode, SameFrom};
 ghost use Rattle.mk_choice.specs.Bounds.{AreBounds};
 ghost use Rattle.mk_choice.specs.Frames.{AreFrames, IsOnward, from_of, most_first, numbers_of, open_of};
-ghost use Rattle.mk_choice.specs.Search.{IsKnown};
+ghost use Rattle.mk_choice.specs.Search.{CantComplete, IsKnown};
 
 use crate::numbers::{counted, most_at, no_counts, opened, slots_of, uncounted};
 use crate::outlook::{nothing_ahead, with_slot, with_slots, without_first, without_slots};
 use crate::pending::Ahead;
 use crate::pruning::cant_complete;
 use crate::slot_list::SlotList;
+use crate::together::{cant_together, has_together};
 use mk_logic::allowed;
 use mk_model::{Count, Memory, Query};
 use std::alloc::Global;
 
 /// The frames of the first `depth` numbers. The slots that are open behind them stand in `waiting`
 /// from `first` on. What is still to come goes on with a number above `above`; but where `once`
-/// says so, the numbers themselves come first.
+/// says so, the numbers themselves come first. Where groups can bear on each other, `together` says
+/// that they are looked at together; that bears on time alone.
 #[derive(Debug, Drop)]
 pub struct Frames<'a> {
     pub counts: [Count; 32],
@@ -32,6 +34,7 @@ pub struct Frames<'a> {
     pub depth: usize,
     pub above: u32,
     pub once: bool,
+    together: bool,
 }
 
 impl<'a> Frames<'a> {
@@ -47,6 +50,7 @@ impl<'a> Frames<'a> {
         let chosen = SlotList::with_places(alloc, 512)?;
         let mut waiting = SlotList::with_places(alloc, 512)?;
         let first = waiting.put_in_front(512, slots);
+        let together = has_together(query, most);
         Ok(Frames {
             counts: no_counts(),
             ahead,
@@ -57,6 +61,7 @@ impl<'a> Frames<'a> {
             depth: 0,
             above: 0,
             once: false,
+            together,
         })
     }
 
@@ -141,15 +146,37 @@ impl<'a> Frames<'a> {
         ensures behind { IsTrue result → SameFrom (IsValid query.now) (numbers_of self.old ++ 0 ∷ []) (from_of self.new) }
         ensures moved { result ≡ false → SameFrom (IsValid query.now) (numbers_of self.old) (from_of self.new) }
     {
-        self.above = 0;
-        if cant_complete(query, &self.counts, &self.ahead) {
+        if self.is_dead(query, most) {
             self.above = u32::MAX;
             return false;
         }
+        self.above = 0;
         if self.first < self.waiting.len() {
             return false;
         }
         allowed(query, &self.counts)
+    }
+
+    /// Nothing that is chosen behind the numbers makes the counts allowed. Where it answers false,
+    /// nothing is said.
+    pub fn is_dead(&self, query: &Query, most: &[u32]) -> bool
+        requires frames { AreFrames query.now most.now self.now }
+        ensures { IsTrue result → CantComplete query.now self.now.counts (open_of self.now) }
+    {
+        if cant_complete(query, &self.counts, &self.ahead) {
+            return true;
+        }
+        if !self.together {
+            return false;
+        }
+        cant_together(
+            query,
+            most,
+            &self.counts,
+            &self.ahead,
+            &self.waiting,
+            self.first,
+        )
     }
 
     /// Goes on to the next valid code, where there is one.

@@ -16,11 +16,13 @@ mod bounds;
 mod codes;
 mod frames;
 mod laws;
+mod limits;
 mod numbers;
 mod outlook;
 mod pending;
 mod pruning;
 mod slot_list;
+mod together;
 mod within;
 
 pub use codes::{Codes, least_code};

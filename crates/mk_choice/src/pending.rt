@@ -15,3 +15,11 @@ pub struct Ahead {
     pub sites: [u32; 32],
     pub filled: [u32; 32],
 }
+
+/// For each group from 1 on how often it has to be filled further at least, and how often it may be
+/// at most. Of the most a number above 512 says nothing.
+#[derive(Clone, Copy, Debug)]
+pub struct Limits {
+    pub wants: [u32; 32],
+    pub caps: [u32; 32],
+}

@@ -42,8 +42,8 @@ fn is_lost(query: &Query, counts: &[Count], ahead: &Ahead, i: usize) -> bool
     is_asked(groups, counts, i as u8 + 1)
 }
 
-// A site of a group stands, or is open and will stand.
-fn stands(standing: u32, ahead: u32) -> bool
+/// A site of a group stands, or is open and will stand.
+pub fn stands(standing: u32, ahead: u32) -> bool
     ensures { result ≡ nat_lt 0 (standing + ahead) }
 {
     standing > 0 || ahead > 0

@@ -7,7 +7,7 @@ use Rattle.std.proofs.lemmas.List.Elements.{All-from_get_or}
 use Rattle.mk_model.specs.declared.edge.Edge.{Edge}
 use Rattle.mk_model.specs.Edges.{degree, IsBetween, AreBetween, HasEnds, IsSimple, Joins, numbers_at, rows_of}
 use Rattle.mk_model.proofs.ForCallers.{length-numbers_from, slice_get-rows_of, touches-ends, numbers_at-each, numbers_at-all}
-use Rattle.mk_ctab.specs.declared.raw.RawBond.{RawBond}
+use Rattle.mk_tables.specs.declared.raw.RawBond.{RawBond}
 use Rattle.mk_demands.specs.Numbers.{natural}
 use Rattle.mk_demands.specs.Bonds.{HasTwoEnds, JoinSame, raw_edge, edges_of, HasFewBonds, IsEdgeFront, IsNewBondAt}
 use Rattle.mk_text.specs.Items.{IsLeastFailing, OfItem}

@@ -5,8 +5,8 @@ use Rattle.std.proofs.lemmas.List.{length_push, take_at, length-take-le, get_or-
 use Rattle.mk_props.specs.declared.property.Property.{Property}
 use Rattle.mk_props.specs.declared.property.Property.TheVariants as kinds
 use Rattle.mk_demands.specs.declared.charges.Electrons.{Electrons}
-use Rattle.mk_ctab.specs.declared.raw.RawAtom.{RawAtom}
-use Rattle.mk_ctab.specs.declared.raw.RawTable.{RawTable}
+use Rattle.mk_tables.specs.declared.raw.RawAtom.{RawAtom}
+use Rattle.mk_tables.specs.declared.raw.RawTable.{RawTable}
 use Rattle.mk_demands.specs.Charges.{AreElectrons, charge_at, charge_of_column, charge_pairs, lists_values, radical_at, radical_of_column, radical_pairs, last_or, values_for}
 use Rattle.mk_demands.specs.ChargePutting.{AreOfLines, IsOfLine, column_of, ArePut, HasPut}
 use Rattle.std.proofs.lemmas.Option.{slice_get_within, get_or_from_slice_get}

@@ -6,7 +6,7 @@ use Rattle.std.proofs.lemmas.List.Elements.{All-more, All-push, All-nil}
 use Rattle.std.proofs.lemmas.Int.{ints}
 use Rattle.mk_model.specs.declared.edge.Edge.{Edge}
 use Rattle.mk_model.specs.Edges.{IsBetween, AreBetween}
-use Rattle.mk_ctab.specs.declared.raw.RawBond.{RawBond}
+use Rattle.mk_tables.specs.declared.raw.RawBond.{RawBond}
 use Rattle.mk_demands.specs.Numbers.{natural, IsAtom}
 use Rattle.mk_demands.specs.Bonds.{HasTwoEnds, raw_edge, edges_of, IsEdgeFront}
 use Rattle.mk_demands.specs.BondSearch.{IsEdge}

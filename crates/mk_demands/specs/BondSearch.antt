@@ -6,7 +6,7 @@
 use Rattle.std.specs.Prelude.{◌≡◌, ◌<◌, ◌-◌, ℕ, List, length, slice_index, slice_index_or}
 use Rattle.mk_model.specs.declared.edge.Edge.{Edge}
 use Rattle.mk_model.specs.Edges.{HasEnds, IsBetween}
-use Rattle.mk_ctab.specs.declared.raw.RawBond.{RawBond}
+use Rattle.mk_tables.specs.declared.raw.RawBond.{RawBond}
 use Rattle.mk_demands.specs.Bonds.{HasTwoEnds, raw_edge}
 
 -- the edge of a bond whose ends are two atoms

@@ -11,7 +11,7 @@ use Rattle.std.specs.Prelude.{◌≡◌, ◌≢◌, ◌≤◌, ◌<◌, ◌+◌,
 use Rattle.mk_text.specs.Items.{OfItem}
 use Rattle.mk_model.specs.declared.edge.Edge.{Edge}
 use Rattle.mk_model.specs.Edges.{AreBetween, degree}
-use Rattle.mk_ctab.specs.declared.raw.RawBond.{RawBond}
+use Rattle.mk_tables.specs.declared.raw.RawBond.{RawBond}
 use Rattle.mk_demands.specs.Numbers.{IsAtom, natural, byte}
 
 -- the ends are two of so many atoms

@@ -7,7 +7,7 @@
 use Rattle.std.specs.Prelude.{◌≡◌, ◌<◌, ◌+◌, ℕ, pos, Bool, List, length, slice_index_or, if◌then◌else◌}
 use Rattle.mk_props.specs.declared.property.Pair.{Pair}
 use Rattle.mk_demands.specs.declared.charges.Electrons.{Electrons}
-use Rattle.mk_ctab.specs.declared.raw.RawAtom.{RawAtom}
+use Rattle.mk_tables.specs.declared.raw.RawAtom.{RawAtom}
 use Rattle.mk_demands.specs.Charges.{charge_of_column, radical_of_column, last_or, values_for}
 use Rattle.mk_demands.specs.Numbers.{natural}
 

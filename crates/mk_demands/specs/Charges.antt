@@ -11,8 +11,8 @@ use Rattle.mk_props.specs.declared.property.Pair.{Pair}
 use Rattle.mk_props.specs.declared.property.Property.{Property}
 use Rattle.mk_props.specs.declared.property.Property.TheVariants as kinds
 use Rattle.mk_demands.specs.declared.charges.Electrons.{Electrons}
-use Rattle.mk_ctab.specs.declared.raw.RawAtom.{RawAtom}
-use Rattle.mk_ctab.specs.declared.raw.RawTable.{RawTable}
+use Rattle.mk_tables.specs.declared.raw.RawAtom.{RawAtom}
+use Rattle.mk_tables.specs.declared.raw.RawTable.{RawTable}
 use Rattle.mk_demands.specs.Numbers.{natural}
 
 -- ---- what property lines list

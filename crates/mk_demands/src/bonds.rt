@@ -5,8 +5,8 @@ ghost use Rattle.mk_model.specs.Edges.{AreBetween, HasEnds, rows_of};
 ghost use Rattle.mk_demands.specs.Bonds.{IsEdgeFront, IsNewBondAt};
 ghost use Rattle.mk_demands.specs.BondSearch.{HasEarlier, IsNewAmong, IsNewAt};
 
-use mk_ctab::RawBond;
 use mk_model::{Edge, Neighbours};
+use mk_tables::RawBond;
 
 // How many bonds an atom may have.
 const MOST_BONDS: usize = 20;

@@ -6,8 +6,8 @@ ghost use Rattle.mk_demands.specs.Numbers.{IsAtom, IsWithin};
 ghost use Rattle.mk_demands.specs.Values.{AreForAtoms, HasKnownValues, HaveValues, NamesAtoms};
 
 use crate::numbers::natural;
-use mk_ctab::{RawAtom, RawTable};
 use mk_props::{Pair, Property};
+use mk_tables::{RawAtom, RawTable};
 use mk_text::Memory;
 use std::alloc::Global;
 

@@ -6,8 +6,8 @@ ghost use Rattle.mk_demands.specs.BondSearch.{IsEdge};
 ghost use Rattle.mk_demands.specs.Numbers.{IsAtom};
 
 use crate::numbers::{byte, is_atom, natural};
-use mk_ctab::RawBond;
 use mk_model::{Edge, Memory};
+use mk_tables::RawBond;
 use std::alloc::Global;
 
 /// The edges of the bonds before the first whose ends aren't two atoms.

@@ -6,7 +6,7 @@
 //! and `has_known_values` judge the entries of a property line (`specs/Values.antt`), and
 //! `charges_and_radicals` gives what the columns or the last entries say (`specs/Charges.antt`).
 //!
-//! How a table is read stands in mk_ctab. Which check fails first, and what it is called, stands in
+//! How a table is read stands in mk_tables. Which check fails first, and what it is called, stands in
 //! mk_mol and mk_query.
 #![tactic(auto)]
 

@@ -31,6 +31,18 @@ fn done_and_closed<D: Disk + Drop, T: Task>(
     Ok((done?, files))
 }
 
+// What the task reads once the keeper is opened again.
+fn read_again<D: Disk + Drop, T: Task>(
+    alloc: Global,
+    keeper: KeeperOver<D>,
+    task: &T,
+) -> Result<Vec<u8>, Fail> {
+    match again(alloc, keeper, Options::new(7)) {
+        Ok(keeper) => Ok(done_and_closed(alloc, keeper, task)?.0.read),
+        Err((_fail, _rest)) => Err(Fail::new("a keeper")),
+    }
+}
+
 // The first task is done, and the other once the keeper is opened again.
 fn done_and_opened<D: Disk + Drop, T: Task>(
     alloc: Global,
@@ -39,11 +51,10 @@ fn done_and_opened<D: Disk + Drop, T: Task>(
     second: &T,
 ) -> Result<Done, Fail> {
     let done = first.done(alloc, &mut keeper);
-    let keeper = again(alloc, keeper, Options::new(7)).ok_or("a keeper")?;
-    let (left, _files) = done_and_closed(alloc, keeper, second)?;
+    let read = read_again(alloc, keeper, second)?;
     Ok(Done {
         count: done?.count,
-        read: left.read,
+        read,
     })
 }
 

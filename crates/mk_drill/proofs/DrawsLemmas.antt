@@ -1,7 +1,7 @@
 -- Six draws, one after the other.
 --     AreDrilled first x table state     before atom x, the table and the state are those that the draws so far left
 use Rattle.std.proofs.Common.{◌≡◌, ℕ, zero, suc, ◌+◌, ◌*◌, ◌-◌, ◌<◌, ◌≤◌, length, arith, refl, sym, ap, ◌∙◌}
-use Rattle.mk_ctab.specs.declared.raw.RawTable.{RawTable}
+use Rattle.mk_tables.specs.declared.raw.RawTable.{RawTable}
 use Rattle.mk_drill.specs.Draws.{benzene, draw_below, drilled_table, draws, next_state, state_behind, substituted, substituted_from}
 use Rattle.mk_drill.proofs.DrilledTableLemmas.{substituted_few}
 

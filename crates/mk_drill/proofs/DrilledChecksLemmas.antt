@@ -8,10 +8,10 @@ use Rattle.std.proofs.lemmas.List.Sums.{count_by-le-length}
 use Rattle.std.proofs.lemmas.Option.{get_or_from_slice_get, slice_get_within}
 use Rattle.mk_text.specs.Items.{OfItem}
 use Rattle.mk_model.specs.Edges.{touches}
-use Rattle.mk_ctab.specs.declared.raw.RawBond.{RawBond}
-use Rattle.mk_ctab.specs.declared.raw.RawTable.{RawTable}
+use Rattle.mk_tables.specs.declared.raw.RawBond.{RawBond}
+use Rattle.mk_tables.specs.declared.raw.RawTable.{RawTable}
 use Rattle.mk_demands.specs.Bonds.{HasTwoEnds, raw_edge, edges_of}
-use Rattle.mk_ctab.specs.Table.{IsKept}
+use Rattle.mk_tables.specs.Table.{IsKept}
 use Rattle.mk_spelling.specs.TableSpelling.{AtomFits, BondFits, CanBeSpelt, IsSymbol, ListFits, PropertyFits, RangeFits, SymbolsEnd, SymbolsFit}
 use Rattle.mk_demands.specs.Values.{HasKnownValues, NamesAtoms}
 use Rattle.mk_mol.specs.Checks.{HasKnownType, IsKnownAtom, IsOfMolecules}

@@ -9,9 +9,9 @@ use Rattle.std.proofs.lemmas.Int.{ints}
 use Rattle.std.proofs.lemmas.List.{length-append}
 use Rattle.std.proofs.lemmas.List.Elements.{All-from_recursion, All-push, All-replicate}
 use Rattle.mk_elements.specs.Symbols.{symbols}
-use Rattle.mk_ctab.specs.declared.raw.RawAtom.{RawAtom}
-use Rattle.mk_ctab.specs.declared.raw.RawBond.{RawBond}
-use Rattle.mk_ctab.specs.declared.raw.RawTable.{RawTable}
+use Rattle.mk_tables.specs.declared.raw.RawAtom.{RawAtom}
+use Rattle.mk_tables.specs.declared.raw.RawBond.{RawBond}
+use Rattle.mk_tables.specs.declared.raw.RawTable.{RawTable}
 use Rattle.mk_spelling.specs.TableSpelling.{AtomFits, FitsThree, IsSymbol}
 use Rattle.mk_mol.specs.Checks.{HasKnownType, IsKnownAtom, IsElementSymbol}
 use Rattle.mk_drill.specs.Draws.{benzene, drilled_table, draws, plain_atom, plain_bond, substituted, substituted_from, with_atom, with_methoxy}

@@ -2,7 +2,7 @@
 use Rattle.std.proofs.Common.{[], ◌∷◌, ◌≡◌, ℕ, List, Some, arith, inr, refl, sym}
 use Rattle.std.proofs.lemmas.List.{append-nil}
 use Rattle.mk_text.specs.Lines.{lines_of}
-use Rattle.mk_ctab.specs.declared.raw.RawTable.{RawTable}
+use Rattle.mk_tables.specs.declared.raw.RawTable.{RawTable}
 use Rattle.mk_spelling.specs.TableSpelling.{CanBeSpelt, table_spelling}
 use Rattle.mk_spelling.proofs.TableSpellingLemmas.{is_read}
 use Rattle.mk_sdfile.specs.declared.raw_record.RawRecord.{RawRecord}

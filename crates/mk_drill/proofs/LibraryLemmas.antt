@@ -3,7 +3,7 @@
 use Rattle.std.proofs.Common.{[], ◌∷◌, ◌++◌, ◌≡◌, ℕ, ◌+◌, ◌*◌, ◌-◌, List, length, arith, refl, sym, ap, ◌∙◌}
 use Rattle.std.proofs.lemmas.List.FromFn.{length-map-range_with_len, map-range_with_len_more}
 use Rattle.mk_outside.specs.declared.tables.RecordRow.{RecordRow}
-use Rattle.mk_ctab.specs.declared.raw.RawTable.{RawTable}
+use Rattle.mk_tables.specs.declared.raw.RawTable.{RawTable}
 use Rattle.mk_library.specs.Library.{LibraryView}
 use Rattle.mk_drill.specs.Draws.{drilled_table, state_behind, state_for}
 use Rattle.mk_drill.specs.DrilledRecords.{IsCounted, drilled_record, drilled_records, next_record, record_text}

@@ -1,9 +1,9 @@
 -- No fault but want of memory comes of the drill's query file.
 use Rattle.std.proofs.Common.{◌≡◌, ℕ, Err, refl, subst}
 use Rattle.mk_text.specs.Lines.{lines_of}
-use Rattle.mk_ctab.specs.declared.fault.TableFault.{TableFault}
-use Rattle.mk_ctab.specs.declared.fault.TableFault.TheVariants as table_fault
-use Rattle.mk_ctab.specs.TableFaults.{IfBad, IfV3000}
+use Rattle.mk_tables.specs.declared.fault.TableFault.{TableFault}
+use Rattle.mk_tables.specs.declared.fault.TableFault.TheVariants as table_fault
+use Rattle.mk_tables.specs.TableFaults.{IfBad, IfV3000}
 use Rattle.mk_rgfile.specs.declared.raw_query.RawQuery.{RawQuery}
 use Rattle.mk_rgfile.specs.QueryFile.{IsBadQueryLine, IsQueryFile}
 use Rattle.mk_rgfile.proofs.QueryLawLemmas.{bad_where_none}

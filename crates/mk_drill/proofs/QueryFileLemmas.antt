@@ -11,8 +11,8 @@ use Rattle.mk_text.specs.Fields.{digits_number, field_of}
 use Rattle.mk_text.specs.Lines.{IsWholeLine, lines_of}
 use Rattle.mk_text.proofs.ForCallers.{text_of_lines_is_read}
 use Rattle.mk_props.specs.Reading.{cell_of, count_of, letter_line_of, logic_of, m_line_of, number_of, pair_of, pairs_of, property_of}
-use Rattle.mk_ctab.specs.TableLines.{atom_numbers_of, counts_of, natural_of, raw_atom_of, raw_bond_of}
-use Rattle.mk_ctab.specs.TableReading.{table_at}
+use Rattle.mk_tables.specs.TableLines.{atom_numbers_of, counts_of, natural_of, raw_atom_of, raw_bond_of}
+use Rattle.mk_tables.specs.TableReading.{table_at}
 use Rattle.mk_rgfile.specs.declared.raw_query.RawQuery.{RawQuery}
 use Rattle.mk_rgfile.specs.QueryFile.{IsQueryFile}
 use Rattle.mk_rgfile.specs.QueryLines.{group_number_of}

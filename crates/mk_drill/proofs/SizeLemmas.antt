@@ -6,9 +6,9 @@ use Rattle.std.proofs.lemmas.List.{length-append, length-take, length-replicate,
 use Rattle.std.proofs.lemmas.List.Elements.{All-append, All-cons, All-map, All-nil, recursion_from_All}
 use Rattle.mk_text.specs.KeptLines.{is_cr, kept_lines, without_crs}
 use Rattle.mk_text.specs.Lines.{ended, lines_of, onto_first_piece, pieces, text_of, without_cr}
-use Rattle.mk_ctab.specs.declared.raw.RawAtom.{RawAtom}
-use Rattle.mk_ctab.specs.declared.raw.RawBond.{RawBond}
-use Rattle.mk_ctab.specs.declared.raw.RawTable.{RawTable}
+use Rattle.mk_tables.specs.declared.raw.RawAtom.{RawAtom}
+use Rattle.mk_tables.specs.declared.raw.RawBond.{RawBond}
+use Rattle.mk_tables.specs.declared.raw.RawTable.{RawTable}
 use Rattle.mk_spelling.specs.TableSpelling.{AtomFits, BondFits, CanBeSpelt, IsSymbol, at_left, atom_line, bond_line, counts_line, end_line, numbers_line, property_line, table_spelling, table_lines}
 use Rattle.mk_spelling.proofs.ThreeLemmas.{count_fits, length-three}
 use Rattle.mk_drill.proofs.DrilledChecksLemmas.{of_none}

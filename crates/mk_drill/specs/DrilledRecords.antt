@@ -13,7 +13,7 @@ use Rattle.mk_text.specs.KeptLines.{kept_lines}
 use Rattle.mk_text.specs.Lines.{lines_of}
 use Rattle.mk_model.specs.Molecules.{Molecule}
 use Rattle.mk_outside.specs.declared.tables.RecordRow.{RecordRow}
-use Rattle.mk_ctab.specs.declared.raw.RawTable.{RawTable}
+use Rattle.mk_tables.specs.declared.raw.RawTable.{RawTable}
 use Rattle.mk_spelling.specs.TableSpelling.{CanBeSpelt, table_spelling}
 use Rattle.mk_mol.specs.FirstFault.{MeetsAllChecks}
 use Rattle.mk_rows.specs.declared.by_number.Numbered.{Numbered}

@@ -1,16 +1,16 @@
 // The query of the drill, from its file.
 ghost use Rattle.std.specs.Prelude.{◌≡◌, IfOk, length};
 ghost use Rattle.mk_text.specs.Lines.{lines_of};
-ghost use Rattle.mk_ctab.specs.declared.fault.TableFault.TheVariants as table_fault;
+ghost use Rattle.mk_tables.specs.declared.fault.TableFault.TheVariants as table_fault;
 ghost use Rattle.mk_query.specs.declared.compile_fault.CompileFault.TheVariants as compile_fault;
 ghost use Rattle.mk_rgfile.specs.QueryFacts.{FitsIn, IsRawQuery};
 ghost use Rattle.mk_rgfile.specs.QueryFile.{IsQueryFile};
 ghost use Rattle.mk_drill.specs.DrillQuery.{IsDrillQuery, query_text};
 
-use mk_ctab::TableFault;
 use mk_model::Query;
 use mk_query::{CompileFault, compile};
 use mk_rgfile::{RawQuery, read_rgfile};
+use mk_tables::TableFault;
 use mk_text::Memory;
 use std::alloc::Global;
 

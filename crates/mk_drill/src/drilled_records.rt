@@ -9,10 +9,10 @@ ghost use Rattle.mk_drill.specs.DrilledRecords.{HoldsExactly, IsCounted, IsLoada
 
 use crate::draws::Draws;
 use crate::drilled_tables::drilled_table;
-use mk_ctab::RawTable;
 use mk_library::{Library, LoadRefusal};
 use mk_mol::one_filled_molecule;
 use mk_spelling::write_table;
+use mk_tables::RawTable;
 use mk_text::Memory;
 use std::alloc::Global;
 

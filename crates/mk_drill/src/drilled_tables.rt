@@ -3,7 +3,7 @@ ghost use Rattle.std.specs.Prelude.{◌≡◌, ◌<◌, ◌≤◌, ◌+◌, ◌+
 ghost use Rattle.mk_drill.specs.Draws.{benzene, drilled_table, plain_atom, plain_bond, state_behind, substituted, with_atom, with_methoxy};
 
 use crate::draws::{Draws, draw_below};
-use mk_ctab::{
+use mk_tables::{
     Bytes, Memory, Properties, RawAtom, RawAtoms, RawBond, RawBonds, RawLists, RawTable,
 };
 use std::alloc::Global;

@@ -8,7 +8,7 @@
 //!
 //! What a file holds is judged in `mk_found`, and what edits queries stands in `mk_query_edits`. It
 //! searches nothing: see `mk_effects`. It knows no words of a command, commits nothing and writes
-//! nothing: see `mk_session`. It reads no columns: see `mk_ctab`.
+//! nothing: see `mk_session`. It reads no columns: see `mk_tables`.
 #![tactic(auto)]
 
 mod loading;

@@ -3,3 +3,4 @@ pub mod ListingsLemmas
 pub mod MatchLemmas
 pub mod SearchingLemmas
 pub mod PacedLemmas
+pub mod TicksLemmas

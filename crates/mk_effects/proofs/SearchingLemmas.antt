@@ -1,7 +1,7 @@
 -- What `search` and `resume` come to.
 --     first_over_records, parts_over_records     the first keys over the molecules of a library, as those over its records
 --     begins_over_records     how often is begun over the molecules of a library, over its records
---     put_fits                                   the change of a saved search fits
+--     put_fits, none_put      the change that saves a search fits, and the one that drops a search saves none
 --     refused_if                                 what is said of a refusal
 use Rattle.std.proofs.Common.{◌≡◌, ℕ, ◌≤◌, true, false, List, [], ◌∷◌, nat_eq, Some, refl, sym, ap, ◌∙◌, subst, arith}
 use Rattle.std.specs.Prelude.{Result, Ok, Err, IfOk}
@@ -12,7 +12,8 @@ use Rattle.mk_model.specs.Molecules.{Molecule}
 use Rattle.mk_model.specs.Queries.{QueryView}
 use Rattle.mk_sdfile.specs.Sdfile.{HasOneValue}
 use Rattle.mk_mol.specs.Laws.{OneFilledMolecule}
-use Rattle.mk_outside.specs.declared.tables.Change.TheVariants.{PutCursor}
+use Rattle.mk_outside.specs.declared.tables.Change.{Change}
+use Rattle.mk_outside.specs.declared.tables.Change.TheVariants.{PutCursor, DropCursor}
 use Rattle.mk_outside.specs.declared.tables.RecordRow.{RecordRow}
 use Rattle.mk_library.specs.Records.{AreHeld, IsMoleculeAt}
 use Rattle.mk_library.proofs.ForCallers.{at_is_item, item_is_at}
@@ -61,6 +62,12 @@ put_fits saved pending number name place is named spare = record {
   queries = rw is (omega arith);
   cursors = rw is spare;
 }
+
+-- the change that drops a search saves none
+pub none_put : (batch : List Change) (c d : ℕ) (other at : List ℕ) → batch ≡ DropCursor c ∷ [] → batch ≡ PutCursor d other at ∷ [] → ⊥
+none_put batch c d other at drops puts =
+    let same : DropCursor c ∷ [] ≡ PutCursor d other at ∷ [] = sym drops ∙ puts in
+    cc
 
 -- ---- refusals
 

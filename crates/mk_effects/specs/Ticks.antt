@@ -8,6 +8,8 @@
 --                                            search on
 --     BeginsOfSearch t name limit budget effect old new      how often `search` begins it
 --     BeginsOfResume t c limit budget effect old new         how often `resume` does
+--     BeginsBetween t name from to old new       the count goes up as for a page of the query of the
+--                                            name that begins at one place and stops at another
 use Rattle.std.specs.Prelude.{◌≡◌, ◌≢◌, ℕ, List, [], ◌∷◌, length, nat_lt, Option, Some, None}
 use Rattle.mk_model.specs.Queries.{QueryView}
 use Rattle.mk_outside.specs.declared.tables.Change.{Change}
@@ -52,7 +54,7 @@ BeginsOfListed records query place limit None c stops next text old new = Begins
 BeginsOfListed records query place limit (Some b) c stops next text old new = BeginsOfPause records query place limit b c stops next text old new
 
 -- The text lists keys of the query of the name, from the place on, and the count goes up as for them.
--- The next place is the one that is saved, where the list goes on.
+-- The next place is the one that is saved, where the list goes on; where it ends none is.
 pub record BeginsOfListing (t : Tables) (name place : List ℕ) (limit : ℕ) (budget : Option ℕ) (c : ℕ) (batch : List Change) (text : List ℕ) (old new : ℕ) : Type 0 where
   pub query : QueryView
   pub named : IsQueryNamed t.queries name query
@@ -60,6 +62,7 @@ pub record BeginsOfListing (t : Tables) (name place : List ℕ) (limit : ℕ) (b
   pub next : List ℕ
   pub begins : BeginsOfListed t.records query place limit budget c stops next text old new
   pub saved : stops ≢ stop.Ended → batch ≡ PutCursor c name next ∷ []
+  pub unsaved : stops ≡ stop.Ended → (d : ℕ) (other at : List ℕ) → batch ≢ PutCursor d other at ∷ []
 
 -- the search is saved, and its next keys are listed from its place on
 pub record BeginsOfRest (t : Tables) (c limit : ℕ) (budget : Option ℕ) (batch : List Change) (text : List ℕ) (old new : ℕ) : Type 0 where
@@ -76,3 +79,12 @@ BeginsOfSearch t name limit budget (Answers batch text) old new = BeginsOfListin
 abbrev pub BeginsOfResume : Tables → ℕ → ℕ → Option ℕ → Effect → ℕ → ℕ → Type 0
 BeginsOfResume t c limit budget (Refuses line) old new = new ≡ old
 BeginsOfResume t c limit budget (Answers batch text) old new = BeginsOfRest t c limit budget batch text old new
+
+-- the count goes up as for a page within a budget, of the query of the name, that begins at the one
+-- place and stops at the other
+pub record BeginsBetween (t : Tables) (name from to : List ℕ) (before after : ℕ) : Type 0 where
+  pub query : QueryView
+  pub named : IsQueryNamed t.queries name query
+  pub paced : Paced
+  pub at : paced.place ≡ to
+  pub begins : BeginsOfPaced (IsMoleculeAt t.records) query from paced before after

@@ -7,7 +7,7 @@
 //!
 //! What the commands that edit and list come to stands in `mk_edits` and `mk_query_edits`, and what
 //! a file holds is judged in `mk_found`. It knows no words of a command, commits nothing and writes
-//! nothing: see `mk_session`. It reads no columns: see `mk_ctab`.
+//! nothing: see `mk_session`. It reads no columns: see `mk_tables`.
 #![tactic(auto)]
 
 mod hit_lines;

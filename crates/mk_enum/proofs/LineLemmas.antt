@@ -12,7 +12,7 @@ use Rattle.std.proofs.lemmas.List.{map-append}
 use Rattle.mk_text.specs.Lines.{ended, lines_of, onto_first_piece, pieces, text_of, without_cr}
 use Rattle.mk_text.proofs.ForCallers.{and_true, list_all_at, not_true}
 use Rattle.mk_text.proofs.PieceLemmas.{pieces_at}
-use Rattle.mk_ctab.specs.declared.raw.RawTable.{RawTable}
+use Rattle.mk_tables.specs.declared.raw.RawTable.{RawTable}
 use Rattle.mk_spelling.specs.TableSpelling.{table_spelling, table_lines}
 use Rattle.mk_spelling.proofs.NoLfLemmas.{HasNoLf, is_no_lf, no_lf_both}
 use Rattle.mk_enum.specs.Texts.{behind_blank, numbers_text, structure_text}

@@ -9,7 +9,7 @@ use Rattle.mk_model.specs.Expansions.{IsExpansion}
 use Rattle.mk_model.specs.Graphs.{GraphView}
 use Rattle.mk_model.specs.Logic.{IsValid}
 use Rattle.mk_model.specs.Queries.{QueryView}
-use Rattle.mk_ctab.specs.declared.raw.RawTable.{RawTable}
+use Rattle.mk_tables.specs.declared.raw.RawTable.{RawTable}
 use Rattle.mk_choice.specs.Codes.{CodesLeft}
 use Rattle.mk_expand.proofs.ForCallers.{one_graph}
 use Rattle.mk_enum.specs.Enumerations.{IsStructure}

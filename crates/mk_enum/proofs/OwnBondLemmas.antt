@@ -16,7 +16,7 @@ use Rattle.mk_model.specs.Expansions.{unmarked}
 use Rattle.mk_model.specs.Graphs.{GraphView, IsGraph, graph_edge, graph_edges}
 use Rattle.mk_model.specs.Tests.{IsBondInRange}
 use Rattle.mk_model.proofs.ForCallers.{all_at, at_place, drawn_between, place_within}
-use Rattle.mk_ctab.specs.declared.raw.RawBond.{RawBond}
+use Rattle.mk_tables.specs.declared.raw.RawBond.{RawBond}
 use Rattle.mk_demands.specs.Bonds.{HasFewBonds, HasTwoEnds, IsNewBond, JoinSame, edges_of, raw_edge}
 use Rattle.mk_demands.specs.Numbers.{byte}
 use Rattle.mk_query.specs.Checks.{HasQueryType, IsQueryBond}

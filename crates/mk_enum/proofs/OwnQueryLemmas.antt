@@ -30,8 +30,8 @@ use Rattle.mk_model.specs.Sizes.{IsSizing, size_by}
 use Rattle.mk_model.specs.Templates.{TemplateView}
 use Rattle.mk_model.specs.Tests.{IsKindInRange, IsTestInRange}
 use Rattle.mk_model.proofs.ForCallers.{all_at}
-use Rattle.mk_ctab.specs.declared.raw.RawAtom.{RawAtom}
-use Rattle.mk_ctab.specs.declared.raw.RawTable.{RawTable}
+use Rattle.mk_tables.specs.declared.raw.RawAtom.{RawAtom}
+use Rattle.mk_tables.specs.declared.raw.RawTable.{RawTable}
 use Rattle.mk_demands.specs.Charges.{charge_at, charge_pairs, charges_of, last_or, lists_values, radical_at, radical_pairs, radicals_of, values_for}
 use Rattle.mk_logic.specs.RangeTexts.{above}
 use Rattle.mk_logic.specs.RangeTexts.IsRangeText.{blank_text}

@@ -18,8 +18,8 @@ use Rattle.mk_model.specs.Graphs.{GraphView, IsGraph}
 use Rattle.mk_model.specs.Molecules.{IsElement}
 use Rattle.mk_model.specs.Tests.{IsKindInRange, IsListOfElements, IsTestInRange}
 use Rattle.mk_model.proofs.ForCallers.{all_at, pairs_none}
-use Rattle.mk_ctab.specs.declared.raw.RawAtom.{RawAtom}
-use Rattle.mk_ctab.specs.declared.raw.RawTable.{RawTable}
+use Rattle.mk_tables.specs.declared.raw.RawAtom.{RawAtom}
+use Rattle.mk_tables.specs.declared.raw.RawTable.{RawTable}
 use Rattle.mk_demands.specs.Charges.{last_or, values_for}
 use Rattle.mk_demands.specs.Numbers.{IsAtom, IsWithin}
 use Rattle.mk_query.specs.Checks.{IsElementName, IsQueryAtom, IsQueryBond, IsQueryProperty, IsQueryWord, IsRingBondCount}

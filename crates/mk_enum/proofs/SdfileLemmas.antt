@@ -6,7 +6,7 @@ use Rattle.mk_form.specs.Rows.{Series}
 use Rattle.mk_text.specs.KeptLines.{kept_lines}
 use Rattle.mk_text.specs.Lines.{lines_of}
 use Rattle.mk_model.specs.Queries.{QueryView}
-use Rattle.mk_ctab.specs.declared.raw.RawTable.{RawTable}
+use Rattle.mk_tables.specs.declared.raw.RawTable.{RawTable}
 use Rattle.mk_spelling.specs.TableSpelling.{CanBeSpelt, table_spelling}
 use Rattle.mk_spelling.proofs.TableSpellingLemmas.{is_read}
 use Rattle.mk_sdfile.specs.declared.raw_record.RawRecord.{RawRecord}

@@ -17,13 +17,13 @@ use Rattle.mk_model.specs.Graphs.{GraphView, IsGraph}
 use Rattle.mk_model.specs.Molecules.{IsElement}
 use Rattle.mk_model.specs.Tests.{IsKindInRange, IsListOfElements, IsTestInRange}
 use Rattle.mk_model.proofs.ForCallers.{drawn_between}
-use Rattle.mk_ctab.specs.declared.raw.RawAtom.{RawAtom}
-use Rattle.mk_ctab.specs.declared.raw.RawBond.{RawBond}
-use Rattle.mk_ctab.specs.declared.raw.RawList.{RawList}
-use Rattle.mk_ctab.specs.declared.raw.RawTable.{RawTable}
-use Rattle.mk_ctab.specs.KeptTables.{EndsWithoutCr, KeepsItsText}
-use Rattle.mk_ctab.specs.Table.{IsKept}
-use Rattle.mk_ctab.specs.TableFacts.{HasSymbols}
+use Rattle.mk_tables.specs.declared.raw.RawAtom.{RawAtom}
+use Rattle.mk_tables.specs.declared.raw.RawBond.{RawBond}
+use Rattle.mk_tables.specs.declared.raw.RawList.{RawList}
+use Rattle.mk_tables.specs.declared.raw.RawTable.{RawTable}
+use Rattle.mk_tables.specs.KeptTables.{EndsWithoutCr, KeepsItsText}
+use Rattle.mk_tables.specs.Table.{IsKept}
+use Rattle.mk_tables.specs.TableFacts.{HasSymbols}
 use Rattle.mk_spelling.specs.TableSpelling.{AtomFits, BondFits, CanBeSpelt, FitsThree, IsSymbol, ListFits, PairFits, PairsFit, PropertyFits, RangeFits, SymbolsEnd, SymbolsFit}
 use Rattle.mk_spelling.proofs.GraphicLemmas.{is_symbol, no_cr}
 use Rattle.mk_spelling.proofs.ThreeLemmas.{count_fits}

@@ -1,5 +1,5 @@
 -- The symbols of elements.
---     symbol_is, symbol_short     what `symbol_of` gives is the element's symbol, and it is short
+--     symbol_is                   what `symbol_of` gives is the element's symbol
 --     is_plain                    one or two bytes above the blank, which are no word of a query
 --     names_itself                it names its element
 use Rattle.std.proofs.Common.{◌≡◌, ◌<◌, ◌≤◌, ◌-◌, ℕ, zero, suc, Bool, true, false, not, ◌&&◌, leb, ltb, List, [], ◌∷◌, length, get_or, refl, sym, arith, inl}
@@ -71,7 +71,3 @@ is_plain z is = in_parts (get_or symbols (z - 1) []) (at_each passes symbols (z 
 pub names_itself : (z : ℕ) → IsElement z → NamesElement (element_symbol z) z
 unfolding element_symbol
 names_itself z is = inl (is.0, at_place symbols (z - 1) [] (omega (arith, many, is.0, is.1)))
-
--- what `symbol_of` gives is short
-pub symbol_short : (symbol : List ℕ) (z : ℕ) → IsSymbol symbol z → IsElement z → length symbol < 256
-symbol_short symbol z is element = rw (symbol_is symbol z is) (let few = (is_plain z element).short in omega (arith, few))

@@ -8,7 +8,7 @@ use Rattle.mk_model.specs.Graphs.{GraphView}
 use Rattle.mk_model.specs.Logic.{IsValid}
 use Rattle.mk_model.specs.Queries.{QueryView}
 use Rattle.mk_model.specs.QueryFits.{QueryFits}
-use Rattle.mk_ctab.specs.declared.raw.RawTable.{RawTable}
+use Rattle.mk_tables.specs.declared.raw.RawTable.{RawTable}
 use Rattle.mk_rgfile.specs.declared.raw_query.RawQuery.{RawQuery}
 use Rattle.mk_query.specs.declared.compile_fault.FaultAt.{FaultAt}
 use Rattle.mk_query.specs.Compiled.{IsQueryOf}

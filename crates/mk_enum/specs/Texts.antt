@@ -3,7 +3,7 @@
 --     structure_text code table        the text of the structure of a code, which has this table
 use Rattle.std.specs.Prelude.{ℕ, List, ◌∷◌, ◌++◌, codes, decimal}
 use Rattle.std.specs.List.{flat_map}
-use Rattle.mk_ctab.specs.declared.raw.RawTable.{RawTable}
+use Rattle.mk_tables.specs.declared.raw.RawTable.{RawTable}
 use Rattle.mk_spelling.specs.TableSpelling.{table_spelling}
 
 -- a number behind a blank, byte 32

@@ -3,9 +3,9 @@ ghost use Rattle.std.specs.Prelude.{◌≡◌, ◌≤◌, All, IfOk, map};
 ghost use Rattle.mk_model.specs.Tests.{IsKindInRange, IsTestInRange};
 ghost use Rattle.mk_enum.specs.StructureTables.{atom_drawn, bond_drawn, kind_symbol};
 
-use mk_ctab::{RawAtom, RawBond};
 use mk_elements::symbol_of;
 use mk_model::{Bytes, GraphAtom, GraphBond, Kind, Memory};
+use mk_tables::{RawAtom, RawBond};
 use std::alloc::Global;
 
 /// The lines of atoms, in order.

@@ -5,10 +5,11 @@ ghost use Rattle.mk_model.specs.Tests.{IsKindInRange, IsTestInRange};
 ghost use Rattle.mk_enum.specs.Steps.{property_of};
 ghost use Rattle.mk_enum.specs.StructureTables.{atom_entries, element_symbol, entries_from, entry, list_entry, symbol_list};
 
-use mk_ctab::Properties;
 use mk_elements::symbol_of;
 use mk_model::{AtomTest, GraphAtom, Kind, Memory};
 use mk_props::{AtomList, Pair, Pairs, Property, Symbols};
+use mk_tables::Properties;
+use mk_text::Bytes;
 use std::alloc::Global;
 
 /// What a property line with one value an atom says of it.
@@ -156,15 +157,16 @@ fn symbols_of(alloc: Global, elements: &[u8]) -> Result<Symbols, Memory>
 {
     let mut symbols = Symbols::new(alloc);
     for z in elements {
-        push_symbol(&mut symbols, *z)?;
+        symbols.push(symbol(alloc, *z)?)?;
     }
     Ok(symbols)
 }
 
-#[tactic(auto, using(crate::proofs::SymbolLemmas::symbol_is, crate::proofs::SymbolLemmas::symbol_short))]
-fn push_symbol(symbols: &mut Symbols, z: u8) -> Result<(), Memory>
+// The symbol of an element.
+#[tactic(auto, using(crate::proofs::SymbolLemmas::symbol_is))]
+fn symbol(alloc: Global, z: u8) -> Result<Bytes, Memory>
     requires { IsElement z }
-    ensures { OnOk result (symbols.new ≡ symbols.old ++ element_symbol z ∷ []) }
+    ensures { IfOk result (λ symbol. symbol ≡ element_symbol z) }
 {
-    symbols.push(symbol_of(z))
+    Ok(Bytes::of(Vec::from_slice(alloc, symbol_of(z))?))
 }

@@ -10,7 +10,7 @@
 //! check and has that structure as its one expansion: the laws in `laws`.
 //!
 //! How codes are found is left to mk_choice, what they make of a query to mk_expand, and how a
-//! table is spelt to mk_ctab.
+//! table is spelt to mk_tables.
 #![tactic(auto)]
 
 mod atoms;
@@ -26,7 +26,7 @@ pub use enumeration::structures;
 pub use laws::{structures_are_an_sdfile, structures_are_read_back};
 pub use limits::writable;
 pub use listed::Structures;
-pub use mk_ctab::RawTable;
 pub use mk_model::{Graph, Keys, Memory, Place, Query};
+pub use mk_tables::RawTable;
 pub use tables::table_of;
 pub use texts::put_numbers;

@@ -5,8 +5,8 @@ ghost use Rattle.mk_enum.specs.Writable.{IsWritable};
 
 use crate::atoms::{atom_lines, bond_lines};
 use crate::entries::entries_of;
-use mk_ctab::{RawAtoms, RawBonds, RawLists, RawTable};
 use mk_model::{Graph, Memory};
+use mk_tables::{RawAtoms, RawBonds, RawLists, RawTable};
 use std::alloc::Global;
 
 /// The table of a graph that is writable: atoms and bonds as the graph has them, and what is asked

@@ -3,9 +3,9 @@ ghost use Rattle.std.specs.Prelude.{◌≡◌, ◌++◌, OnOk};
 ghost use Rattle.mk_spelling.specs.TableSpelling.{CanBeSpelt};
 ghost use Rattle.mk_enum.specs.Texts.{behind_blank, numbers_text, structure_text};
 
-use mk_ctab::RawTable;
 use mk_model::Memory;
 use mk_spelling::write_table;
+use mk_tables::RawTable;
 use mk_text::put_number;
 use std::alloc::Global;
 

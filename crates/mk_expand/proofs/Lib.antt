@@ -1,5 +1,12 @@
+pub mod CountLemmas
 pub mod FreeLemmas
-pub mod AtomLemmas
+pub mod LooseLemmas
+pub mod OpenedLemmas
+pub mod StandLemmas
+pub mod OneChoiceLemmas
 pub mod ChosenLemmas
 pub mod SlotLemmas
+pub mod DecidedLemmas
+pub mod WeakerLemmas
+pub mod MadeLemmas
 pub mod ForCallers

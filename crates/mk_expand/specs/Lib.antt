@@ -1,2 +1,4 @@
-pub mod Frees
-pub mod Choosing
+pub mod OpenCodes
+pub mod OpenGraphs
+pub mod Opening
+pub mod Laws

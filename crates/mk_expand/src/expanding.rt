@@ -4,7 +4,7 @@ ghost use Rattle.mk_model.specs.Codes.{IsCode};
 ghost use Rattle.mk_model.specs.Expansions.{IsExpansion};
 ghost use Rattle.mk_pieces.specs.Fragments.{bare};
 
-use crate::choosing::expanded;
+use crate::choosing::opened_by;
 use mk_model::{Graph, GraphBond, Memory, Query, QueryBond, put_in_order};
 use mk_rings::marked_graph;
 use std::alloc::Global;
@@ -16,7 +16,7 @@ pub fn expand(alloc: Global, query: &Query, code: &[u32]) -> Result<Graph, Memor
 {
     // The reader's clause says what every query keeps.
     let _kept = query.templates();
-    let (part, _behind) = expanded(alloc, query, 0, code, 0)?;
+    let (part, _behind) = opened_by(alloc, query, 0, code, 0)?;
     let (atoms, bonds) = part.into_lists();
     let mut drawn = bare_bonds(alloc, &bonds)?;
     put_in_order(&mut drawn);

@@ -13,8 +13,8 @@ use Rattle.mk_model.specs.Queries.{QueryView, slots_of}
 use Rattle.mk_model.specs.QueryFits.{QueryFits}
 use Rattle.mk_open_codes.specs.Alone.{AloneFrontsHoldNone, ArePlaces, HoldsNoneAlone, IsPlaceOf}
 use Rattle.mk_open_codes.specs.Fronts.{HoldsNone, IsFrontCode}
-use Rattle.mk_open_codes.specs.OpenCodes.{IsOpenChoice, OpenChoice, open_spelling}
-use Rattle.mk_open_codes.specs.OpenCodes.OpenChoice.{no_more, undecided}
+use Rattle.mk_expand.specs.OpenCodes.{IsOpenChoice, OpenChoice, open_spelling}
+use Rattle.mk_expand.specs.OpenCodes.OpenChoice.{no_more, undecided}
 use Rattle.mk_fronts.specs.Told.{IsPlaceAt}
 
 -- a code begins with its first numbers

@@ -14,7 +14,7 @@ use Rattle.mk_counts.specs.declared.asked.Asked.{Asked}
 use Rattle.mk_counts.specs.Asked.{AreAsked}
 use Rattle.mk_model.specs.Hits.{HasNoEmbedding}
 use Rattle.mk_open_codes.specs.Fronts.{IsFrontCode}
-use Rattle.mk_open_codes.specs.OpenGraphs.{IsOpenGraph}
+use Rattle.mk_expand.specs.OpenGraphs.{IsOpenGraph}
 
 -- the counts are what the graph asks for, and the need is what it needs of a screen
 pub record IsAsk (graph : GraphView) (asked : Asked) (need : Screen) : Type 0 where

@@ -3,12 +3,12 @@ ghost use Rattle.std.specs.Prelude.{◌≡◌, false, IfOk};
 ghost use Rattle.mk_model.specs.Hits.{HasNoEmbedding};
 ghost use Rattle.mk_model.specs.Screens.{IsNeedOf, IsScreenOf};
 ghost use Rattle.mk_counts.specs.Asked.{AreThere};
-ghost use Rattle.mk_open_codes.specs.OpenCodes.{IsOpenCode};
-ghost use Rattle.mk_open_codes.specs.OpenGraphs.{IsOpenGraph};
+ghost use Rattle.mk_expand.specs.OpenCodes.{IsOpenCode};
+ghost use Rattle.mk_expand.specs.OpenGraphs.{IsOpenGraph};
 
 use mk_counts::{Asked, Counts, cannot_hold, counts_asked};
 use mk_model::{Graph, Memory, Mol, Query, Screen};
-use mk_open::open_graph;
+use mk_expand::open_graph;
 use mk_screen::{is_covered, need_of};
 use mk_walk::may_hold;
 use std::alloc::Global;

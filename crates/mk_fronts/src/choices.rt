@@ -4,7 +4,7 @@ ghost use Rattle.mk_fronts.specs.Told.{AreChoices};
 ghost use Rattle.mk_open_codes.specs.Alone.{alone_code};
 
 use mk_model::{Memory, Query};
-use mk_open::{choices_of, root_slots};
+use mk_open_codes::{choices_of, root_slots};
 use std::alloc::Global;
 
 /// For each slot of the root how many numbers may stand for it.

@@ -9,7 +9,7 @@ ghost use Rattle.mk_fronts.specs.Fronts.{BeginsWithNone, IsKnownOf, IsReady, Kno
 use crate::asks::Ask;
 use crate::known::Known;
 use mk_model::{Memory, Mol, Query, Screen};
-use mk_open::{root_need, root_places, root_slots};
+use mk_open_codes::{root_need, root_places, root_slots};
 use std::alloc::Global;
 use std::fmt;
 use std::marker::Model;

@@ -16,7 +16,7 @@ use crate::stores::Stores;
 use crate::told::{Told, forget, nothing, put, told_at};
 use mk_counts::{Counts, counts_there};
 use mk_model::{Memory, Mol, Query, Screen};
-use mk_open::{alone_fronts_hold_none, fronts_hold_none, slots_hold_none};
+use mk_open_codes::{alone_fronts_hold_none, fronts_hold_none, slots_hold_none};
 use std::alloc::Global;
 use std::marker::Model;
 

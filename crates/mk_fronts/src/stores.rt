@@ -14,7 +14,7 @@ use crate::asks::Ask;
 use indexmap::IndexMap;
 use mk_counts::Counts;
 use mk_model::{Memory, Mol, Query, Screen};
-use mk_open::{alone_code, front_code};
+use mk_open_codes::{alone_code, front_code};
 use std::alloc::Global;
 use std::marker::Model;
 use std::mem;

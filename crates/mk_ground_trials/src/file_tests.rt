@@ -1,11 +1,11 @@
 // Calls that read and write files, once each, and what no run shows of them: each kind of property
 // that is written, and the isotopes of V3000 tables.
 use crate::writing_checks::can_be_spelt;
-use mk_ctab::{RawTable, TableFault, read_table};
 use mk_props::Property;
 use mk_rgfile::read_rgfile;
 use mk_sdfile::read_sdfile;
 use mk_spelling::write_table;
+use mk_tables::{RawTable, TableFault, read_table};
 use mk_text::lines;
 use mk_v3000::read_v3000;
 use std::alloc::Global;

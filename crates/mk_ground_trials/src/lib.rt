@@ -3,7 +3,7 @@
 //! number, the types of the model, and the kinds of sources, sinks, files and keepers. It serves
 //! tests alone, and nothing stands on it. All other tests are rows of checks/rows.
 //!
-//! What is promised is proved in mk_text, mk_props, mk_rows, mk_model, mk_outside, mk_ctab,
+//! What is promised is proved in mk_text, mk_props, mk_rows, mk_model, mk_outside, mk_tables,
 //! mk_rgfile, mk_v3000 and mk_sdfile, whose READMEs name the tests. They stand here since a crate
 //! with tests is proved twice.
 #![tactic(auto)]

@@ -23,9 +23,10 @@ fn has_links(alloc: Global, line: &[u8]) -> Result<bool, Fail> {
 fn has_symbols(alloc: Global, line: &[u8]) -> Result<bool, Fail> {
     Ok(match read_property(alloc, line)? {
         Property::List(list) => {
-            list.symbols.count() == 5
-                && list.symbols.symbol(2).is_empty()
-                && list.symbols.symbol(3) == b"Abcd".as_slice()
+            let symbols = list.symbols.as_slice();
+            symbols.len() == 5
+                && symbols[2].as_slice().is_empty()
+                && symbols[3].as_slice() == b"Abcd".as_slice()
         }
         _ => false,
     })

@@ -1,12 +1,13 @@
 // Whether a table of the tests can be spelt. What is answered with false is left to no test.
 ghost use Rattle.std.specs.Prelude.{◌≡◌, ◌≤◌, ◌<◌, IsTrue, All, nat_lt, nat_le};
 ghost use Rattle.std.specs.List.{list_all};
-ghost use Rattle.mk_ctab.specs.Table.{IsKept};
+ghost use Rattle.mk_tables.specs.Table.{IsKept};
 ghost use Rattle.mk_text.specs.Lines.{EndsWith};
 ghost use Rattle.mk_spelling.specs.TableSpelling.{FitsThree, AtomFits, BondFits, ListFits, PairFits, PairsFit, LinkFits, LinksFit, AtomListFits, LogicFits, PropertyFits, IsSymbol, SymbolsFit, SymbolsEnd, IsRangeText, RangeFits, CanBeSpelt};
 
-use mk_ctab::{RawAtom, RawBond, RawList, RawTable};
-use mk_props::{AtomList, LinkEntry, LogicLine, Pair, Property, Symbols};
+use mk_props::{AtomList, LinkEntry, LogicLine, Pair, Property};
+use mk_tables::{RawAtom, RawBond, RawList, RawTable};
+use mk_text::Bytes;
 
 fn fits(number: i32) -> bool
     ensures { IsTrue result → FitsThree number }
@@ -146,12 +147,12 @@ fn atoms_fit(atoms: &[RawAtom]) -> bool
     true
 }
 
-fn symbols_fit(symbols: &Symbols) -> bool
+fn symbols_fit(symbols: &[Bytes]) -> bool
     ensures fit { IsTrue result → All (IsSymbol 4) symbols.now }
     ensures no_cr { IsTrue result → All (λ symbol. ¬ (EndsWith 13 symbol)) symbols.now }
 {
-    for i in 0..symbols.count() {
-        if !is_writable_symbol(symbols.symbol(i), 4) {
+    for symbol in symbols {
+        if !is_writable_symbol(symbol.as_slice(), 4) {
             return false;
         }
     }
@@ -177,11 +178,11 @@ fn atom_list_fits(list: &AtomList) -> bool
     ensures symbols { IsTrue result → All (IsSymbol 4) list.now.symbols }
     ensures no_cr { IsTrue result → All (λ symbol. ¬ (EndsWith 13 symbol)) list.now.symbols }
 {
-    let count = list.symbols.count();
-    if !fits(list.atom) || count == 0 || count > 16 {
+    let symbols = list.symbols.as_slice();
+    if !fits(list.atom) || symbols.is_empty() || symbols.len() > 16 {
         return false;
     }
-    symbols_fit(&list.symbols)
+    symbols_fit(symbols)
 }
 
 fn logic_fits(logic: &LogicLine) -> bool

@@ -2,12 +2,17 @@
 --     closed_more, closed_all      a row is taken out
 --     opened_none, opened_more, opened_all      a row is made
 --     put_none, put_more, put_all               the bits of a row are put
-use Rattle.std.proofs.Common.{◌≡◌, ◌≢◌, ℕ, ◌+◌, ◌-◌, ◌*◌, ◌/◌, ◌%◌, ◌<◌, ◌≤◌, ◌⊎◌, inl, inr, cond, ltb, List, length, get_or, set, refl, ap, ◌∙◌, arith}
+--     closed_last, closed_behind, opened_behind      rows after the last
+--     set_none, set_more                        the bits of one word are set
+--     up_to_none, up_to_more, up_to_all         and those of a row
+--     inserted_last, inserted_within            a row is put in
+use Rattle.std.proofs.Common.{◌≡◌, ◌≢◌, ℕ, ◌+◌, ◌-◌, ◌*◌, ◌/◌, ◌%◌, ◌<◌, ◌≤◌, ◌⊎◌, inl, inr, cond, ltb, false, List, length, get_or, set, refl, sym, ap, ◌∙◌, arith}
 use Rattle.std.specs.Int.{bit_at}
 use Rattle.std.proofs.lemmas.Bool.{cases_eq, cases_lt, eq-eqb, le-ltb, lt-ltb, ne_eqb}
+use Rattle.std.proofs.lemmas.Nat.Bits.{bit_at-lt, bit_at-zero}
 use Rattle.std.proofs.lemmas.List.{get_or-set_other, get_or-set_same, length-set}
-use Rattle.mk_index.specs.Words.{closed_bit, opened_bit, put_in_bit}
-use Rattle.mk_index.specs.Columns.{ClosedTo, IsClosed, IsOpened, IsPut, OpenedFrom, PutTo, cell, low_at, next_word, word_before}
+use Rattle.mk_index.specs.Words.{closed_bit, opened_bit, put_in_bit, set_bit, without_bit}
+use Rattle.mk_index.specs.Columns.{ClosedTo, IsClear, IsClosed, IsInserted, IsOpened, IsPut, OpenedFrom, PutTo, SetTo, cell, low_at, next_word, word_before}
 
 -- ---- a row is taken out
 
@@ -194,4 +199,146 @@ put_all at bits old new all i b bit = elim (cases_eq (i / 64) (at / 64)) [
       let apart : (512 * (i / 64) + b < at / 64 * 512) ⊎ (at / 64 * 512 + 512 ≤ 512 * (i / 64) + b) =
       elim (cases_lt (i / 64) (at / 64)) [ inl less ↦ inl (omega arith) | inr more ↦ inr (omega arith) ] in
       rw (ne_eqb i at other) (ap (λ n. bit_at n (i % 64)) (all.rest (512 * (i / 64) + b) apart)))
+]
+
+-- ---- rows after the last
+
+low_most : (at q : ℕ) → low_at at q ≤ 63
+low_most at q = elim (cases_lt (at / 64) (q / 512)) [
+  | inl later ↦ rw (lt-ltb (at / 64) (q / 512) later) (omega arith)
+  | inr own ↦ rw (le-ltb (at / 64) (q / 512) own) (omega arith)
+]
+
+-- nothing goes down into the last row
+pub closed_last : (blocks at : ℕ) (old new : List ℕ) → at < 64 * blocks → ClosedTo blocks at (blocks * 512) old new → IsClear new (64 * blocks - 1)
+closed_last blocks at old new within all b bit =
+    let i = 64 * blocks - 1 in
+    let k = 512 * (i / 64) + b in
+    let top : i % 64 ≡ 63 = omega arith in
+    let none : ltb (k / 512 + 1) blocks ≡ false = le-ltb (k / 512 + 1) blocks (omega arith) in
+    let low : ltb 63 (low_at at k) ≡ false = le-ltb 63 (low_at at k) (low_most at k) in
+    all.done k (i % 64) (omega arith) (omega arith) (omega arith)
+    ∙ ap (λ n. closed_bit (get_or old k 0) (cond (ltb (k / 512 + 1) blocks) (get_or old (k + 512) 0) 0) (low_at at k) n) top
+    ∙ rw (none, low) (bit_at-zero 0)
+
+pub closed_behind : (blocks at : ℕ) (old new : List ℕ) → ClosedTo blocks at (blocks * 512) old new
+    → (i b : ℕ) → 64 * blocks ≤ i → b < 512 → cell new i b ≡ cell old i b
+closed_behind blocks at old new all i b behind bit = ap (λ n. bit_at n (i % 64)) (all.rest (512 * (i / 64) + b) (inr (omega arith)))
+
+pub opened_behind : (blocks at : ℕ) (old new : List ℕ) → OpenedFrom blocks at (at / 64 * 512) old new
+    → (i b : ℕ) → 64 * blocks ≤ i → b < 512 → cell new i b ≡ cell old i b
+opened_behind blocks at old new all i b behind bit = ap (λ n. bit_at n (i % 64)) (all.rest (512 * (i / 64) + b) (inr (omega arith)))
+
+-- ---- the bits of one word are set
+
+pub set_none : (base low bits : ℕ) (old : List ℕ) → SetTo base low bits bits old old
+set_none base low bits old = record {
+  size = refl;
+  among = λ b within set. set;
+  done = λ b j within inside set unset. absurd (omega (arith, set, unset));
+  same = λ b within is. refl;
+  rest = λ k other. refl;
+}
+
+module _ (base low bits left place word next : ℕ) (old new : List ℕ) (within : place < 64) (room : base + 64 ≤ length new) (is : bit_at left place ≡ 1)
+    (so_far : SetTo base low bits left old new) where
+  pub set_more : ((j : ℕ) → j < 64 → bit_at word j ≡ set_bit (get_or new (base + place) 0) low j)
+      → ((b : ℕ) → b < 64 → bit_at next b ≡ without_bit left place b) → SetTo base low bits next old (set new (base + place) word)
+  set_more put less = record {
+    size = length-set new (base + place) word ∙ so_far.size;
+    among = λ b inside one. so_far.among b inside (elim (cases_eq b place) [
+      | inl same ↦ absurd (let zero : bit_at next b ≡ 0 = less b inside ∙ rw (eq-eqb b place same) refl in omega (arith, one, zero))
+      | inr other ↦ sym (before b inside other) ∙ one
+    ]);
+    done = λ b j inside there set none. (elim (cases_eq b place) [
+      | inl same ↦ rw (same, get_or-set_same new (base + place) word 0 (omega arith)) (put j there ∙ ap (λ n. set_bit n low j) here)
+      | inr other ↦ rw (get_or-set_other new (base + place) (base + b) word 0 (λ e. other (omega arith)))
+          (so_far.done b j inside there set (sym (before b inside other) ∙ none))
+    ]);
+    same = λ b inside unset. (elim (cases_eq b place) [
+      | inl same ↦ absurd (
+          let zero : bit_at next b ≡ 0 = less b inside ∙ rw (eq-eqb b place same) refl in
+          let one : bit_at bits b ≡ 1 = ap (bit_at bits) same ∙ so_far.among place within is in
+          omega (arith, zero, one, unset))
+      | inr other ↦ get_or-set_other new (base + place) (base + b) word 0 (λ e. other (omega arith)) ∙ so_far.same b inside (sym (before b inside other) ∙ unset)
+    ]);
+    rest = λ k other. (let differ : k ≢ base + place = elim other [ inl under ↦ (λ same. absurd (omega arith)) | inr behind ↦ (λ same. absurd (omega arith)) ] in
+        get_or-set_other new (base + place) k word 0 differ ∙ so_far.rest k other);
+  }
+    where
+      before : (b : ℕ) → b < 64 → b ≢ place → bit_at next b ≡ bit_at left b
+      before b inside other = less b inside ∙ rw (ne_eqb b place other) refl
+
+      here : get_or new (base + place) 0 ≡ get_or old (base + place) 0
+      here = so_far.same place within (is ∙ sym (so_far.among place within is))
+
+-- ---- and those of a row
+
+-- the first w words of row `at` are set
+pub record SetUpTo (at w : ℕ) (bits old new : List ℕ) : Type 0 where
+  pub size : length new ≡ length old
+  pub done : (c j : ℕ) → c < 64 * w → j < 64 → bit_at (get_or new (at / 64 * 512 + c) 0) j ≡ put_in_bit (get_or old (at / 64 * 512 + c) 0) (at % 64) (get_or bits (c / 64) 0) (c % 64) j
+  pub rest : (k : ℕ) → (k < at / 64 * 512) ⊎ (at / 64 * 512 + 64 * w ≤ k) → get_or new k 0 ≡ get_or old k 0
+
+pub up_to_none : (at : ℕ) (bits old : List ℕ) → SetUpTo at 0 bits old old
+up_to_none at bits old = record { size = refl; done = λ c j below within. absurd (omega arith); rest = λ k other. refl }
+
+module _ (at w bits_word : ℕ) (bits old mid new : List ℕ) (up : w < 8) (clear : IsClear old at) (so_far : SetUpTo at w bits old mid)
+    (is : bits_word ≡ get_or bits w 0)
+    (set_of : (b j : ℕ) → b < 64 → j < 64 → bit_at bits_word b ≡ 1 → bit_at (get_or new (at / 64 * 512 + 64 * w + b) 0) j ≡ set_bit (get_or mid (at / 64 * 512 + 64 * w + b) 0) (at % 64) j)
+    (unset : (b : ℕ) → b < 64 → bit_at bits_word b ≡ 0 → get_or new (at / 64 * 512 + 64 * w + b) 0 ≡ get_or mid (at / 64 * 512 + 64 * w + b) 0)
+    (others : (k : ℕ) → (k < at / 64 * 512 + 64 * w) ⊎ (at / 64 * 512 + 64 * w + 64 ≤ k) → get_or new k 0 ≡ get_or mid k 0)
+    (size : length new ≡ length mid) where
+  pub up_to_more : SetUpTo at (w + 1) bits old new
+  up_to_more = record {
+    size = size ∙ so_far.size;
+    done = λ c j below within. (elim (cases_lt c (64 * w)) [
+      | inl before ↦ ap (λ n. bit_at n j) (others (at / 64 * 512 + c) (inl (omega arith))) ∙ so_far.done c j before within
+      | inr from ↦ in_word c j from below within
+    ]);
+    rest = λ k other. others k (elim other [ inl under ↦ inl (omega arith) | inr behind ↦ inr (omega arith) ])
+        ∙ so_far.rest k (elim other [ inl under ↦ inl under | inr behind ↦ inr (omega arith) ]);
+  }
+    where
+      in_word : (c j : ℕ) → 64 * w ≤ c → c < 64 * (w + 1) → j < 64 → bit_at (get_or new (at / 64 * 512 + c) 0) j ≡ put_in_bit
+          (get_or old (at / 64 * 512 + c) 0) (at % 64) (get_or bits (c / 64) 0) (c % 64) j
+      in_word c j from below within =
+          let b = c % 64 in
+          let place : at / 64 * 512 + c ≡ at / 64 * 512 + 64 * w + b = omega arith in
+          let word : c / 64 ≡ w = omega arith in
+          let was : get_or mid (at / 64 * 512 + 64 * w + b) 0 ≡ get_or old (at / 64 * 512 + 64 * w + b) 0 = so_far.rest (at / 64 * 512 + 64 * w + b) (inr (omega arith)) in
+          rw (place, word, ← is) (elim (cases_eq (bit_at bits_word b) 1) [
+            | inl one ↦ set_of b j (omega arith) within one ∙ ap (λ n. set_bit n (at % 64) j) was ∙ rw one refl
+            | inr other ↦
+                (let zero : bit_at bits_word b ≡ 0 = omega (arith, bit_at-lt bits_word b) in
+                ap (λ n. bit_at n j) (unset b (omega arith) zero ∙ was) ∙ elim (cases_eq j (at % 64)) [
+                  | inl same ↦
+                      (let there : at / 64 * 512 + 64 * w + b ≡ 512 * (at / 64) + c = omega arith in
+                      rw (eq-eqb j (at % 64) same, zero, same, there) (clear c (omega arith)))
+                  | inr differ ↦ rw (ne_eqb j (at % 64) differ) refl
+                ])
+          ])
+
+pub up_to_all : (at : ℕ) (bits old new : List ℕ) → SetUpTo at 8 bits old new → IsPut at bits old new
+up_to_all at bits old new all = put_all at bits old new (record { size = all.size; done = all.done; rest = all.rest })
+
+-- ---- a row is put in
+
+pub inserted_last : (at : ℕ) (bits old new : List ℕ) → ((i : ℕ) → at ≤ i → IsClear old i) → IsPut at bits old new → IsInserted at bits old new
+inserted_last at bits old new clear put i b bit = put i b bit ∙ elim (cases_lt i at) [
+  | inl before ↦ rw (lt-ltb i at before, ne_eqb i at (λ same. absurd (omega arith))) refl
+  | inr from ↦ rw (le-ltb i at from) (elim (cases_eq i at) [
+    | inl same ↦ rw (eq-eqb i at same) refl
+    | inr other ↦ rw (ne_eqb i at other) (clear i (omega arith) b bit ∙ sym (clear (i - 1) (omega arith) b bit))
+  ])
+]
+
+pub inserted_within : (rows at : ℕ) (bits old mid new : List ℕ) → at < rows → ((i : ℕ) → rows ≤ i → IsClear old i) → IsOpened (rows / 64 + 1) at old mid
+    → ((i b : ℕ) → 64 * (rows / 64 + 1) ≤ i → b < 512 → cell mid i b ≡ cell old i b) → IsPut at bits mid new → IsInserted at bits old new
+inserted_within rows at bits old mid new within clear opened behind put i b bit = put i b bit ∙ elim (cases_eq i at) [
+  | inl same ↦ rw (eq-eqb i at same, le-ltb i at (omega arith)) refl
+  | inr other ↦ rw (ne_eqb i at other) (elim (cases_lt i (64 * (rows / 64 + 1))) [
+    | inl own ↦ opened i b own bit other
+    | inr later ↦ behind i b later bit ∙ rw (le-ltb i at (omega arith)) (clear i (omega arith) b bit ∙ sym (clear (i - 1) (omega arith) b bit))
+  ])
 ]

@@ -4,13 +4,14 @@
 --     from_is                         the bits from a place on
 --     closed_is, opened_is            a bit is taken out, and put in
 --     put_in_is                       a bit of another word in place of one
+--     set_is                          a bit is set
 use Rattle.std.proofs.Common.{◌≡◌, ◌≢◌, ℕ, ◌+◌, ◌-◌, ◌*◌, ◌/◌, ◌%◌, ◌^◌, ◌<◌, ◌≤◌, inl, inr, min, max, sym, ap, ◌∙◌, arith, add-zero}
 use Rattle.std.specs.Int.{bit_at, bit_not, trailing_zeros, w64}
 use Rattle.std.specs.Prelude.{bit_and, bit_or}
 use Rattle.std.proofs.lemmas.Bool.{cases_eq, cases_lt, eq-eqb, le-ltb, lt-ltb, ne_eqb}
 use Rattle.std.proofs.lemmas.Nat.{and_le_l, and_mask, pow_pos, shr-shr}
 use Rattle.std.proofs.lemmas.Nat.Bits.{bit_at-lt, bit_at-trailing_zeros, bit_at-zero, bit_at_above, bit_at_and, bit_at_cat_high, bit_at_cat_low, bit_at_clear_other, bit_at_clear_same, bit_at_mask_below, bit_at_mask_inside, bit_at_not, bit_at_ones, bit_at_or, ones_shl, shr_and_one}
-use Rattle.mk_index.specs.Words.{closed_bit, from_bit, opened_bit, put_in_bit, without_bit}
+use Rattle.mk_index.specs.Words.{closed_bit, from_bit, opened_bit, put_in_bit, set_bit, without_bit}
 
 -- ---- shifts and masks
 
@@ -192,3 +193,21 @@ module _ (word low bits place : ℕ) (within : low < 64) (k : ℕ) (below : k < 
             rw (eq-eqb k low same) (omega (arith, clear, at_same same)))
         | inr other ↦ rw (ne_eqb k low other) (omega (arith, bit_at_clear_other w64 word low within k below other, at_other other))
       ]
+
+-- ---- a bit is set
+
+pub set_is : (word low : ℕ) → low < 64 → (k : ℕ) → k < 64 → bit_at (bit_or word (1 * 2 ^ low % 2 ^ 64)) k ≡ set_bit word low k
+set_is word low within k below =
+    bit_at_or word (1 * 2 ^ low % 2 ^ 64) k ∙ elim (cases_eq k low) [
+      | inl same ↦
+          (let none : k - low ≡ 0 = omega arith in
+          let one : bit_at (1 * 2 ^ low % 2 ^ 64) k ≡ 1 = shl_from 1 low k below (omega arith) ∙ ap (bit_at 1) none in
+          rw (eq-eqb k low same) (omega (arith, one, bit_at-lt word k)))
+      | inr other ↦ rw (ne_eqb k low other) (omega (arith, off other))
+    ]
+  where
+    off : k ≢ low → bit_at (1 * 2 ^ low % 2 ^ 64) k ≡ 0
+    off other = elim (cases_lt k low) [
+      | inl before ↦ shl_below 1 low k below before
+      | inr from ↦ (let above : 1 ≤ k - low = omega arith in shl_from 1 low k below from ∙ bit_at_above 1 1 (k - low) (omega arith) above)
+    ]

@@ -1,6 +1,5 @@
 -- For the code: looks at screens by their places.
 --     IsPostedAt screens need i       the screen at place i has each bit of the need
---     IsCovered screens need i        it covers the need
 --     NoneCovers screens need low high      none from one place up to another does
 --     IsFirstFrom screens need low i  the first from a place on that does
 --     LooksTo screens need low high old new      looks at screens between two places, each at most

@@ -4,11 +4,11 @@ ghost use Rattle.mk_query.specs.InRange.{HaveFewProperties, IsQueryInRange};
 ghost use Rattle.mk_rgfile.specs.QueryFacts.{member_count};
 ghost use Rattle.mk_kept.specs.QueryText.{IsRawSaid, IsTextSaid, OneSaid};
 
-use mk_ctab::TableFault;
 use mk_model::Query;
 use mk_outside::Memory;
 use mk_query::{CompileFault, compile, fault_or_query, one_first_fault, one_query};
 use mk_rgfile::{RawQuery, query_file_is_exact, read_rgfile};
+use mk_tables::TableFault;
 use std::alloc::Global;
 
 /// What a text is as a query file.

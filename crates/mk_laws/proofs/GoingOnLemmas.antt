@@ -49,7 +49,7 @@ order_goes_on : KeepingLaws → (files : Option Look) (t : Tables) (order : Orde
 order_goes_on laws files t None effect asks comes go = refused_goes_on t effect _ comes go
 order_goes_on laws files t (Some command) effect asks comes go = command_goes_on laws files t command effect asks comes go
 
-orders_go_on : KeepingLaws → (files : Option Look) (t : Tables) (orders : List Order) (effects : List Effect)
+pub orders_go_on : KeepingLaws → (files : Option Look) (t : Tables) (orders : List Order) (effects : List Effect)
     → AllByRecursion CanAskOrder orders → Does files t orders effects → CanGoOn t → CanGoOn (after_effects effects t)
 orders_go_on laws files t [] [] ask does go = go
 orders_go_on laws files t [] (effect ∷ effects) ask does go = absurd does
@@ -67,7 +67,7 @@ kind_asks line_kind.Blank asks = tt
 kind_asks line_kind.NoCommand asks = (tt, tt)
 kind_asks (line_kind.Is command) asks = (asks, tt)
 
-lines_ask : (lines : List (List ℕ)) → AllByRecursion CanAskOrder (orders_of lines)
+pub lines_ask : (lines : List (List ℕ)) → AllByRecursion CanAskOrder (orders_of lines)
 lines_ask [] = tt
 lines_ask (line ∷ lines) = all_more (orders_of_kind (kind_of_line line)) (orders_of lines) (kind_asks (kind_of_line line) (can_ask_line line (kind_of_line line) refl)) (lines_ask lines)
 

@@ -64,7 +64,7 @@ lines_more xs ys =
 -- ---- what is asked
 
 -- a script within its limit
-asked_short : (text : List ℕ) → length text ≤ script_bytes → asked_of_script text ≡ Orders (orders_of (lines_of text))
+pub asked_short : (text : List ℕ) → length text ≤ script_bytes → asked_of_script text ≡ Orders (orders_of (lines_of text))
 asked_short text short = rw (le-ltb script_bytes (length text) short) refl
 
 same_orders : (asked : Asked) (orders others : List Order) → asked ≡ Orders orders → asked ≡ Orders others → others ≡ orders
@@ -81,13 +81,13 @@ one_line_done t asked line ends (SomeRefused d) (ScriptLong e a b) = let h = sym
 one_line_done t asked line ends (SomeRefused d) (BadStore orders e kind number bad a b) = let h = sym d ∙ b in cc
 
 -- the effects of a run of commands
-record IsCommandRun (files : Option Look) (t : Tables) (orders : List Order) (added : List ℕ) (left : Tables) (ends : Status) : Type 0 where
-  reads : AllRead t
-  effects : List Effect
-  does : Does files t orders effects
-  adds : added ≡ texts effects
-  leaves : left ≡ after_effects effects t
-  status : ends ≡ status_behind effects
+pub record IsCommandRun (files : Option Look) (t : Tables) (orders : List Order) (added : List ℕ) (left : Tables) (ends : Status) : Type 0 where
+  pub reads : AllRead t
+  pub effects : List Effect
+  pub does : Does files t orders effects
+  pub adds : added ≡ texts effects
+  pub leaves : left ≡ after_effects effects t
+  pub status : ends ≡ status_behind effects
 
 of_first : (files : Option Look) (t : Tables) (asked : Asked) (orders : List Order) (added : List ℕ) (left : Tables)
     (ends : Status) → asked ≡ Orders orders → IsAllDone ends → IsRun files t asked added left ends
@@ -96,7 +96,7 @@ of_first files t asked orders added left ends is done (OneLine one a) = absurd (
 of_first files t asked orders added left ends is done (Commands others e reads effects does a b s) =
     record { reads = reads; effects = effects; does = subst (λ (os : List Order). Does files t os effects) (same_orders asked orders others is e) does; adds = a; leaves = b; status = s }
 
-of_second : (files : Option Look) (t : Tables) (asked : Asked) (orders : List Order) (added : List ℕ) (left : Tables)
+pub of_second : (files : Option Look) (t : Tables) (asked : Asked) (orders : List Order) (added : List ℕ) (left : Tables)
     (ends : Status) → asked ≡ Orders orders → AllRead t → IsRun files t asked added left ends
     → IsCommandRun files t orders added left ends
 of_second files t asked orders added left ends is reads (OneLine one a) = absurd (no_line t asked orders added ends is reads one)
@@ -107,7 +107,7 @@ joined_if : (a b : Bool) → joined (ending_if a) (ending_if b) ≡ ending_if (a
 joined_if true b = refl
 joined_if false b = refl
 
-both_runs : (files : Option Look) (t t1 t2 : Tables) (xs ys : List Order) (a b : List ℕ) (ends1 ends2 : Status) (asked : Asked) → asked ≡ Orders (xs ++ ys)
+pub both_runs : (files : Option Look) (t t1 t2 : Tables) (xs ys : List Order) (a b : List ℕ) (ends1 ends2 : Status) (asked : Asked) → asked ≡ Orders (xs ++ ys)
     → IsCommandRun files t xs a t1 ends1 → IsCommandRun files t1 ys b t2 ends2 → IsRun files t asked (a ++ b) t2 (joined ends1 ends2)
 both_runs files t t1 t2 xs ys a b ends1 ends2 asked is d e =
     Commands (xs ++ ys) is d.reads (d.effects ++ e.effects)

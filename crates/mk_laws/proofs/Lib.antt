@@ -12,3 +12,5 @@ pub mod TextValueLemmas
 pub mod EffectValueLemmas
 pub mod KeptValueLemmas
 pub mod RunValueLemmas
+pub mod RestartsLemmas
+pub mod HistoryLemmas

@@ -7,7 +7,7 @@ use Rattle.std.specs.Prelude.{◌⊎◌, ◌↔◌, IsSome}
 use Rattle.std.proofs.lemmas.Bool.{cases_lt, true≢false}
 use Rattle.mk_text.specs.Lines.{lines_of}
 use Rattle.mk_form.proofs.Stops.{bad_line_is_stop, stop_is_named, text_or_bad}
-use Rattle.mk_ctab.specs.TableLines.{Line}
+use Rattle.mk_tables.specs.TableLines.{Line}
 use Rattle.mk_rgfile.specs.declared.raw_query.RawQuery.{RawQuery}
 use Rattle.mk_rgfile.specs.QueryFile.{IsBadQueryLine, IsQueryFile, IsV3000Line}
 use Rattle.mk_rgfile.proofs.ForCallers.{query_keeps}

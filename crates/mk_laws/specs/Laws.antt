@@ -3,7 +3,6 @@
 --     RunsKeepReading   tables that a run leaves read, where those before it did
 --     OneEffect         over told files an order without a budget comes to at most one effect
 --     OneRun            so a run over told files without budgets has at most one outcome
---     OneSaid           at most one thing is said of a text as a query file
 use Rattle.std.specs.Prelude.{◌≡◌, ℕ, ◌≤◌, List, [], ◌∷◌, ◌++◌, length, Option, Some}
 use Rattle.std.specs.List.{AllByRecursion}
 use Rattle.mk_outside.specs.declared.tables.Tables.{Tables}

@@ -1,2 +1,4 @@
 pub mod Laws
 pub mod Values
+pub mod Restarts
+pub mod Sessions

@@ -1,6 +1,10 @@
 // Laws over runs, each carried by a function that does nothing.
 ghost use Rattle.mk_laws.specs.Laws.{OneEffect, OneRun, RunsKeepReading, TwoScripts};
-ghost use Rattle.mk_kept.specs.QueryText.{OneSaid};
+ghost use Rattle.std.specs.Prelude.{List};
+ghost use Rattle.mk_outside.specs.declared.tables.RecordRow.{RecordRow};
+ghost use Rattle.mk_model.specs.Nodes.{AheadAddsUp};
+ghost use Rattle.mk_library.specs.Records.{IsMoleculeAt};
+ghost use Rattle.mk_session.specs.StepTicks.{ResumesBeginUpToPlace, SearchesBeginUpToPlace};
 
 use mk_drill::one_drill;
 use mk_library::{edits_keep_reading, records_change_alone};
@@ -46,3 +50,15 @@ pub fn one_run()
     one_filled_molecule();
     one_drill();
 }
+
+/// What a search within a budget begins, and what a further part of it does, goes up to the place that
+/// is saved.
+pub fn begins_go_up_to_the_place()
+    ensures search { SearchesBeginUpToPlace }
+    ensures resume { ResumesBeginUpToPlace }
+{}
+
+/// What lies ahead between the places of a search adds up, over the molecules of records.
+pub fn parts_of_a_search_add_up()
+    ensures { (records : List RecordRow) → AheadAddsUp (IsMoleculeAt records) }
+{}

@@ -6,9 +6,9 @@
 //! (`specs/Pieces.antt` there). By it the bonds of a template are written in one go (`bonds`), and
 //! the atoms with attachment points (`atoms`).
 //!
-//! The modules serve mk_expand, which makes the graphs of codes, and mk_open_codes and mk_open,
-//! which make those of open codes; no other crate calls them. How a code is read, which atoms and
-//! free ends there are, and the marks of bonds are left to these.
+//! The modules serve mk_expand, which makes the graphs of codes and of open codes; no other crate
+//! calls them. How a code is read, which atoms and free ends there are, and the marks of bonds are
+//! left to it.
 #![tactic(auto)]
 
 pub mod atoms;

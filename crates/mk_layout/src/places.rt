@@ -175,7 +175,7 @@ impl<'a> Layout<'a> {
     }
 
     /// The number of the slot that takes the atom at place i of the list, and 0 where none does.
-    pub fn taker_at(&self, i: usize) -> u32
+    fn taker_at(&self, i: usize) -> u32
         requires { i < length self.now.template.atoms }
         ensures is { result ≡ taker self.now.template (i + 1) }
         ensures within { result ≤ length self.now.pieces }
@@ -194,7 +194,7 @@ impl<'a> Layout<'a> {
     }
 
     /// How many atoms stand before those that the atom at place i of the list becomes.
-    pub fn before_at(&self, i: usize) -> u32
+    fn before_at(&self, i: usize) -> u32
         requires { i < length self.now.template.atoms }
         ensures is { result ≡ room self.now.template self.now.pieces i }
         ensures small { result ≤ 512 }

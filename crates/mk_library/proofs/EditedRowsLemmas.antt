@@ -13,7 +13,7 @@ use Rattle.mk_outside.specs.Tables.{after_batch, record_number}
 use Rattle.mk_sdfile.specs.declared.raw_record.RawRecord.{RawRecord}
 use Rattle.mk_sdfile.specs.Sdfile.{IsSdfile}
 use Rattle.mk_sdfile.proofs.SdfileTextLemmas.{text_is_its_record}
-use Rattle.mk_ctab.specs.KeptTables.{KeepsItsText}
+use Rattle.mk_tables.specs.KeptTables.{KeepsItsText}
 use Rattle.mk_mol.specs.FirstFault.{known_atoms, known_properties}
 use Rattle.mk_mol.proofs.LawLemmas.{keeps_text}
 use Rattle.mk_library.specs.Limits.{IsWithinLimits, file_bytes}

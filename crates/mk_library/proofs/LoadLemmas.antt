@@ -14,7 +14,7 @@ use Rattle.mk_sdfile.specs.declared.raw_record.RawRecord.{RawRecord}
 use Rattle.mk_sdfile.specs.Sdfile.{IsSdfile}
 use Rattle.mk_sdfile.proofs.ForCallers.{text_is_its_record}
 use Rattle.mk_text.specs.Lines.{lines_of}
-use Rattle.mk_ctab.specs.KeptTables.{KeepsItsText}
+use Rattle.mk_tables.specs.KeptTables.{KeepsItsText}
 use Rattle.mk_mol.specs.FirstFault.{MeetsAllChecks, known_atoms, known_properties}
 use Rattle.mk_mol.specs.Filled.{IsFilled}
 use Rattle.mk_mol.proofs.ForCallers.{keeps_text}

@@ -1,16 +1,16 @@
 // The records of a molecules' file, and their molecules.
 ghost use Rattle.std.specs.Prelude.{◌≡◌, ◌≢◌, ◌<◌, ◌^◌, true, false, All, IfOk, length};
 ghost use Rattle.mk_text.specs.Lines.{lines_of};
-ghost use Rattle.mk_ctab.specs.TableFacts.{IsRawTable};
+ghost use Rattle.mk_tables.specs.TableFacts.{IsRawTable};
 ghost use Rattle.mk_library.specs.FirstRefusal.{HoldsMolecule, HoldsText, IfRefused, IsFirstFileRefusal};
 ghost use Rattle.mk_library.specs.Steps.{ArePreparedOf, IsFileAnswer, IsOnlyAnswer, IsTextAnswer};
 
 use crate::LoadRefusal;
-use mk_ctab::TableFault;
 use mk_model::Mol;
 use mk_mol::{PrepareFault, prepare};
 use mk_outside::{Bytes, Memory};
 use mk_sdfile::{RawRecord, RawRecords, read_sdfile};
+use mk_tables::TableFault;
 use std::alloc::Global;
 
 /// How many bytes a molecules' file may have.

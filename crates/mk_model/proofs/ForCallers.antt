@@ -22,6 +22,7 @@
 --     no_repeat                   no atom stands at two places of a hit
 --     codes_listed, valid_codes_listed    the plain program lists the structural codes, and the valid ones
 --     all_1 .. pairs_two          what each of a few items, or each two of them, keeps
+--     ahead_adds_up               what lies ahead adds up, whatever molecules are held
 use Rattle.std.proofs.Common.{◌≡◌, ◌≤◌, ◌<◌, ◌+◌, ◌-◌, ℕ, zero, suc, Bool, true, false, cond, List, [], ◌∷◌, refl, length, get_or, take, arith}
 use Rattle.mk_model.specs.declared.edge.Edge.{Edge}
 use Rattle.mk_model.specs.Edges.{degree, numbers_from, numbers_at, touches}
@@ -46,6 +47,7 @@ pub use Rattle.mk_model.proofs.TurnLemmas.{not_below_through, not_below_front, b
 pub use Rattle.mk_model.proofs.HydrogenLemmas.{host_in_range, host_only, neighbour_only, no_host, one_host}
 pub use Rattle.mk_model.proofs.OnceLemmas.{embedding_of, no_embedding, no_repeat}
 pub use Rattle.mk_model.proofs.KeysLemmas.{code_of_valid, one_code, read_one_way, begins_no_occurrence, begins_no_key}
+pub use Rattle.mk_model.proofs.NodesLemmas.{ahead_adds_up}
 
 -- among bonds that are numbered from j on, k numbers one of atom n
 pub record IsNumberFrom (j : ℕ) (bonds : List Edge) (n k : ℕ) : Type 0 where

@@ -11,7 +11,7 @@
 --     Ahead Held query from to count        so many nodes lie above one place and not above another
 --     SameFrom P here there                 the same lists that have P remain from either place on
 --     Pays P from owed to owing             what a turn passes, and owes before and behind it
---     AheadAddsUp                           what lies between a place and a second, and that and a
+--     AheadAddsUp Held                      what lies between a place and a second, and that and a
 --                                           third, adds up
 -- `Held n mol` says that the molecule is held under the number n.
 use Rattle.std.specs.Prelude.{◌≡◌, ◌≢◌, ◌≤◌, ◌+◌, ◌⊎◌, ℕ, List, [], ◌∷◌, ◌++◌, length, All, AllPairs}
@@ -19,7 +19,6 @@ use Rattle.mk_text.specs.Rising.{Holds, IsBelow, Rises}
 use Rattle.mk_model.specs.Codes.{IsCode}
 use Rattle.mk_model.specs.Expansions.{IsExpansion}
 use Rattle.mk_model.specs.Graphs.{GraphView}
-use Rattle.mk_model.specs.Keys.{IsAmong}
 use Rattle.mk_model.specs.Molecules.{Molecule}
 use Rattle.mk_model.specs.Queries.{QueryView}
 
@@ -80,9 +79,9 @@ pub record Pays (P : List ℕ → Type 0) (from : List ℕ) (owed : ℕ) (to : L
 
 -- what lies between a place and a second that isn't below it, and between that and a third, lies
 -- between the first and the third
-abbrev pub AheadAddsUp : Type 0
-AheadAddsUp =
-    (molecules : List (ℕ × Molecule)) (query : QueryView) (from through to : List ℕ) (j k : ℕ)
+abbrev pub AheadAddsUp : (ℕ → Molecule → Type 0) → Type 0
+AheadAddsUp Held =
+    (query : QueryView) (from through to : List ℕ) (j k : ℕ)
     → (IsBelow through from → ⊥) → (IsBelow to through → ⊥)
-    → Ahead (IsAmong molecules) query from through j → Ahead (IsAmong molecules) query through to k
-    → Ahead (IsAmong molecules) query from to (j + k)
+    → Ahead Held query from through j → Ahead Held query through to k
+    → Ahead Held query from to (j + k)

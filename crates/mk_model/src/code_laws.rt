@@ -1,7 +1,9 @@
 // Laws of structural codes, of labels, of keys and of nodes, each carried by a function that does nothing.
+ghost use Rattle.std.specs.Prelude.{ℕ, List};
 ghost use Rattle.mk_model.specs.Codes.{CodesAreReadOneWay, NoCodeBeginsAnother};
 ghost use Rattle.mk_model.specs.Hits.{EmbeddingsHaveHits, HitsAreOneByHydrogens};
-ghost use Rattle.mk_model.specs.Keys.{NoKeyBeginsAnother, OccurrencesAreReadOneWay};
+ghost use Rattle.mk_model.specs.Keys.{IsAmong, NoKeyBeginsAnother, OccurrencesAreReadOneWay};
+ghost use Rattle.mk_model.specs.Molecules.{Molecule};
 ghost use Rattle.mk_model.specs.Nodes.{AheadAddsUp};
 ghost use Rattle.mk_model.specs.PlainCodes.{ValidCodesAreListed};
 ghost use Rattle.mk_model.specs.SingleLabels.{SingleLabelsAsBefore};
@@ -37,9 +39,10 @@ pub fn single_labels_are_as_before()
     ensures { SingleLabelsAsBefore }
 {}
 
-/// What lies ahead from a place to a second, and from there to a third, adds up.
+/// What lies ahead from a place to a second, and from there to a third, adds up. `AheadAddsUp` says it
+/// of any molecules that are held, and crates above say it of theirs.
 pub fn ahead_adds_up()
-    ensures { AheadAddsUp }
+    ensures { (molecules : List (ℕ × Molecule)) → AheadAddsUp (IsAmong molecules) }
 {}
 
 /// Each embedding has a hit that agrees with it at all atoms but plain hydrogens, and hits that agree

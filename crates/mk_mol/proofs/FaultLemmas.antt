@@ -4,7 +4,7 @@ use Rattle.std.specs.Prelude.{if◌then◌else◌, ◌==◌}
 use Rattle.std.proofs.lemmas.Bool.{cases_lt}
 use Rattle.std.proofs.lemmas.Bool.Decides.{nat_tests}
 use Rattle.std.proofs.lemmas.List.{nil_from_length}
-use Rattle.mk_ctab.specs.declared.raw.RawTable.{RawTable}
+use Rattle.mk_tables.specs.declared.raw.RawTable.{RawTable}
 use Rattle.mk_text.specs.Items.{OfItem, IsLeastFailing}
 use Rattle.mk_mol.specs.Checks.{IsOfMolecules}
 use Rattle.mk_mol.specs.FirstFault.{MoleculeCheck, known_atoms, new_bonds, known_types, few_bonds, named_atoms, known_values, known_properties, molecule_check_number, MoleculeDemands, MeetsCheck, MeetsAllChecks, MeetsChecksBelow, IsFirstMoleculeFault}

@@ -10,8 +10,8 @@ use Rattle.mk_model.specs.Edges.{numbers_at, rows_of}
 use Rattle.mk_model.proofs.ForCallers.{length-numbers_from, length-rows_of}
 use Rattle.mk_valence.specs.Hydrogens.{added_hydrogens}
 use Rattle.mk_model.specs.declared.molecule.Atom.{Atom}
-use Rattle.mk_ctab.specs.declared.raw.RawAtom.{RawAtom}
-use Rattle.mk_ctab.specs.declared.raw.RawTable.{RawTable}
+use Rattle.mk_tables.specs.declared.raw.RawAtom.{RawAtom}
+use Rattle.mk_tables.specs.declared.raw.RawTable.{RawTable}
 use Rattle.mk_mol.specs.declared.bond_checks.Drawn.{Drawn}
 use Rattle.mk_demands.specs.Numbers.{IsWithin, natural, byte}
 use Rattle.mk_demands.specs.Bonds.{raw_edge, edges_of}

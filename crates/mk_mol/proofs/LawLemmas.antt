@@ -12,9 +12,9 @@ use Rattle.mk_model.specs.declared.edge.Edge.{Edge}
 use Rattle.mk_model.specs.declared.molecule.Atom.{Atom}
 use Rattle.mk_model.specs.declared.molecule.MolBond.{MolBond}
 use Rattle.mk_model.specs.Molecules.{Molecule, HasMarks, edge_of, edges}
-use Rattle.mk_ctab.specs.declared.raw.RawAtom.{RawAtom}
-use Rattle.mk_ctab.specs.declared.raw.RawTable.{RawTable}
-use Rattle.mk_ctab.specs.KeptTables.{EndsWithoutCr, HoldsNoText}
+use Rattle.mk_tables.specs.declared.raw.RawAtom.{RawAtom}
+use Rattle.mk_tables.specs.declared.raw.RawTable.{RawTable}
+use Rattle.mk_tables.specs.KeptTables.{EndsWithoutCr, HoldsNoText}
 use Rattle.mk_demands.specs.Bonds.{edges_of}
 use Rattle.mk_mol.specs.Checks.{IsKnownAtom, IsOfMolecules}
 use Rattle.mk_mol.specs.Filled.{AreGains, AreWrittenAtoms, IsWrittenAtom, hydrogen_atom, hydrogen_bonds, owners}

@@ -7,8 +7,8 @@ use Rattle.std.proofs.lemmas.Option.{get_or_from_slice_get, slice_get-get_or, sl
 use Rattle.mk_elements.specs.Symbols.{NamesElement}
 use Rattle.mk_model.specs.declared.molecule.Atom.{Atom}
 use Rattle.mk_demands.specs.declared.charges.Electrons.{Electrons}
-use Rattle.mk_ctab.specs.declared.raw.RawAtom.{RawAtom}
-use Rattle.mk_ctab.specs.declared.raw.RawTable.{RawTable}
+use Rattle.mk_tables.specs.declared.raw.RawAtom.{RawAtom}
+use Rattle.mk_tables.specs.declared.raw.RawTable.{RawTable}
 use Rattle.mk_demands.specs.Charges.{AreElectrons}
 use Rattle.mk_mol.specs.Filled.{AreWrittenAtoms, IsWrittenAtom}
 

@@ -1,5 +1,5 @@
 -- What the checks demand of a molecule's table alone, item by item. What is demanded of any table's
--- bonds and values stands in mk_ctab.
+-- bonds and values stands in mk_tables.
 --     IsKnownAtom atom                 an element's symbol, and columns that mean something
 --     HasKnownType bond                type 1 to 4
 --     IsOfMolecules property           a property that a molecule may have
@@ -7,8 +7,8 @@ use Rattle.std.specs.Prelude.{ℕ, pos, List}
 use Rattle.mk_elements.specs.Symbols.{NamesElement}
 use Rattle.mk_props.specs.declared.property.Property.{Property}
 use Rattle.mk_props.specs.declared.property.Property.TheVariants as kinds
-use Rattle.mk_ctab.specs.declared.raw.RawAtom.{RawAtom}
-use Rattle.mk_ctab.specs.declared.raw.RawBond.{RawBond}
+use Rattle.mk_tables.specs.declared.raw.RawAtom.{RawAtom}
+use Rattle.mk_tables.specs.declared.raw.RawBond.{RawBond}
 use Rattle.mk_demands.specs.Numbers.{IsWithin}
 
 -- the bytes name an element

@@ -12,8 +12,8 @@ use Rattle.mk_model.specs.declared.molecule.Atom.{Atom}
 use Rattle.mk_model.specs.Edges.{touches}
 use Rattle.mk_model.specs.Molecules.{Molecule, edges}
 use Rattle.mk_valence.specs.Hydrogens.{added_hydrogens}
-use Rattle.mk_ctab.specs.declared.raw.RawAtom.{RawAtom}
-use Rattle.mk_ctab.specs.declared.raw.RawTable.{RawTable}
+use Rattle.mk_tables.specs.declared.raw.RawAtom.{RawAtom}
+use Rattle.mk_tables.specs.declared.raw.RawTable.{RawTable}
 use Rattle.mk_demands.specs.Bonds.{edges_of}
 use Rattle.mk_demands.specs.Charges.{charge_at, radical_at}
 use Rattle.mk_demands.specs.Numbers.{natural}

@@ -7,7 +7,7 @@
 --                                        least item
 use Rattle.std.specs.Prelude.{◌≡◌, ◌<◌, ℕ, [], length}
 use Rattle.mk_text.specs.Items.{IsLeastFailing, OfItem}
-use Rattle.mk_ctab.specs.declared.raw.RawTable.{RawTable}
+use Rattle.mk_tables.specs.declared.raw.RawTable.{RawTable}
 use Rattle.mk_demands.specs.Bonds.{edges_of, HasFewBonds, IsNewBondAt}
 use Rattle.mk_demands.specs.Values.{HasKnownValues, NamesAtoms}
 use Rattle.mk_mol.specs.Checks.{IsKnownAtom, HasKnownType, IsOfMolecules}

@@ -5,8 +5,8 @@
 --     PassingTablesKeepTheirText   a table whose atoms and properties are known keeps its text
 use Rattle.std.specs.Prelude.{◌≡◌, ℕ}
 use Rattle.mk_model.specs.Molecules.{Molecule, IsMolecule}
-use Rattle.mk_ctab.specs.declared.raw.RawTable.{RawTable}
-use Rattle.mk_ctab.specs.KeptTables.{HoldNoTexts, KeepsItsText}
+use Rattle.mk_tables.specs.declared.raw.RawTable.{RawTable}
+use Rattle.mk_tables.specs.KeptTables.{HoldNoTexts, KeepsItsText}
 use Rattle.mk_mol.specs.FirstFault.{IsFirstMoleculeFault, MeetsCheck, MeetsAllChecks, known_atoms, known_properties}
 use Rattle.mk_mol.specs.Filled.{IsFilled}
 

@@ -2,7 +2,7 @@
 --     IsDrawn table drawn               the edges of all bonds, and the numbers of each atom's
 use Rattle.std.specs.Prelude.{◌≡◌, length}
 use Rattle.mk_model.specs.Edges.{IsSimple, rows_of}
-use Rattle.mk_ctab.specs.declared.raw.RawTable.{RawTable}
+use Rattle.mk_tables.specs.declared.raw.RawTable.{RawTable}
 use Rattle.mk_demands.specs.Bonds.{edges_of}
 use Rattle.mk_mol.specs.declared.bond_checks.Drawn.{Drawn}
 

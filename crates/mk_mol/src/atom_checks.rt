@@ -3,9 +3,9 @@ ghost use Rattle.std.specs.Prelude.{◌≤◌, ◌↔◌, IsTrue, length};
 ghost use Rattle.mk_text.specs.Items.{FindsLeast, OfItem};
 ghost use Rattle.mk_mol.specs.Checks.{IsKnownAtom, IsElementSymbol};
 
-use mk_ctab::RawAtom;
 use mk_demands::is_within;
 use mk_elements::number_of;
+use mk_tables::RawAtom;
 
 /// The first atom that has an unknown symbol, charge or valence.
 pub fn first_unknown_atom(atoms: &[RawAtom]) -> Option<u32>

@@ -9,9 +9,9 @@ ghost use Rattle.mk_mol.specs.FirstFault.{IsFirstMoleculeFault, MeetsChecksBelow
 ghost use Rattle.mk_mol.specs.Search.{IsDrawn};
 
 use crate::PrepareFault;
-use mk_ctab::{RawBond, RawTable};
 use mk_demands::{edges_between, first_crowded_atom, first_no_new_bond, is_within};
 use mk_model::{Edge, Neighbours};
+use mk_tables::{RawBond, RawTable};
 use std::alloc::Global;
 
 /// The bonds as edges, and the numbers of each atom's bonds.

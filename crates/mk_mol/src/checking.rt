@@ -8,7 +8,7 @@ use crate::PrepareFault;
 use crate::atom_checks::first_unknown_atom;
 use crate::bond_checks::{Drawn, check_bonds};
 use crate::property_checks::{first_foreign, first_misnamed, first_unknown_value};
-use mk_ctab::RawTable;
+use mk_tables::RawTable;
 use std::alloc::Global;
 
 /// The bonds of a table that passes every check, or the first check that fails.

@@ -7,9 +7,9 @@ ghost use Rattle.mk_mol.specs.Search.{IsDrawn};
 use crate::bond_checks::Drawn;
 use crate::hydrogen_filling::{add_hydrogens, gains_of};
 use crate::written_atoms::written_atoms;
-use mk_ctab::RawTable;
 use mk_model::{Memory, Mol, Neighbours};
 use mk_rings::marked_bonds;
+use mk_tables::RawTable;
 use std::alloc::Global;
 
 /// The filled molecule.

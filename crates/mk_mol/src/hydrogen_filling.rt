@@ -1,6 +1,6 @@
 // The hydrogens that the written atoms gain, and their bonds.
 ghost use Rattle.std.specs.Prelude.{◌≡◌, ◌≤◌, ◌<◌, ◌+◌, ◌++◌, ◌^◌, All, IfOk, OnOk, Some, length, replicate, slice_get, sum, take};
-ghost use Rattle.mk_ctab.specs.declared.raw.RawAtom.{RawAtom as Line};
+ghost use Rattle.mk_tables.specs.declared.raw.RawAtom.{RawAtom as Line};
 ghost use Rattle.mk_demands.specs.Numbers.{natural};
 ghost use Rattle.mk_valence.specs.Hydrogens.{added_hydrogens};
 ghost use Rattle.mk_mol.specs.Filled.{AreGains, gained_by, hydrogen_atom, hydrogen_bonds, owners};
@@ -10,9 +10,9 @@ ghost use Rattle.mk_mol.specs.Putting.{IsSound, kinds_of};
 ghost use Rattle.mk_mol.specs.Search.{IsDrawn};
 
 use crate::bond_checks::Drawn;
-use mk_ctab::{RawAtom, RawTable};
 use mk_demands::byte;
 use mk_model::{Atom, Edge, Memory};
+use mk_tables::{RawAtom, RawTable};
 use mk_valence::hydrogens;
 use std::alloc::Global;
 

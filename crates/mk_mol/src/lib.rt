@@ -7,7 +7,7 @@
 //! A table that passes keeps its text (`passing_table_keeps_its_text`), and no table has two first
 //! faults or two filled molecules (`specs/Laws.antt`).
 //!
-//! How a table is read is left to mk_ctab, how many hydrogens an atom gains to mk_valence, and
+//! How a table is read is left to mk_tables, how many hydrogens an atom gains to mk_valence, and
 //! which bonds are ring bonds or aromatic to mk_rings.
 #![tactic(auto)]
 

@@ -8,8 +8,8 @@ ghost use Rattle.mk_mol.specs.FirstFault.{IsFirstMoleculeFault, MeetsAllChecks};
 use crate::PrepareFault;
 use crate::checking::check_all;
 use crate::filling::fill;
-use mk_ctab::RawTable;
 use mk_model::Mol;
+use mk_tables::RawTable;
 use std::alloc::Global;
 
 /// The filled molecule of a table, or the first check that the table fails.

@@ -8,10 +8,10 @@ ghost use Rattle.mk_mol.specs.Filled.{AreWrittenAtoms};
 ghost use Rattle.mk_mol.specs.FirstFault.{MeetsAllChecks};
 ghost use Rattle.mk_mol.specs.Putting.{IsSound};
 
-use mk_ctab::RawTable;
 use mk_demands::{Electrons, charges_and_radicals};
 use mk_elements::number_of;
 use mk_model::{Atom, Memory};
+use mk_tables::RawTable;
 use std::alloc::Global;
 
 /// The atoms of the atom lines, with the charges and radicals that hold.

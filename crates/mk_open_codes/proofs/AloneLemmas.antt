@@ -24,13 +24,15 @@ use Rattle.mk_model.proofs.ForCallers.{embedding_of, one_choice}
 use Rattle.mk_screen.proofs.LossFreeLemmas.{covers_of_embedding}
 use Rattle.mk_open_codes.specs.Alone.{AloneFrontsHoldNone, HoldsNoneAlone, SlotsHoldNone, alone_code}
 use Rattle.mk_open_codes.specs.Fronts.{FrontsHoldNone, RootNeed, front_code}
-use Rattle.mk_open_codes.specs.OpenCodes.{Agrees, Completes, IsOpenChoice, IsOpenCode, OpenChoice, open_spelling}
-use Rattle.mk_open_codes.specs.OpenCodes.OpenChoice.{no_more, undecided, repeats, vacates, fills}
-use Rattle.mk_open_codes.specs.OpenGraphs.{IsOpenGraph}
-use Rattle.mk_open_codes.specs.Opening.{HasOpenCode}
+use Rattle.mk_expand.specs.OpenCodes.{IsOpenChoice, IsOpenCode, OpenChoice, open_spelling}
+use Rattle.mk_open_codes.specs.Completions.{Agrees, Completes}
+use Rattle.mk_expand.specs.OpenCodes.OpenChoice.{no_more, undecided, repeats, vacates, fills}
+use Rattle.mk_expand.specs.OpenGraphs.{IsOpenGraph}
+use Rattle.mk_open_codes.specs.Passing.{HasOpenCode}
 use Rattle.mk_open_codes.proofs.FrontLemmas.{all_open, all_open_made, all_open_spelt, all_open_agrees, completed, has_open_code, none_inside, own_code, zeros_add}
 use Rattle.mk_open_codes.proofs.LawLemmas.{held, no_hit}
-use Rattle.mk_open_codes.proofs.SplitLemmas.{first_made, first_of, heads, number_at, number_is, number_within, rest_of, split_spelt, tails}
+use Rattle.mk_open_codes.proofs.SplitLemmas.{first_made, first_of, number_at, number_is, number_within, rest_of, split_spelt}
+use Rattle.mk_expand.proofs.OneChoiceLemmas.{heads, tails}
 
 -- ---- numbers
 

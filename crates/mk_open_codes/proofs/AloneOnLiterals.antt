@@ -9,7 +9,7 @@ use Rattle.mk_model.proofs.FitsOnLiterals.{query, root}
 use Rattle.mk_model.proofs.OnLiterals.{group, plain_group, single}
 use Rattle.mk_open_codes.specs.Alone.{ArePlaces, IsAloneCode, IsPlaceOf}
 use Rattle.mk_open_codes.specs.Fronts.{IsFrontCode}
-use Rattle.mk_open_codes.specs.OpenCodes.OpenChoice.{fills, no_more, repeats, undecided, vacates}
+use Rattle.mk_expand.specs.OpenCodes.OpenChoice.{fills, no_more, repeats, undecided, vacates}
 
 -- ---- a link, and a site of two labels with three members
 

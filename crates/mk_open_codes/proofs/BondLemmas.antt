@@ -22,15 +22,15 @@ use Rattle.mk_model.specs.QueryFits.{IsAtomOf}
 use Rattle.mk_model.specs.Templates.{TemplateView}
 use Rattle.mk_pieces.specs.Fragments.{HasRange}
 use Rattle.mk_pieces.specs.Rooms.{IsWithin}
-use Rattle.mk_pieces.proofs.DrawnLemmas.{drawn_inside, drawn_outside, drawn_spans}
-use Rattle.mk_pieces.proofs.PieceLemmas.{FitsSlot, fit_at}
+use Rattle.mk_pieces.proofs.DrawnLemmas.{drawn_inside, drawn_outside, drawn_spans, ending_is_of}
+use Rattle.mk_pieces.proofs.PieceLemmas.{FitsSlot, all_stand, fit_at}
 use Rattle.mk_pieces.proofs.SpanLemmas.{IsOf, Spans, one_atom}
 use Rattle.mk_pieces.proofs.StandLemmas.{own_only}
 use Rattle.mk_pieces.proofs.TakerLemmas.{taker_is_slot}
 use Rattle.mk_pieces.proofs.TemplateLemmas.{bonds_within}
-use Rattle.mk_open_codes.specs.OpenGraphs.{is_loose}
-use Rattle.mk_open_codes.proofs.CountLemmas.{count_mapped, count_none, count_same, one_if}
-use Rattle.mk_open_codes.proofs.PlaceLemmas.{IsLevel, IsPlaceOf, ending_is_of, ending_moved, grows, image_at, image_of, level_places, own_places, place_within, same_place}
+use Rattle.mk_expand.specs.OpenGraphs.{is_loose}
+use Rattle.mk_expand.proofs.CountLemmas.{count_mapped, count_none, count_same, one_if}
+use Rattle.mk_open_codes.proofs.PlaceLemmas.{IsLevel, IsPlaceOf, ending_moved, grows, image_at, image_of, level_places, own_places, place_within, same_place}
 use Rattle.mk_open_codes.proofs.SharedLemmas.{GrowsBy, numbers_image, numbers_size, places_numbered, still_stands}
 use Rattle.mk_open_codes.proofs.SpokeLemmas.{IsEndSo, meets_at, no_spoke, pieces_claim, pieces_lower, spanned_count, spoke, spoke_between}
 
@@ -165,7 +165,7 @@ module _ (template : TemplateView) (ps qs : List Piece) (others : List (List ℕ
           ap (λ (q : ℕ). eqb q (e p)) (sym end.is) ∙ same_place template ps qs others level (ending template ps u v) p inside.0 inside.1 here.0 here.1;
       same_test = λ some. ap P (sym (ending_moved template ps qs others level u v is least some).is);
       elsewhere = λ none some. elim (cases_eq (ending template qs u v) (e p)) [
-        | inl same ↦ absurd (let of = ending_is_of template qs level.fit u v is.0 least some in
+        | inl same ↦ absurd (let of = ending_is_of template qs (all_stand template.slots qs level.fit) u v is.0 least some in
             let own = one_atom template qs u x (e p) (subst (IsOf template qs u) same of) (image_of template ps qs others level x j p at) in
             stands_there (ap (λ (w : ℕ). is_nothing (piece template ps w)) (sym own) ∙ none))
         | inr differ ↦ grind (arith, nat_tests)
@@ -256,7 +256,7 @@ module _ (template : TemplateView) (ps qs : List Piece) (others : List (List ℕ
               let second : piece template ps bond.second ≡ Nothing = ap (piece_numbered ps) (sym link.same) ∙ none_there in
               let away = no_spokes bond.first bond.second (λ same. stands_there (ap is_nothing (ap (piece template ps) same ∙ none_there)))
               (λ same. stands_there (ap is_nothing (ap (piece template ps) same ∙ second))) (drawn template qs bond)
-              (drawn_spans template qs level.fit bond within (All-contains HasRange template.bonds bond level.kept.bond_tests held)) in
+              (drawn_spans template qs (all_stand template.slots qs level.fit) bond within (All-contains HasRange template.bonds bond level.kept.bond_tests held)) in
               omega (arith, none, away))
         ]
 

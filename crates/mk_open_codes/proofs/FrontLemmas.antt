@@ -25,12 +25,13 @@ use Rattle.mk_model.specs.Queries.{QueryView, slots_of}
 use Rattle.mk_model.specs.QueryFits.{QueryFits}
 use Rattle.mk_model.proofs.ForCallers.{below_next, embedding_of, one_choice}
 use Rattle.mk_open_codes.specs.Fronts.{FrontsAreCompleted, FrontsArePassedOver, FrontsHaveOpenCodes, front_code}
-use Rattle.mk_open_codes.specs.OpenCodes.{Agrees, Completes, IsOpenChoice, IsOpenCode, OpenChoice, open_spelling}
-use Rattle.mk_open_codes.specs.OpenCodes.OpenChoice.{no_more, undecided, repeats, vacates, fills}
-use Rattle.mk_open_codes.specs.OpenGraphs.{IsOpenGraph}
+use Rattle.mk_expand.specs.OpenCodes.{IsOpenChoice, IsOpenCode, OpenChoice, open_spelling}
+use Rattle.mk_open_codes.specs.Completions.{Agrees, Completes}
+use Rattle.mk_expand.specs.OpenCodes.OpenChoice.{no_more, undecided, repeats, vacates, fills}
+use Rattle.mk_expand.specs.OpenGraphs.{IsOpenGraph}
 use Rattle.mk_open_codes.proofs.LawLemmas.{no_hit}
-use Rattle.mk_open_codes.proofs.OpenChoiceLemmas.{one_open_choice}
-use Rattle.mk_open_codes.proofs.SplitLemmas.{heads, tails}
+use Rattle.mk_expand.proofs.OneChoiceLemmas.{one_open_choice}
+use Rattle.mk_expand.proofs.OneChoiceLemmas.{heads, tails}
 
 -- ---- numbers
 

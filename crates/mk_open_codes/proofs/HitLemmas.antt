@@ -28,8 +28,9 @@ use Rattle.mk_model.specs.Tests.{accepts, asked_kind, charge_fits, hydrogens_fit
 use Rattle.mk_text.proofs.ForCallers.{both as both_parts, or_left, or_right}
 use Rattle.mk_model.proofs.ForCallers.{at_place}
 use Rattle.mk_pieces.proofs.JoiningLemmas.{in_mapped}
-use Rattle.mk_open_codes.specs.OpenGraphs.{weaker_atom, weaker_bond, weaker_kind, weaker_rings}
-use Rattle.mk_open_codes.proofs.CountLemmas.{Ends, count_mapped, count_same, counted_within, one_if, with_ends}
+use Rattle.mk_expand.specs.OpenGraphs.{weaker_atom, weaker_bond, weaker_kind, weaker_rings}
+use Rattle.mk_expand.proofs.CountLemmas.{count_mapped, count_same, one_if}
+use Rattle.mk_open_codes.proofs.PairLemmas.{Ends, counted_within, with_ends}
 use Rattle.mk_open_codes.proofs.SharedLemmas.{IsShared, moved}
 use Rattle.mk_open_codes.proofs.SpokeLemmas.{meets_at, spoke}
 

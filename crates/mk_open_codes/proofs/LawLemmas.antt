@@ -13,10 +13,12 @@ use Rattle.mk_model.specs.Queries.{QueryView, slots_of}
 use Rattle.mk_model.proofs.ForCallers.{embedding_of, one_choice, place_within}
 use Rattle.mk_screen.proofs.LossFreeLemmas.{covers_of_embedding}
 use Rattle.mk_open_codes.specs.Laws.{CompletionsCoverItsNeed, CompletionsHoldTheOpenGraph, IsHeldBy, NoHitNoCompletion}
-use Rattle.mk_open_codes.specs.OpenCodes.{Agrees, Completes, OpenChoice, open_spelling}
-use Rattle.mk_open_codes.specs.OpenGraphs.{IsOpenGraph, open_expansion}
+use Rattle.mk_expand.specs.OpenCodes.{OpenChoice, open_spelling}
+use Rattle.mk_open_codes.specs.Completions.{Agrees, Completes}
+use Rattle.mk_expand.specs.OpenGraphs.{IsOpenGraph, open_expansion}
 use Rattle.mk_open_codes.proofs.HitLemmas.{Draws, DrawsWeaker, hit_shared}
-use Rattle.mk_open_codes.proofs.OpenChoiceLemmas.{one_open_choice, template_shared}
+use Rattle.mk_open_codes.proofs.OpenChoiceLemmas.{template_shared}
+use Rattle.mk_expand.proofs.OneChoiceLemmas.{one_open_choice}
 use Rattle.mk_open_codes.proofs.SharedLemmas.{IsShared}
 
 -- the choices of a completing code and of its open code agree

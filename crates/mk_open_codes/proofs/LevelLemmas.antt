@@ -1,12 +1,11 @@
 -- One template: what it becomes in a part is shared with what it becomes in the whole.
---     loosened_length, loosened_at     atoms with their loose ends
---     opened_size                      how many atoms a template has become
---     level_shared                     the theorem
+--     loosened_at      atoms with their loose ends
+--     level_shared     the theorem
 use Rattle.std.proofs.Common.{◌≡◌, ◌∙◌, ℕ, zero, suc, ◌+◌, ◌-◌, ◌<◌, ◌≤◌, inl, Bool, true, false, ◌||◌, eqb, List, [], ◌∷◌, length, get_or, map, replicate, refl, sym, ap, subst, arith}
 use Rattle.std.specs.Prelude.{Contains, count_by}
 use Rattle.std.specs.List.{flat_map}
 use Rattle.std.proofs.lemmas.Bool.Decides.{nat_tests}
-use Rattle.std.proofs.lemmas.List.{get_or-map, get_or_default, get_or-replicate, length-map, length-replicate}
+use Rattle.std.proofs.lemmas.List.{get_or-map, get_or_default, get_or-replicate, length-map}
 use Rattle.std.proofs.lemmas.List.Elements.{Contains-get_or}
 use Rattle.mk_model.specs.declared.graph.GraphAtom.{GraphAtom}
 use Rattle.mk_model.specs.declared.template.QueryBond.{QueryBond}
@@ -14,30 +13,29 @@ use Rattle.mk_model.specs.declared.template.Slot.{Slot}
 use Rattle.mk_model.specs.declared.template.Slot.TheVariants.{Link, Site}
 use Rattle.mk_model.specs.Expansions.{all_within, anything, atoms_of, atoms_of_piece, copies, drawn, free_ends, hydrogen, joined}
 use Rattle.mk_model.specs.Hits.{image}
-use Rattle.mk_model.specs.Pieces.{Piece, before, numbers_to, piece, piece_numbered, room, taker, width}
+use Rattle.mk_model.specs.Pieces.{Piece, before, numbers_to, piece, piece_numbered, taker, width}
 use Rattle.mk_model.specs.Pieces.Piece.{Copies, Member, Hydrogens, Nothing}
 use Rattle.mk_model.specs.QueryFits.{HoldsItsBlock}
 use Rattle.mk_model.specs.Sizes.{takes_atom}
 use Rattle.mk_model.specs.Templates.{TemplateView, is_in_block}
 use Rattle.mk_pieces.specs.Kept.{IsTemplate}
-use Rattle.mk_pieces.proofs.NumberLemmas.{mapped_at, mapped_length}
+use Rattle.mk_pieces.proofs.JoinedLemmas.{length_piece}
+use Rattle.mk_pieces.proofs.NumberLemmas.{mapped_at}
 use Rattle.mk_pieces.proofs.TakerLemmas.{taker_is_slot}
-use Rattle.mk_open_codes.specs.OpenGraphs.{bare_atoms, bare_atoms_of, is_loose, loose_ends, loosened, opened}
+use Rattle.mk_expand.specs.OpenGraphs.{bare_atoms, bare_atoms_of, is_loose, loose_ends, loosened, opened}
 use Rattle.mk_open_codes.proofs.BondLemmas.{bond_claim, bond_lower}
-use Rattle.mk_open_codes.proofs.CountLemmas.{count_append, count_flat, one_if, sums_below, sums_meet}
-use Rattle.mk_open_codes.proofs.FreeLemmas.{frees_within}
+use Rattle.mk_expand.proofs.CountLemmas.{count_append, count_flat, one_if, sums_below, sums_meet}
+use Rattle.mk_expand.proofs.FreeLemmas.{frees_within}
+use Rattle.mk_expand.proofs.OpenedLemmas.{bare_length, bare_size}
+use Rattle.mk_expand.proofs.StandLemmas.{joined_size, opened_size}
 use Rattle.mk_open_codes.proofs.LowerLemmas.{slots_lower}
 use Rattle.mk_open_codes.proofs.MovedLemmas.{bonds_moved}
-use Rattle.mk_open_codes.proofs.PlaceLemmas.{IsLevel, IsOwned, IsPlaceOf, grows, image_at, image_of, image_place, laid_at, laid_length, level_places, level_rise, level_size, own_places, owner, place_within}
+use Rattle.mk_open_codes.proofs.PlaceLemmas.{IsLevel, IsOwned, IsPlaceOf, grows, image_at, image_of, image_place, laid_at, level_places, level_rise, level_size, own_places, owner, place_within}
 use Rattle.mk_open_codes.proofs.SharedLemmas.{GrowsBy, IsShared, numbers_image, places_numbered}
 use Rattle.mk_open_codes.proofs.SlotLemmas.{member_free, slots_claim}
 use Rattle.mk_open_codes.proofs.SpokeLemmas.{spoke}
 
 -- ---- atoms with their loose ends
-
-loosened_length : (template : TemplateView) (pieces : List Piece) (p : ℕ) (atoms : List GraphAtom) → length (loosened template pieces p atoms) ≡ length atoms
-loosened_length template pieces p [] = refl
-loosened_length template pieces p (atom ∷ atoms) = ap suc (loosened_length template pieces (p + 1) atoms)
 
 -- the test and the free ends at a place
 record IsLoosened (template : TemplateView) (pieces : List Piece) (p : ℕ) (bare atom : GraphAtom) : Type 0 where
@@ -53,34 +51,6 @@ loosened_at template pieces p (suc k) d (atom ∷ atoms) below =
     let same : p + 1 + k ≡ p + suc k = omega arith in
     record { test = rest.test; free = rest.free ∙ ap (λ (q : ℕ). (get_or atoms k d).free + loose_ends template pieces q) same }
 
-bare_length : (template : TemplateView) (x : ℕ) (p : Piece) → length (bare_atoms template x p) ≡ width p
-bare_length template x (Copies n) = length-replicate {A = GraphAtom} n (record { test = get_or template.atoms (x - 1) anything; free = 0 })
-bare_length template x (Member part) = refl
-bare_length template x (Hydrogens n) = length-replicate {A = GraphAtom} n hydrogen
-bare_length template x Nothing = refl
-
-whole_length : (template : TemplateView) (pieces : List Piece) (x : ℕ) (p : Piece) → length (atoms_of_piece template pieces x p) ≡ width p
-unfolding copies
-whole_length template pieces x (Copies n) =
-    mapped_length (λ j. record { test = get_or template.atoms (x - 1) anything; free = free_ends template pieces template.slots pieces (before template pieces x + j) }) n
-whole_length template pieces x (Member part) = refl
-whole_length template pieces x (Hydrogens n) = length-replicate {A = GraphAtom} n hydrogen
-whole_length template pieces x Nothing = refl
-
-bare_size : (template : TemplateView) (pieces : List Piece) → length (bare_atoms_of template pieces (length template.atoms)) ≡ room template pieces (length template.atoms)
-unfolding bare_atoms_of
-bare_size template pieces = laid_length template pieces (λ x. bare_atoms template x (piece template pieces x)) (λ x. bare_length template x (piece template pieces x)) (length template.atoms)
-
--- how many atoms a template has become
-pub opened_size : (template : TemplateView) (pieces : List Piece) → length (opened template pieces).atoms ≡ room template pieces (length template.atoms)
-unfolding opened
-opened_size template pieces = loosened_length template pieces 1 (bare_atoms_of template pieces (length template.atoms)) ∙ bare_size template pieces
-
-joined_size : (template : TemplateView) (pieces : List Piece) → length (joined template pieces).atoms ≡ room template pieces (length template.atoms)
-unfolding joined atoms_of
-joined_size template pieces =
-    laid_length template pieces (λ x. atoms_of_piece template pieces x (piece template pieces x)) (λ x. whole_length template pieces x (piece template pieces x)) (length template.atoms)
-
 -- the atom at a place
 part_atom : (template : TemplateView) (pieces : List Piece) (x j p : ℕ) (d : GraphAtom) → IsPlaceOf template pieces x j p
     → IsLoosened template pieces p (get_or (bare_atoms template x (piece template pieces x)) (j - 1) d) (get_or (opened template pieces).atoms (p - 1) d)
@@ -89,7 +59,7 @@ part_atom template pieces x j p d at =
     let f : ℕ → List GraphAtom = λ y. bare_atoms template y (piece template pieces y) in
     let inside = place_within template pieces x j p at in
     let start : p - 1 ≡ before template pieces x + (j - 1) = omega (arith, at.is, at.least) in
-    let below : p - 1 < length (bare_atoms_of template pieces (length template.atoms)) = omega (arith, bare_size template pieces, inside.0, inside.1) in
+    let below : p - 1 < length (bare_atoms_of template pieces (length template.atoms)) = omega (arith, bare_size template pieces (length template.atoms), inside.0, inside.1) in
     let loose = loosened_at template pieces 1 (p - 1) d (bare_atoms_of template pieces (length template.atoms)) below in
     let place : 1 + (p - 1) ≡ p = omega (arith, inside.0) in
     let found : get_or (bare_atoms_of template pieces (length template.atoms)) (p - 1) d ≡ get_or (bare_atoms template x (piece template pieces x)) (j - 1) d =
@@ -108,7 +78,7 @@ whole_atom template pieces x j p d at =
     let f : ℕ → List GraphAtom = λ y. atoms_of_piece template pieces y (piece template pieces y) in
     let start : p - 1 ≡ before template pieces x + (j - 1) = omega (arith, at.is, at.least) in
     ap (λ (i : ℕ). get_or (flat_map f (numbers_to (length template.atoms))) i d) start
-    ∙ laid_at template pieces f (λ y. whole_length template pieces y (piece template pieces y)) (length template.atoms) x (j - 1) d at.at.0 at.at.1 (omega (arith, at.least, at.most))
+    ∙ laid_at template pieces f (λ y. length_piece template pieces y (piece template pieces y)) (length template.atoms) x (j - 1) d at.at.0 at.at.1 (omega (arith, at.least, at.most))
 
 -- ---- one piece
 

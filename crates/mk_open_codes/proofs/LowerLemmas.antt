@@ -18,7 +18,7 @@ use Rattle.mk_pieces.proofs.SpanLemmas.{IsOf, Spans, one_atom}
 use Rattle.mk_pieces.proofs.TakerLemmas.{taker_of_slot}
 use Rattle.mk_pieces.proofs.TemplateLemmas.{slots_stand}
 use Rattle.mk_pieces.proofs.WithinLemmas.{within_at, within_both}
-use Rattle.mk_open_codes.proofs.CountLemmas.{count_none, totals_below}
+use Rattle.mk_expand.proofs.CountLemmas.{count_none, totals_below}
 use Rattle.mk_open_codes.proofs.MovedLemmas.{slot_moved}
 use Rattle.mk_open_codes.proofs.PlaceLemmas.{IsLevel, IsPlaceOf, grows, image_of, level_places, own_places}
 use Rattle.mk_open_codes.proofs.SharedLemmas.{GrowsBy, moved, same_size}
@@ -64,7 +64,7 @@ module _ (template : TemplateView) (ps qs : List Piece) (others : List (List ℕ
       both : (b : QueryBond) → Contains (within_at template qs template.slots qs k) b
           → Spans template qs (slot_atom (get_or template.slots k (Link 0 0 0 0))) (slot_atom (get_or template.slots k (Link 0 0 0 0))) b
       both = (within_both template qs level.kept.bond_tests (get_or template.slots k (Link 0 0 0 0)) (get_or qs k (Copies 1)) slot.stands.0
-          (slot_piece template level.kept qs level.fit k below) slot.fits).0
+          (slot_piece template level.kept qs k below) (inr slot.fits)).0
 
       not_there : (q : ℕ) → IsOf template qs (slot_atom (get_or template.slots k (Link 0 0 0 0))) (image (level_places template qs others) q) → q ≢ p
       not_there q of same =

@@ -1,10 +1,9 @@
 -- Open choices: read one way, and shared by the choices that agree with them.
---     one_open_choice     numbers that begin with an open choice at some slots begin with no other
 --     law                 numbers spell at most one open choice
 --     pieces_grow         what slots become by an open choice stands in what they become by a choice
 --                         that agrees
 --     root_shared         so what the root becomes is shared
-use Rattle.std.proofs.Common.{◌≡◌, ◌∙◌, ℕ, ◌<◌, Bool, true, false, cond, List, [], ◌∷◌, ◌++◌, length, refl, sym, ap, subst, arith, append_assoc}
+use Rattle.std.proofs.Common.{◌≡◌, ◌∙◌, ℕ, ◌<◌, Bool, true, false, cond, List, [], ◌∷◌, ◌++◌, length, refl, sym, ap, subst}
 use Rattle.mk_model.specs.declared.template.Slot.{Slot}
 use Rattle.mk_model.specs.declared.template.Slot.TheVariants.{Link, Site}
 use Rattle.mk_model.specs.Codes.{Choice, IsChoice}
@@ -18,85 +17,16 @@ use Rattle.mk_model.specs.QueryFits.{QueryFits}
 use Rattle.mk_model.specs.Templates.{neighbour_count}
 use Rattle.mk_pieces.proofs.ChoiceFits.{AreKnownSlots, chosen_there, kept_template, known_slots, slots_of_template, template_fit}
 use Rattle.mk_pieces.proofs.EndLemmas.{sites_apart}
-use Rattle.mk_open_codes.specs.OpenCodes.{Agrees, IsOpenChoice, OpenChoice, OpenCodesAreReadOneWay, open_spelling}
-use Rattle.mk_open_codes.specs.OpenCodes.OpenChoice.{no_more, undecided, repeats, vacates, fills}
-use Rattle.mk_open_codes.specs.OpenGraphs.{open_expansion, open_pieces, opened}
+use Rattle.mk_expand.specs.OpenCodes.{OpenChoice, open_spelling}
+use Rattle.mk_open_codes.specs.Completions.{Agrees, OpenCodesAreReadOneWay}
+use Rattle.mk_expand.specs.OpenCodes.OpenChoice.{no_more, undecided, repeats, vacates, fills}
+use Rattle.mk_expand.specs.OpenGraphs.{open_expansion, open_pieces, opened}
+use Rattle.mk_expand.proofs.OneChoiceLemmas.{one_open_choice}
 use Rattle.mk_open_codes.proofs.LevelLemmas.{level_shared}
 use Rattle.mk_open_codes.proofs.PlaceLemmas.{IsLevel, level_places}
 use Rattle.mk_open_codes.proofs.SharedLemmas.{AllGrow, GrowsBy, IsShared}
-use Rattle.mk_open_codes.proofs.SplitLemmas.{heads, tails}
 
 -- ---- read one way
-
--- two open choices are one, and so is what comes behind their numbers
-pub record AreOneOpen (choice other : OpenChoice) (rest others : List ℕ) : Type 0 where
-  pub choices : choice ≡ other
-  pub rests : rest ≡ others
-
--- numbers that begin with an open choice at some slots begin with no other
-pub one_open_choice : (query : QueryView) (slots : List Slot) (choice other : OpenChoice) (rest others : List ℕ)
-    → IsOpenChoice query slots choice → IsOpenChoice query slots other → open_spelling choice ++ rest ≡ open_spelling other ++ others → AreOneOpen choice other rest others
-one_open_choice query [] no_more no_more rest others is is' same = record { choices = refl; rests = same }
-one_open_choice query [] no_more (undecided more) rest others is is' same = absurd is'
-one_open_choice query [] no_more (repeats n more) rest others is is' same = absurd is'
-one_open_choice query [] no_more (vacates n more) rest others is is' same = absurd is'
-one_open_choice query [] no_more (fills k inside more) rest others is is' same = absurd is'
-one_open_choice query [] (undecided more) other rest others is is' same = absurd is
-one_open_choice query [] (repeats n more) other rest others is is' same = absurd is
-one_open_choice query [] (vacates n more) other rest others is is' same = absurd is
-one_open_choice query [] (fills k inside more) other rest others is is' same = absurd is
-one_open_choice query (slot ∷ slots) (undecided more) (undecided more') rest others is is' same =
-    let behind = one_open_choice query slots more more' rest others is is' (tails 0 0 _ _ same) in
-    record { choices = ap undecided behind.choices; rests = behind.rests }
-one_open_choice query (Link atom most from to ∷ slots) no_more other rest others is is' same = absurd is
-one_open_choice query (Link atom most from to ∷ slots) (vacates n more) other rest others is is' same = absurd is
-one_open_choice query (Link atom most from to ∷ slots) (fills k inside more) other rest others is is' same = absurd is
-one_open_choice query (Link atom most from to ∷ slots) (undecided more) no_more rest others is is' same = absurd is'
-one_open_choice query (Link atom most from to ∷ slots) (undecided more) (repeats n' more') rest others is is' same = absurd (omega (arith, heads 0 n' _ _ same, is'.0))
-one_open_choice query (Link atom most from to ∷ slots) (undecided more) (vacates n' more') rest others is is' same = absurd is'
-one_open_choice query (Link atom most from to ∷ slots) (undecided more) (fills k' inside' more') rest others is is' same = absurd is'
-one_open_choice query (Link atom most from to ∷ slots) (repeats n more) no_more rest others is is' same = absurd is'
-one_open_choice query (Link atom most from to ∷ slots) (repeats n more) (undecided more') rest others is is' same = absurd (omega (arith, heads n 0 _ _ same, is.0))
-one_open_choice query (Link atom most from to ∷ slots) (repeats n more) (vacates n' more') rest others is is' same = absurd is'
-one_open_choice query (Link atom most from to ∷ slots) (repeats n more) (fills k' inside' more') rest others is is' same = absurd is'
-one_open_choice query (Link atom most from to ∷ slots) (repeats n more) (repeats n' more') rest others is is' same =
-    let behind = one_open_choice query slots more more' rest others is.2 is'.2 (tails n n' _ _ same) in
-    let number = heads n n' _ _ same in
-    let choices = behind.choices in
-    record { choices = cc; rests = behind.rests }
-one_open_choice query (Site atom groups first second ∷ slots) no_more other rest others is is' same = absurd is
-one_open_choice query (Site atom groups first second ∷ slots) (repeats n more) other rest others is is' same = absurd is
-one_open_choice query (Site atom groups first second ∷ slots) (undecided more) no_more rest others is is' same = absurd is'
-one_open_choice query (Site atom groups first second ∷ slots) (undecided more) (repeats n' more') rest others is is' same = absurd is'
-one_open_choice query (Site atom groups first second ∷ slots) (undecided more) (vacates n' more') rest others is is' same = absurd (omega (arith, heads 0 n' _ _ same, is'.0))
-one_open_choice query (Site atom groups first second ∷ slots) (undecided more) (fills k' inside' more') rest others is is' same = absurd (omega (arith, heads 0 k' _ _ same, is'.0))
-one_open_choice query (Site atom groups first second ∷ slots) (vacates n more) no_more rest others is is' same = absurd is'
-one_open_choice query (Site atom groups first second ∷ slots) (vacates n more) (undecided more') rest others is is' same = absurd (omega (arith, heads n 0 _ _ same, is.0))
-one_open_choice query (Site atom groups first second ∷ slots) (vacates n more) (repeats n' more') rest others is is' same = absurd is'
-one_open_choice query (Site atom groups first second ∷ slots) (vacates n more) (vacates n' more') rest others is is' same =
-    let behind = one_open_choice query slots more more' rest others is.1 is'.1 (tails n n' _ _ same) in
-    let number = heads n n' _ _ same in
-    let choices = behind.choices in
-    record { choices = cc; rests = behind.rests }
-one_open_choice query (Site atom groups first second ∷ slots) (vacates n more) (fills k' inside' more') rest others is is' same =
-    absurd (omega (arith, heads n k' _ _ same, is.0, is'.1))
-one_open_choice query (Site atom groups first second ∷ slots) (fills k inside more) no_more rest others is is' same = absurd is'
-one_open_choice query (Site atom groups first second ∷ slots) (fills k inside more) (undecided more') rest others is is' same = absurd (omega (arith, heads k 0 _ _ same, is.0))
-one_open_choice query (Site atom groups first second ∷ slots) (fills k inside more) (repeats n' more') rest others is is' same = absurd is'
-one_open_choice query (Site atom groups first second ∷ slots) (fills k inside more) (vacates n' more') rest others is is' same =
-    absurd (omega (arith, heads k n' _ _ same, is.1, is'.0))
-one_open_choice query (Site atom groups first second ∷ slots) (fills k inside more) (fills k' inside' more') rest others is is' same =
-    let number = heads k k' _ _ same in
-    let made : IsOpenChoice query (slots_of query (member query (Site atom groups first second) k)) inside' =
-    subst (λ (n : ℕ). IsOpenChoice query (slots_of query (member query (Site atom groups first second) n)) inside')
-    (sym number) is'.2 in
-    let both : open_spelling inside ++ (open_spelling more ++ rest) ≡ open_spelling inside' ++ (open_spelling more' ++ others) =
-    sym (append_assoc (open_spelling inside) (open_spelling more) rest) ∙ tails k k' _ _ same ∙ append_assoc (open_spelling inside') (open_spelling more') others in
-    let first = one_open_choice query (slots_of query (member query (Site atom groups first second) k)) inside inside' (open_spelling more ++ rest) (open_spelling more' ++ others) is.2 made both in
-    let behind = one_open_choice query slots more more' rest others is.3 is'.3 first.rests in
-    let choices = behind.choices in
-    let insides = first.choices in
-    record { choices = cc; rests = behind.rests }
 
 pub law : OpenCodesAreReadOneWay
 law query t open_code one other =

@@ -12,9 +12,10 @@ use Rattle.mk_model.specs.Pieces.{ending, room, taker}
 use Rattle.mk_model.specs.Labels.{joint_members}
 use Rattle.mk_model.specs.Queries.{QueryView}
 use Rattle.mk_model.specs.Templates.{TemplateView, hang_together}
-use Rattle.mk_open_codes.specs.OpenCodes.{Agrees, IsOpenChoice, open_spelling}
-use Rattle.mk_open_codes.specs.OpenCodes.OpenChoice.{fills, no_more, repeats, undecided, vacates}
-use Rattle.mk_open_codes.specs.OpenGraphs.{bare_atoms_of, loose_ends, open_expansion, open_pieces, opened, weaker_atom, weaker_bond}
+use Rattle.mk_expand.specs.OpenCodes.{IsOpenChoice, open_spelling}
+use Rattle.mk_open_codes.specs.Completions.{Agrees}
+use Rattle.mk_expand.specs.OpenCodes.OpenChoice.{fills, no_more, repeats, undecided, vacates}
+use Rattle.mk_expand.specs.OpenGraphs.{bare_atoms_of, loose_ends, open_expansion, open_pieces, opened, weaker_atom, weaker_bond}
 
 -- the test for an element
 abbrev of : ℕ → AtomTest

@@ -22,11 +22,12 @@ use Rattle.mk_pieces.proofs.ForCallers.{labels_known}
 use Rattle.mk_layout.proofs.SlotLemmas.{goes_on}
 use Rattle.mk_open_codes.specs.Alone.{ArePlaces, IsPlaceOf}
 use Rattle.mk_open_codes.specs.Fronts.{IsFrontCode, front_code}
-use Rattle.mk_open_codes.specs.OpenCodes.{IsOpenChoice, IsOpenCode, OpenChoice, open_spelling}
-use Rattle.mk_open_codes.specs.OpenCodes.OpenChoice.{no_more, undecided, repeats, vacates, fills}
-use Rattle.mk_open_codes.specs.Opening.{HasOpenCode, PassesBy}
-use Rattle.mk_open_codes.proofs.OpenSlotLemmas.{nothing_more}
-use Rattle.mk_open_codes.proofs.SplitLemmas.{decided, decided_made, decided_spelt, first_made, first_more, first_of, open_split, rest_made, rest_of, split_spelt}
+use Rattle.mk_expand.specs.OpenCodes.{IsOpenChoice, IsOpenCode, OpenChoice, decided, open_spelling}
+use Rattle.mk_expand.specs.OpenCodes.OpenChoice.{no_more, undecided, repeats, vacates, fills}
+use Rattle.mk_open_codes.specs.Passing.{HasOpenCode, PassesBy}
+use Rattle.mk_expand.proofs.SlotLemmas.{nothing_more}
+use Rattle.mk_open_codes.proofs.SplitLemmas.{first_made, first_more, first_of, rest_made, rest_of, split_spelt}
+use Rattle.mk_expand.proofs.OneChoiceLemmas.{decided_made, decided_spelt, open_split}
 
 -- ---- the number at a place
 

@@ -1,6 +1,5 @@
 -- Where the atoms of a part stand in the whole: one template.
 --     laid_length, laid_at      a list made for each atom of a template
---     ending_is_of              the end of a bond is one of what its atom becomes
 --     IsLevel                   a template whose slots have become pieces in a part and in the whole
 --     level_places              the places of the part's atoms in the whole
 --     IsPlaceOf x j p           place p is the j-th of what atom x becomes
@@ -23,7 +22,7 @@ use Rattle.mk_model.specs.Templates.{TemplateView}
 use Rattle.mk_pieces.specs.Kept.{IsTemplate}
 use Rattle.mk_pieces.proofs.DrawnLemmas.{piece_ends}
 use Rattle.mk_pieces.proofs.NumberLemmas.{flat_more}
-use Rattle.mk_pieces.proofs.PieceLemmas.{FitSlots}
+use Rattle.mk_pieces.proofs.PieceLemmas.{FitSlots, all_stand}
 use Rattle.mk_pieces.proofs.SpanLemmas.{IsOf, is_of, room_more, room_none, room_of, room_within}
 use Rattle.mk_open_codes.proofs.SharedLemmas.{AllGrow, ArePlaces, GrowsBy, are_places, grown_size, grows_numbered, numbers_image, places_numbered, still_stands}
 
@@ -57,14 +56,6 @@ module _ (template : TemplateView) (pieces : List Piece) {A : Type 0} (f : ℕ �
             get_or_append_left (flat_map f (numbers_to m)) (f (m + 1)) d (before template pieces x + j) (omega (arith, long, up, room_of template pieces x least, below))
             ∙ laid_at m x j d least early below)
       ])
-
--- ---- the end of a bond
-
--- the end of a bond is one of what its atom becomes
-pub ending_is_of : (template : TemplateView) (pieces : List Piece) → FitSlots template.slots pieces → (x y : ℕ) → 1 ≤ x → 1 ≤ y → is_nothing (piece template pieces x) ≡ false
-    → IsOf template pieces x (ending template pieces x y)
-unfolding ending
-ending_is_of template pieces fit x y least least' some = (let ends = piece_ends template pieces fit x y least' some in is_of template pieces x _ least ends.0 ends.1)
 
 -- ---- a template in a part and in the whole
 
@@ -245,7 +236,7 @@ module _ (template : TemplateView) (ps qs : List Piece) (others : List (List ℕ
   ending_moved x y at least some =
       let far = is_far_of template.slots (taker template x) x y in
       let stands = still_stands (piece template ps x) (piece template qs x) (own_places template others x) (grows x) some in
-      let ends = piece_ends template qs level.fit x y least stands.0 in
+      let ends = piece_ends template qs (all_stand template.slots qs level.fit) x y least stands.0 in
       let end = end_moved (piece template ps x) (piece template qs x) (own_places template others x) far (grows x) some ends.0 ends.1 in
       let place : IsPlaceOf template ps x (end_of (piece template ps x) far) (before template ps x + end_of (piece template ps x) far) = record { at = at; least = end.0; most = end.1; is = refl } in
       record {

@@ -23,8 +23,8 @@ use Rattle.mk_pieces.proofs.TakerLemmas.{taker_is_slot, taker_of_slot}
 use Rattle.mk_pieces.proofs.TemplateLemmas.{slots_stand}
 use Rattle.mk_pieces.proofs.WithinLemmas.{within_at, within_both}
 use Rattle.mk_open_codes.proofs.BondLemmas.{no_spokes, numbers_hold, transfer}
-use Rattle.mk_open_codes.proofs.CountLemmas.{count_flat, count_mapped, count_same, total, totals_below, totals_one}
-use Rattle.mk_open_codes.proofs.FreeLemmas.{zipped_total}
+use Rattle.mk_expand.proofs.CountLemmas.{count_flat, count_mapped, count_same, total, totals_below, totals_one}
+use Rattle.mk_expand.proofs.FreeLemmas.{zipped_total}
 use Rattle.mk_open_codes.proofs.PlaceLemmas.{IsLevel, IsPlaceOf, grows, image_at, level_places, own_places, place_within}
 use Rattle.mk_open_codes.proofs.SharedLemmas.{GrowsBy, IsShared, numbers_image, same_size}
 use Rattle.mk_open_codes.proofs.SpokeLemmas.{meets_at, spoke}
@@ -74,8 +74,8 @@ module _ (template : TemplateView) (ps qs : List Piece) (others : List (List ℕ
   away k below other =
       let slot = get_or template.slots k (Link 0 0 0 0) in
       let stands : StandsAt template slot = slots_stand template level.kept k (Link 0 0 0 0) below in
-      let both = within_both template qs level.kept.bond_tests slot (get_or qs k (Copies 1)) stands.0 (slot_piece template level.kept qs level.fit k below)
-      (fit_at template.slots qs k (Link 0 0 0 0) (Copies 1) below level.fit) in
+      let both = within_both template qs level.kept.bond_tests slot (get_or qs k (Copies 1)) stands.0 (slot_piece template level.kept qs k below)
+      (inr (fit_at template.slots qs k (Link 0 0 0 0) (Copies 1) below level.fit)) in
       no_spokes template ps qs others level P x j p at (slot_atom slot) (slot_atom slot) (λ same. other (sym same)) (λ same. other (sym same)) (within_at template qs template.slots qs k) both.0
 
   -- ---- a chain

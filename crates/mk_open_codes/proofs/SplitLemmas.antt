@@ -1,39 +1,18 @@
 -- Choices that are split at a slot.
---     heads, tails             lists of numbers that are one
 --     first_of, rest_of        what a choice chooses at the first s slots, and at those behind them
 --     first_made, rest_made, split_spelt     they are choices, and together they spell the whole
 --     first_more               at one slot more
 --     number_at                the number that is chosen at slot s
 --     number_within            it is one of those that may stand there
 --     number_is                it is the number that stands behind the first s slots
---     decided                  a choice as an open choice that leaves no slot open
---     open_split               an open choice at some slots and others
 use Rattle.std.proofs.Common.{◌≡◌, ◌∙◌, ℕ, zero, suc, ◌<◌, ◌≤◌, List, [], ◌∷◌, ◌++◌, length, get_or, take, drop, refl, sym, ap, arith, append_assoc}
 use Rattle.mk_model.specs.declared.template.Slot.{Slot}
 use Rattle.mk_model.specs.declared.template.Slot.TheVariants.{Link, Site}
 use Rattle.mk_model.specs.Codes.{Choice, IsChoice, spelling}
 use Rattle.mk_model.specs.Codes.Choice.{done, repeated, unfilled, filled}
-use Rattle.mk_model.specs.Expansions.{left_open, template_of}
-use Rattle.mk_model.specs.Labels.{member}
 use Rattle.mk_model.specs.OpenSlots.{most_at}
-use Rattle.mk_model.specs.Pieces.{Piece}
-use Rattle.mk_model.specs.Pieces.Piece.{Copies, Member, Nothing}
-use Rattle.mk_model.specs.Queries.{QueryView, slots_of}
-use Rattle.mk_open_codes.specs.OpenCodes.{IsOpenChoice, OpenChoice, open_spelling}
-use Rattle.mk_open_codes.specs.OpenCodes.OpenChoice.{no_more, undecided, repeats, vacates, fills}
-use Rattle.mk_open_codes.specs.OpenGraphs.{open_pieces, opened}
-
--- ---- numbers
-
--- lists that are one begin with one number
-pub heads : (x y : ℕ) (xs ys : List ℕ) → x ∷ xs ≡ y ∷ ys → x ≡ y
-heads x y xs ys e = cc
-
--- and go on with the same numbers
-pub tails : (x y : ℕ) (xs ys : List ℕ) → x ∷ xs ≡ y ∷ ys → xs ≡ ys
-tails x y xs ys e = cc
-
--- ---- the first slots, and those behind them
+use Rattle.mk_model.specs.Queries.{QueryView}
+use Rattle.mk_expand.proofs.OneChoiceLemmas.{heads}
 
 -- what a choice chooses at the first s slots
 abbrev pub first_of : ℕ → Choice → Choice
@@ -146,105 +125,3 @@ number_is (suc s) done n more is = absurd cc
 number_is (suc s) (repeated m others) n more is = number_is s others n more is
 number_is (suc s) (unfilled m others) n more is = number_is s others n more is
 number_is (suc s) (filled k inside others) n more is = number_is s others n more is
-
--- ---- as an open choice
-
--- the same choice, with no slot left open
-abbrev pub decided : Choice → OpenChoice
-decided done = no_more
-decided (repeated n others) = repeats n (decided others)
-decided (unfilled n others) = vacates n (decided others)
-decided (filled k inside others) = fills k (decided inside) (decided others)
-
-pub decided_made : (query : QueryView) (slots : List Slot) (choice : Choice) → IsChoice query slots choice → IsOpenChoice query slots (decided choice)
-decided_made query [] done is = tt
-decided_made query [] (repeated n others) is = absurd is
-decided_made query [] (unfilled n others) is = absurd is
-decided_made query [] (filled k inside others) is = absurd is
-decided_made query (Link atom most from to ∷ slots) done is = absurd is
-decided_made query (Link atom most from to ∷ slots) (repeated n others) is = (is.0, is.1, decided_made query slots others is.2)
-decided_made query (Link atom most from to ∷ slots) (unfilled n others) is = absurd is
-decided_made query (Link atom most from to ∷ slots) (filled k inside others) is = absurd is
-decided_made query (Site atom groups first second ∷ slots) done is = absurd is
-decided_made query (Site atom groups first second ∷ slots) (repeated n others) is = absurd is
-decided_made query (Site atom groups first second ∷ slots) (unfilled n others) is = (is.0, decided_made query slots others is.1)
-decided_made query (Site atom groups first second ∷ slots) (filled k inside others) is =
-    (is.0, is.1, decided_made query (slots_of query (member query (Site atom groups first second) k)) inside is.2, decided_made query slots others is.3)
-
-pub decided_spelt : (choice : Choice) → open_spelling (decided choice) ≡ spelling choice
-decided_spelt done = refl
-decided_spelt (repeated n others) = ap (λ (xs : List ℕ). n ∷ xs) (decided_spelt others)
-decided_spelt (unfilled n others) = ap (λ (xs : List ℕ). n ∷ xs) (decided_spelt others)
-decided_spelt (filled k inside others) =
-    ap (λ (xs : List ℕ). k ∷ (xs ++ open_spelling (decided others))) (decided_spelt inside) ∙ ap (λ (xs : List ℕ). k ∷ (spelling inside ++ xs)) (decided_spelt others)
-
--- ---- an open choice at some slots and others
-
--- An open choice at some slots, and one at others behind them. Together they spell the whole, and what
--- the slots become by it is what they become by both.
-pub record IsOpenSplit (query : QueryView) (slots others : List Slot) (choice : OpenChoice) : Type 0 where
-  pub first : OpenChoice
-  pub second : OpenChoice
-  pub first_made : IsOpenChoice query slots first
-  pub second_made : IsOpenChoice query others second
-  pub spelt : open_spelling choice ≡ open_spelling first ++ open_spelling second
-  pub pieces : open_pieces query (slots ++ others) choice ≡ open_pieces query slots first ++ open_pieces query others second
-
-pub open_split : (query : QueryView) (slots others : List Slot) (choice : OpenChoice) → IsOpenChoice query (slots ++ others) choice → IsOpenSplit query slots others choice
-unfolding open_pieces
-open_split query [] others choice is = record {
-  first = no_more;
-  second = choice;
-  first_made = tt;
-  second_made = is;
-  spelt = refl;
-  pieces = refl;
-}
-open_split query (slot ∷ slots) others (undecided more) is =
-    let behind = open_split query slots others more is in
-    record {
-      first = undecided behind.first;
-      second = behind.second;
-      first_made = behind.first_made;
-      second_made = behind.second_made;
-      spelt = ap (λ (xs : List ℕ). 0 ∷ xs) behind.spelt;
-      pieces = ap (λ (ps : List Piece). Nothing ∷ ps) behind.pieces;
-    }
-open_split query (Link atom most from to ∷ slots) others no_more is = absurd is
-open_split query (Link atom most from to ∷ slots) others (repeats n more) is =
-    let behind = open_split query slots others more is.2 in
-    record {
-      first = repeats n behind.first;
-      second = behind.second;
-      first_made = (is.0, is.1, behind.first_made);
-      second_made = behind.second_made;
-      spelt = ap (λ (xs : List ℕ). n ∷ xs) behind.spelt;
-      pieces = ap (λ (ps : List Piece). Copies n ∷ ps) behind.pieces;
-    }
-open_split query (Link atom most from to ∷ slots) others (vacates n more) is = absurd is
-open_split query (Link atom most from to ∷ slots) others (fills k inside more) is = absurd is
-open_split query (Site atom groups first second ∷ slots) others no_more is = absurd is
-open_split query (Site atom groups first second ∷ slots) others (repeats n more) is = absurd is
-open_split query (Site atom groups first second ∷ slots) others (vacates n more) is =
-    let behind = open_split query slots others more is.1 in
-    record {
-      first = vacates n behind.first;
-      second = behind.second;
-      first_made = (is.0, behind.first_made);
-      second_made = behind.second_made;
-      spelt = ap (λ (xs : List ℕ). n ∷ xs) behind.spelt;
-      pieces = ap (λ (ps : List Piece). left_open query (Site atom groups first second) ∷ ps) behind.pieces;
-    }
-open_split query (Site atom groups first second ∷ slots) others (fills k inside more) is =
-    let behind = open_split query slots others more is.3 in
-    record {
-      first = fills k inside behind.first;
-      second = behind.second;
-      first_made = (is.0, is.1, is.2, behind.first_made);
-      second_made = behind.second_made;
-      spelt = ap (λ (xs : List ℕ). k ∷ (open_spelling inside ++ xs)) behind.spelt
-          ∙ ap (λ (xs : List ℕ). k ∷ xs) (sym (append_assoc (open_spelling inside) (open_spelling behind.first) (open_spelling behind.second)));
-      pieces =
-          (let t = member query (Site atom groups first second) k in
-          ap (λ (ps : List Piece). Member (opened (template_of query t) (open_pieces query (slots_of query t) inside)) ∷ ps) behind.pieces);
-    }

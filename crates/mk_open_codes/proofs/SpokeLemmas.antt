@@ -12,7 +12,7 @@ use Rattle.mk_model.specs.declared.template.QueryBond.{QueryBond}
 use Rattle.mk_model.specs.Expansions.{bond_between, is_hydrogens, is_nothing, spanned}
 use Rattle.mk_model.specs.Pieces.{Piece}
 use Rattle.mk_pieces.proofs.FoundBondLemmas.{either_way}
-use Rattle.mk_open_codes.proofs.CountLemmas.{count_cons, one_if}
+use Rattle.mk_expand.proofs.CountLemmas.{count_cons, one_if}
 
 -- one of x and y is p, and the other passes the test
 abbrev pub meets_at : (ℕ → Bool) → ℕ → ℕ → ℕ → Bool

@@ -21,8 +21,8 @@ use Rattle.mk_model.specs.OpenSlots.{most_at}
 use Rattle.mk_model.specs.Queries.{QueryView, slots_of}
 use Rattle.mk_model.specs.QueryFits.{QueryFits}
 use Rattle.mk_open_codes.specs.Fronts.{HoldsNone}
-use Rattle.mk_open_codes.specs.OpenCodes.{IsOpenCode}
-use Rattle.mk_open_codes.specs.OpenGraphs.{IsOpenGraph}
+use Rattle.mk_expand.specs.OpenCodes.{IsOpenCode}
+use Rattle.mk_expand.specs.OpenGraphs.{IsOpenGraph}
 
 -- ---- a choice alone
 

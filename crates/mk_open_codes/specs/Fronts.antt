@@ -20,8 +20,9 @@ use Rattle.mk_model.specs.Nodes.{BeginsCode, SameFrom}
 use Rattle.mk_model.specs.Queries.{QueryView}
 use Rattle.mk_model.specs.QueryFits.{QueryFits}
 use Rattle.mk_model.specs.Screens.{Covers, IsNeedOf, IsScreenOf}
-use Rattle.mk_open_codes.specs.OpenCodes.{Completes, IsOpenCode}
-use Rattle.mk_open_codes.specs.OpenGraphs.{IsOpenGraph}
+use Rattle.mk_expand.specs.OpenCodes.{IsOpenCode}
+use Rattle.mk_open_codes.specs.Completions.{Completes}
+use Rattle.mk_expand.specs.OpenGraphs.{IsOpenGraph}
 
 -- the numbers of a front, and 0 for each of so many slots behind them
 abbrev pub front_code : List ℕ → ℕ → List ℕ

@@ -13,8 +13,8 @@ use Rattle.mk_model.specs.Molecules.{IsMolecule, Molecule}
 use Rattle.mk_model.specs.Queries.{QueryView}
 use Rattle.mk_model.specs.QueryFits.{QueryFits}
 use Rattle.mk_model.specs.Screens.{Covers, IsNeedOf, IsScreenOf}
-use Rattle.mk_open_codes.specs.OpenCodes.{Completes}
-use Rattle.mk_open_codes.specs.OpenGraphs.{IsOpenGraph}
+use Rattle.mk_open_codes.specs.Completions.{Completes}
+use Rattle.mk_expand.specs.OpenGraphs.{IsOpenGraph}
 
 -- some atoms of the whole, in rising order, are such that each embedding of the whole in a molecule,
 -- taken at these atoms alone, is one of the part

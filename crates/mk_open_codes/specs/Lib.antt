@@ -1,6 +1,5 @@
-pub mod OpenCodes
-pub mod OpenGraphs
+pub mod Completions
 pub mod Laws
 pub mod Fronts
 pub mod Alone
-pub mod Opening
+pub mod Passing

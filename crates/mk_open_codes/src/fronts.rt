@@ -5,7 +5,7 @@ ghost use Rattle.mk_model.specs.OpenSlots.{most_at};
 ghost use Rattle.mk_model.specs.Queries.{slots_of};
 ghost use Rattle.mk_open_codes.specs.Alone.{IsAloneCode, root_slot};
 ghost use Rattle.mk_open_codes.specs.Fronts.{IsFrontCode};
-ghost use Rattle.mk_open_codes.specs.Opening.{HasOpenCode};
+ghost use Rattle.mk_open_codes.specs.Passing.{HasOpenCode};
 
 use crate::slots::behind_template;
 use mk_model::{Memory, Query};

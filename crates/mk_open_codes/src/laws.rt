@@ -2,7 +2,7 @@
 ghost use Rattle.mk_open_codes.specs.Alone.{AloneFrontsHoldNone, SlotsHoldNone};
 ghost use Rattle.mk_open_codes.specs.Fronts.{FrontsAreCompleted, FrontsArePassedOver, FrontsHaveOpenCodes, FrontsHoldNone, RootNeed};
 ghost use Rattle.mk_open_codes.specs.Laws.{CompletionsCoverItsNeed, CompletionsHoldTheOpenGraph, NoHitNoCompletion};
-ghost use Rattle.mk_open_codes.specs.OpenCodes.{OpenCodesAreReadOneWay};
+ghost use Rattle.mk_open_codes.specs.Completions.{OpenCodesAreReadOneWay};
 
 /// Numbers spell at most one open choice.
 pub fn open_codes_are_read_one_way()

@@ -4,16 +4,13 @@
 //! the graph of an open code has no embedding in a molecule, no code that completes the open code
 //! has one (`NoHitNoCompletion` in `specs/Laws.antt`).
 //!
-//! Which numbers are an open code stands in `specs/OpenCodes.antt`, and its graph in
-//! `specs/OpenGraphs.antt`. What the root becomes by such a code is made here (`opened_by`), and the
-//! graph, which has marks, in mk_open. What a search makes of it isn't known here.
+//! Which numbers are an open code, and what its graph is, stands in mk_expand (`specs/OpenCodes.antt`
+//! and `specs/OpenGraphs.antt` there), which makes the graph too. Which codes complete one stands in
+//! `specs/Completions.antt`. What a search makes of it isn't known here.
 #![tactic(auto)]
 
 mod fronts;
 mod laws;
-mod loose;
-mod open_codes;
-mod parts;
 mod places;
 mod slots;
 
@@ -23,6 +20,5 @@ pub use laws::{
     fronts_are_completed, fronts_are_passed_over, fronts_have_open_codes, fronts_hold_none,
     no_hit_no_completion, open_codes_are_read_one_way, root_need, slots_hold_none,
 };
-pub use open_codes::opened_by;
 pub use places::root_places;
 pub use slots::{choices_of, root_slots};

@@ -5,7 +5,7 @@ ghost use Rattle.mk_model.specs.OpenSlots.{most_at};
 ghost use Rattle.mk_model.specs.Queries.{slots_of};
 ghost use Rattle.mk_model.specs.QueryFits.{AreRisingLabels, QueryFits};
 ghost use Rattle.mk_open_codes.specs.Alone.{root_slot};
-ghost use Rattle.mk_open_codes.specs.Opening.{PassesBy};
+ghost use Rattle.mk_open_codes.specs.Passing.{PassesBy};
 
 use mk_model::{Memory, Query, Slot};
 

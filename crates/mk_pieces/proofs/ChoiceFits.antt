@@ -21,7 +21,7 @@ use Rattle.mk_pieces.specs.Kept.{IsTemplate}
 use Rattle.mk_model.proofs.ForCallers.{at_place}
 use Rattle.mk_pieces.specs.Fragments.{IsFragment}
 use Rattle.mk_pieces.proofs.JoinedLemmas.{joined_fragment}
-use Rattle.mk_pieces.proofs.PieceLemmas.{FitsSlot, FitSlots, neighbours}
+use Rattle.mk_pieces.proofs.PieceLemmas.{FitsSlot, FitSlots, all_stand, neighbours}
 use Rattle.mk_pieces.proofs.KeptLemmas.{member_there, template_is, slots_are, template_kept}
 
 -- ---- slots of templates
@@ -58,7 +58,7 @@ known_slots query fits t there =
 
 -- ---- pieces
 
-open_fits : (atom : ℕ) (groups : List ℕ) (first second : ℕ) (rest : Bool) → FitsSlot (Site atom groups first second) (cond rest (Hydrogens (neighbours second)) Nothing)
+pub open_fits : (atom : ℕ) (groups : List ℕ) (first second : ℕ) (rest : Bool) → FitsSlot (Site atom groups first second) (cond rest (Hydrogens (neighbours second)) Nothing)
 open_fits atom groups first second true = refl
 open_fits atom groups first second false = tt
 
@@ -70,7 +70,7 @@ chosen_there query slot k some within =
     let at : Contains (members_at query slot) (member query slot k) = (k - 1, below, get_or_default (members_at query slot) (k - 1) (member query slot k) 0 below) in
     (member_there query slot (member query slot k) at, at)
 
-points_length : (template : TemplateView) (pieces : List Piece) → length (joined template pieces).points ≡ length template.points
+pub points_length : (template : TemplateView) (pieces : List Piece) → length (joined template pieces).points ≡ length template.points
 unfolding joined
 points_length template pieces = length-map template.points (λ x. before template pieces x + 1)
 
@@ -96,7 +96,8 @@ pieces_fit query fits (Site atom groups first second ∷ slots) (filled k inside
     let inner : FitSlots (slots_of query u) (pieces_of query (slots_of query u) inside) = pieces_fit query fits (slots_of query u) inside (rw same (known_slots query fits u there.0)) is.2 in
     let inner' : FitSlots template.slots (pieces_of query (slots_of query u) inside) = subst (λ (ss : List Slot). FitSlots ss (pieces_of query (slots_of query u) inside)) same inner in
     let fragment : IsFragment (joined template (pieces_of query (slots_of query u) inside)) =
-    joined_fragment template (kept_template query fits u there.0) (pieces_of query (slots_of query u) inside) inner' in
+    joined_fragment template (kept_template query fits u there.0) (pieces_of query (slots_of query u) inside)
+    (all_stand template.slots (pieces_of query (slots_of query u) inside) inner') in
     ((fragment, points_length template (pieces_of query (slots_of query u) inside) ∙ known.0 u template there.1 (template_at query u there.0)), pieces_fit query fits slots others known.1 is.3)
 
 -- ---- a template
@@ -111,4 +112,5 @@ pub expansion_fragment : (query : QueryView) → QueryFits query → (t : ℕ) �
     → IsFragment (expansion query t choice)
 unfolding expansion
 expansion_fragment query fits t there choice is =
-    joined_fragment (template_of query t) (kept_template query fits t there) (pieces_of query (slots_of query t) choice) (template_fit query fits t there choice is)
+    joined_fragment (template_of query t) (kept_template query fits t there) (pieces_of query (slots_of query t) choice)
+    (all_stand (template_of query t).slots (pieces_of query (slots_of query t) choice) (template_fit query fits t there choice is))

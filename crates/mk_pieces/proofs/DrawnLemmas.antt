@@ -2,6 +2,7 @@
 --     drawn_inside, drawn_outside   what a bond becomes inside a block and elsewhere
 --     copied_is                     a copy of a bond by its number
 --     piece_ends                    the ends of what an atom becomes
+--     ending_is_of                  the end of a bond is one of what its atom becomes
 --     drawn_spans, drawn_apart      what a bond of the template becomes
 use Rattle.std.proofs.Common.{◌≡◌, ◌∙◌, ℕ, zero, suc, ◌+◌, ◌<◌, ◌≤◌, inl, inr, Bool, true, false, cond, ◌&&◌, ◌||◌, not, eqb, ltb, min, List, [], ◌∷◌, length, get_or, refl, sym, ap, subst, arith}
 use Rattle.std.specs.Prelude.{AllPairs, Contains}
@@ -19,7 +20,7 @@ use Rattle.mk_pieces.specs.Fragments.{AreApart, HasRange}
 use Rattle.mk_model.proofs.ForCallers.{at_place}
 use Rattle.mk_pieces.specs.Rooms.{IsWithin}
 use Rattle.mk_pieces.proofs.NumberLemmas.{mapped_at, mapped_length}
-use Rattle.mk_pieces.proofs.PieceLemmas.{FitSlots, fit_at, fit_end}
+use Rattle.mk_pieces.proofs.PieceLemmas.{MayAllStand, stand_at, stand_end}
 use Rattle.mk_pieces.proofs.SpanLemmas.{IsOf, Spans, between_spans, is_of}
 use Rattle.mk_pieces.proofs.TakerLemmas.{taker_is_slot}
 
@@ -75,7 +76,7 @@ copied_apart bond x y n = λ i k d less below first second.
 no_slot : Slot
 no_slot = Link 0 0 0 0
 
-module _ (template : TemplateView) (pieces : List Piece) (fit : FitSlots template.slots pieces) where
+module _ (template : TemplateView) (pieces : List Piece) (stand : MayAllStand template.slots pieces) where
   -- the ends of what an atom becomes
   pub piece_ends : (x y : ℕ) → 1 ≤ y → is_nothing (piece template pieces x) ≡ false
       → (1 ≤ end_of (piece template pieces x) (is_far_of template.slots (taker template x) x y))
@@ -88,9 +89,9 @@ module _ (template : TemplateView) (pieces : List Piece) (fit : FitSlots templat
       by (suc k) is some' =
           let found = taker_is_slot template x k is in
           rw (at_place template.slots k no_slot found.within)
-          (fit_end (get_or template.slots k no_slot) (get_or pieces k (Copies 1)) x y least (fit_at template.slots pieces k no_slot (Copies 1) found.within fit) some')
+          (stand_end (get_or template.slots k no_slot) (get_or pieces k (Copies 1)) x y least (stand_at template.slots pieces k no_slot (Copies 1) found.within stand) some')
 
-  ending_is_of : (x y : ℕ) → 1 ≤ x → 1 ≤ y → is_nothing (piece template pieces x) ≡ false → IsOf template pieces x (ending template pieces x y)
+  pub ending_is_of : (x y : ℕ) → 1 ≤ x → 1 ≤ y → is_nothing (piece template pieces x) ≡ false → IsOf template pieces x (ending template pieces x y)
   unfolding ending
   ending_is_of x y least least' some = (let ends = piece_ends x y least' some in is_of template pieces x _ least ends.0 ends.1)
 

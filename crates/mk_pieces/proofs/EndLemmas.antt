@@ -17,40 +17,24 @@ use Rattle.mk_model.specs.Expansions.{expansion, is_nothing, joined, pieces_of, 
 use Rattle.mk_model.specs.Pieces.{Piece, before, end_of, ending, is_far_of, piece, piece_numbered, taker, width}
 use Rattle.mk_model.specs.Pieces.Piece.{Copies}
 use Rattle.mk_model.specs.Queries.{QueryView, slots_of}
-use Rattle.mk_model.specs.QueryFits.{AreNeighbours, HasSitesApart, HoldsItsBlock, IsAtomOf, QueryFits}
+use Rattle.mk_model.specs.QueryFits.{AreNeighbours, HasSitesApart, IsAtomOf, QueryFits}
 use Rattle.mk_model.specs.Sizes.{takes_atom}
-use Rattle.mk_model.specs.Templates.{TemplateView, is_in_block}
-use Rattle.mk_pieces.specs.Kept.{IsTemplate}
+use Rattle.mk_model.specs.Templates.{TemplateView}
 use Rattle.mk_pieces.specs.Names.{IsCopyThere, IsEnd, IsEndAt, IsNameThere, Name, Stand, faces_far, is_vacant, stand, stands_of}
 use Rattle.mk_pieces.specs.Names.Name.{CopyOf, HydrogenAt, InMember}
 use Rattle.mk_pieces.specs.Names.Stand.{ByHydrogens, ByMember, Times, Vacant}
 use Rattle.mk_pieces.proofs.ChoiceFits.{kept_template, template_fit}
 use Rattle.mk_pieces.proofs.DrawnLemmas.{piece_ends}
 use Rattle.mk_pieces.proofs.NameLemmas.{Placed, becomes, piece_is, place_in, place_of}
-use Rattle.mk_pieces.proofs.PieceLemmas.{FitsSlot, fit_at}
+use Rattle.mk_pieces.proofs.PieceLemmas.{FitsSlot, all_stand, fit_at}
 use Rattle.mk_pieces.proofs.KeptLemmas.{template_is}
 use Rattle.mk_pieces.proofs.StandLemmas.{far_is, stand_is, stand_numbered}
-use Rattle.mk_pieces.proofs.TakerLemmas.{taker_is_slot}
+use Rattle.mk_pieces.proofs.TakerLemmas.{no_slot_at, taker_is_slot}
 
 -- ---- attachment points
 
 pub stand_at : (query : QueryView) (t : ℕ) (choice : Choice) (x n : ℕ) → taker (template_of query t) x ≡ n → stand query t choice x ≡ stand_numbered (stands_of query (slots_of query t) choice) n
 stand_at query t choice x n is = stand_is query t choice x ∙ ap (stand_numbered (stands_of query (slots_of query t) choice)) is
-
--- an atom with a point is taken by no slot
-no_slot_at : (template : TemplateView) → IsTemplate template → (p : ℕ) → Contains template.points p → (slot : Slot) → Contains template.slots slot → HoldsItsBlock template slot
-    → takes_atom template p slot ≡ true → ⊥
-no_slot_at template kept p at (Site atom groups first second) held closed takes = by (eqb atom p) refl takes
-  where
-    by : (b : Bool) → eqb atom p ≡ b → (b || false) ≡ true → ⊥
-    by true e is = kept.points_free (Site atom groups first second) held (let same : atom ≡ p = grind (arith, nat_tests) in subst (Contains template.points) (sym same) at)
-    by false e is = absurd cc
-no_slot_at template kept p at (Link atom most from to) held closed takes = by (eqb atom p) (is_in_block template (Link atom most from to) p) refl refl takes
-  where
-    by : (b c : Bool) → eqb atom p ≡ b → is_in_block template (Link atom most from to) p ≡ c → (b || c) ≡ true → ⊥
-    by true c e f is = kept.points_free (Link atom most from to) held (let same : atom ≡ p = grind (arith, nat_tests) in subst (Contains template.points) (sym same) at)
-    by false true e f is = kept.points_free (Link atom most from to) held (subst (Contains template.points) ((closed p f).2 (inl at)) at)
-    by false false e f is = absurd cc
 
 -- an attachment point is at a fixed atom, which stands once
 pub point_named : (query : QueryView) → QueryFits query → (t : ℕ) (choice : Choice) → t < length query.templates → (p : ℕ) → Contains (template_of query t).points p
@@ -141,7 +125,7 @@ module _ (query : QueryView) (fits : QueryFits query) (t : ℕ) (in_query : t < 
         ends s is there =
             let here : piece template pieces x ≡ becomes query s = piece_is query t choice made x ∙ ap (becomes query) is in
             let side : is_far_of template.slots (taker template x) x y ≡ far = sym (far_is template (kept_template query fits t in_query) x y) in
-            let found = piece_ends template pieces (template_fit query fits t in_query choice made) x y least (ap is_nothing here ∙ there) in (
+            let found = piece_ends template pieces (all_stand template.slots pieces (template_fit query fits t in_query choice made)) x y least (ap is_nothing here ∙ there) in (
               subst (λ (p : Piece). 1 ≤ end_of p far) here (subst (λ (b : Bool). 1 ≤ end_of (piece template pieces x) b) side found.0),
               subst (λ (p : Piece). end_of p far ≤ width p) here (subst (λ (b : Bool). end_of (piece template pieces x) b ≤ width (piece template pieces x)) side found.1),
               ap (λ (b : Bool). before template pieces x + end_of (piece template pieces x) b) side ∙ ap (λ (p : Piece). before template pieces x + end_of p far) here,

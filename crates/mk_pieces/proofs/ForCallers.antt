@@ -8,12 +8,11 @@ use Rattle.mk_pieces.specs.Laws.{EachCodeHasExpansion, OneExpansion}
 use Rattle.mk_pieces.proofs.HaveExpansionLemmas.{has_expansion}
 use Rattle.mk_pieces.proofs.OneExpansionLemmas.{one_expansion}
 pub use Rattle.mk_pieces.proofs.ChoiceFits.{kept_template}
-pub use Rattle.mk_pieces.proofs.GraphLemmas.{code_begins, fragment_sketch, graph_of, put_ordered, root_small, short, taken_few, taken_fragment}
-pub use Rattle.mk_pieces.proofs.JoinedLemmas.{atoms_more, atoms_none}
+pub use Rattle.mk_pieces.proofs.GraphLemmas.{fragment_sketch, graph_of, put_ordered, root_small, short, taken_few, taken_fragment}
 pub use Rattle.mk_pieces.proofs.NumberLemmas.{flat_more, mapped_more, numbers_more}
 pub use Rattle.mk_pieces.proofs.RoomLemmas.{have_room}
 pub use Rattle.mk_pieces.proofs.SpanLemmas.{room_more, room_none, room_within}
-pub use Rattle.mk_pieces.proofs.TemplateLemmas.{bonds_within, ends_within, slots_neighbours, slots_stand}
+pub use Rattle.mk_pieces.proofs.TemplateLemmas.{bonds_within, ends_within, slots_stand}
 pub use Rattle.mk_pieces.proofs.DrawnLemmas.{drawn_inside, drawn_outside}
 pub use Rattle.mk_pieces.proofs.KeptLemmas.{labels_known, member_there, slots_are, template_is, template_kept}
 

@@ -25,7 +25,7 @@ use Rattle.mk_pieces.specs.Names.AreJoinedHere.{AlongBlock, AlongChain, EndToEnd
 use Rattle.mk_pieces.specs.Names.Name.{CopyOf, HydrogenAt, InMember}
 use Rattle.mk_pieces.specs.Names.Stand.{ByHydrogens, ByMember, Times, Vacant}
 use Rattle.mk_pieces.proofs.DrawnLemmas.{copied_is, drawn_inside, drawn_outside}
-use Rattle.mk_pieces.proofs.ChoiceFits.{expansion_fragment, kept_template, template_fit}
+use Rattle.mk_pieces.proofs.ChoiceFits.{expansion_fragment, kept_template}
 use Rattle.mk_pieces.proofs.EndLemmas.{EndsAt, IsKnownStand, end_named, known_stand, stand_at}
 use Rattle.mk_pieces.proofs.JoinedLemmas.{slot_piece}
 use Rattle.mk_pieces.proofs.JoiningLemmas.{between_is, is_spanned, joining_found, joins_back, joins_own}
@@ -291,7 +291,7 @@ module _ (query : QueryView) (fits : QueryFits query) (t : ℕ) (in_query : t < 
         by_slot (k, below, here) =
             let slot = get_or template.slots k (Link 0 0 0 0) in
             let became : get_or pieces k (Copies 1) ≡ becomes query (stand query t choice (slot_atom (get_or template.slots k (Link 0 0 0 0)))) =
-            sym (slot_piece template kept pieces (template_fit query fits t in_query choice made) k below) ∙ piece_is query t choice made (slot_atom (get_or template.slots k (Link 0 0 0 0))) in
+            sym (slot_piece template kept pieces k below) ∙ piece_is query t choice made (slot_atom (get_or template.slots k (Link 0 0 0 0))) in
             from_slot (get_or template.slots k (Link 0 0 0 0)) (stand query t choice (slot_atom (get_or template.slots k (Link 0 0 0 0))))
             (Contains-get_or template.slots k (Link 0 0 0 0) below) (slots_stand template kept k (Link 0 0 0 0) below) refl
             (subst (λ (p : Piece). Contains (bonds_within template.bonds (before template pieces (slot_atom (get_or template.slots k (Link 0 0 0 0)))) (get_or template.slots k (Link 0 0 0 0)) p)

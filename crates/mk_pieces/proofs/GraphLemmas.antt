@@ -1,5 +1,4 @@
 -- The graph of an expansion.
---     code_begins         a structural code begins with a choice, and nothing is left
 --     whole_code          what was taken of it is all of it
 --     fragment_sketch     a fragment of at most 512 atoms with its bonds in order is a sketch
 --     graph_of            and with the marks it is the expansion
@@ -25,7 +24,7 @@ use Rattle.mk_model.proofs.ForCallers.{one_choice}
 use Rattle.mk_model.proofs.ForCallers.{place_is, place_within}
 use Rattle.mk_marks.specs.Bare.{bare_bond, bare_bonds}
 use Rattle.mk_marks.proofs.ForCallers.{same_at, same_length}
-use Rattle.mk_pieces.specs.Begun.{Begins, IsExpanded}
+use Rattle.mk_pieces.specs.Begun.{IsExpanded}
 use Rattle.mk_pieces.specs.Rooms.{IsSmallTemplate}
 use Rattle.mk_pieces.specs.Fragments.{HasOrdered, HasRange, IsFragment, IsLowerFirst, bare}
 use Rattle.mk_pieces.specs.Laws.{CodeAndHitAreShort}
@@ -43,9 +42,6 @@ root_small query fits = record {
   adds_up = fits.small_root.adds_up;
   small = fits.small_root.small;
 }
-
-pub code_begins : (query : QueryView) (code : List ℕ) → IsCode query 0 code → Begins query (slots_of query 0) code
-code_begins query code is = record { choice = is.choice; rest = []; made = is.made; spelt = append-nil (spelling is.choice) ∙ is.spelt }
 
 -- the choice that was taken spells the whole code
 pub whole_code : (query : QueryView) (code rest : List ℕ) (part : Fragment) → IsCode query 0 code → (is : IsExpanded query 0 code rest part) → spelling is.choice ≡ code

@@ -171,7 +171,7 @@ module _ (query : QueryView) (fits : QueryFits query) (t : ℕ) (in_query : t < 
       (λ k below.
       let slot = get_or template.slots k (Link 0 0 0 0) in
       let here : get_or pieces k (Copies 1) ≡ becomes query (stand query t choice (slot_atom (get_or template.slots k (Link 0 0 0 0)))) =
-      sym (slot_piece template kept pieces (template_fit query fits t in_query choice made) k below) ∙ piece_is query t choice made (slot_atom (get_or template.slots k (Link 0 0 0 0))) in
+      sym (slot_piece template kept pieces k below) ∙ piece_is query t choice made (slot_atom (get_or template.slots k (Link 0 0 0 0))) in
       ap (frees_of template pieces (before template pieces x + j) (get_or template.slots k (Link 0 0 0 0))) here
       ∙ slot_frees x j named (get_or template.slots k (Link 0 0 0 0)) (Contains-get_or template.slots k (Link 0 0 0 0) below))
 

@@ -78,7 +78,7 @@ module _ (query : QueryView) (fits : QueryFits query) (t : ℕ) (in_query : t < 
       let fit = template_fit query fits t in_query choice made in
       let same : get_or template.slots held.0 (Link 0 0 0 0) ≡ slot = found_slot held in
       let became : get_or pieces held.0 (Copies 1) ≡ becomes query (stand query t choice (slot_atom slot)) =
-      sym (slot_piece template kept pieces fit held.0 held.1) ∙ ap (λ (s : Slot). piece template pieces (slot_atom s)) same ∙ piece_is query t choice made (slot_atom slot) in
+      sym (slot_piece template kept pieces held.0 held.1) ∙ ap (λ (s : Slot). piece template pieces (slot_atom s)) same ∙ piece_is query t choice made (slot_atom slot) in
       let here : Contains (within_at template pieces template.slots pieces held.0) b =
       rw (same, became) at in
       Contains-append_right (flat_map (drawn template pieces) template.bonds) (all_within template pieces template.slots pieces) b

@@ -2,7 +2,9 @@
 --     FitsSlot, FitSlots        a piece fits its slot, and each piece its slot
 --     fit_at, fit_length        at a place
 --     fit_end                   the ends of a piece are among its atoms
-use Rattle.std.proofs.Common.{◌≡◌, ℕ, zero, suc, ◌<◌, ◌≤◌, Bool, true, false, cond, ◌&&◌, eqb, List, [], ◌∷◌, length, get_or, refl, ap, arith}
+--     MayStand, MayAllStand     a piece fits its slot, or nothing stands there
+--     stand_at, stand_length, stand_end      the same of these
+use Rattle.std.proofs.Common.{◌≡◌, ◌⊎◌, inl, inr, ℕ, zero, suc, ◌<◌, ◌≤◌, Bool, true, false, cond, ◌&&◌, eqb, List, [], ◌∷◌, length, get_or, refl, ap, arith}
 use Rattle.std.proofs.lemmas.Bool.Decides.{nat_tests}
 use Rattle.mk_model.specs.Pieces.{Piece}
 use Rattle.mk_model.specs.Pieces.Piece.{Copies, Member, Hydrogens, Nothing}
@@ -87,3 +89,39 @@ fit_end (Site atom groups first second) (Hydrogens n) x y least fit some = by (e
     by true is = (omega arith, omega (arith, fit, two_neighbours second y least (far_second atom second x y is)))
     by false is = (omega arith, omega (arith, fit, some_neighbours second))
 fit_end (Site atom groups first second) Nothing x y least fit some = absurd cc
+
+-- ---- slots where nothing may stand
+
+-- the piece fits its slot, or nothing stands there, as where a slot is left open
+abbrev pub MayStand : Slot → Piece → Type 0
+MayStand slot piece = (piece ≡ Nothing) ⊎ FitsSlot slot piece
+
+abbrev pub MayAllStand : List Slot → List Piece → Type 0
+MayAllStand [] [] = Unit {0}
+MayAllStand [] (piece ∷ pieces) = ⊥
+MayAllStand (slot ∷ slots) [] = ⊥
+MayAllStand (slot ∷ slots) (piece ∷ pieces) = MayStand slot piece × MayAllStand slots pieces
+
+-- pieces that fit may stand
+pub all_stand : (slots : List Slot) (pieces : List Piece) → FitSlots slots pieces → MayAllStand slots pieces
+all_stand [] [] fit = tt
+all_stand [] (piece ∷ pieces) fit = absurd fit
+all_stand (slot ∷ slots) [] fit = absurd fit
+all_stand (slot ∷ slots) (piece ∷ pieces) fit = (inr fit.0, all_stand slots pieces fit.1)
+
+pub stand_length : (slots : List Slot) (pieces : List Piece) → MayAllStand slots pieces → length pieces ≡ length slots
+stand_length [] [] stand = refl
+stand_length [] (piece ∷ pieces) stand = absurd stand
+stand_length (slot ∷ slots) [] stand = absurd stand
+stand_length (slot ∷ slots) (piece ∷ pieces) stand = ap suc (stand_length slots pieces stand.1)
+
+pub stand_at : (slots : List Slot) (pieces : List Piece) (k : ℕ) (d : Slot) (e : Piece) → k < length slots → MayAllStand slots pieces → MayStand (get_or slots k d) (get_or pieces k e)
+stand_at [] pieces k d e below stand = absurd (omega arith)
+stand_at (slot ∷ slots) [] k d e below stand = absurd stand
+stand_at (slot ∷ slots) (piece ∷ pieces) zero d e below stand = stand.0
+stand_at (slot ∷ slots) (piece ∷ pieces) (suc k) d e below stand = stand_at slots pieces k d e (omega arith) stand.1
+
+pub stand_end : (slot : Slot) (piece : Piece) (x y : ℕ) → 1 ≤ y → MayStand slot piece → is_nothing piece ≡ false
+    → (1 ≤ end_of piece (is_far slot x y)) × (end_of piece (is_far slot x y) ≤ width piece)
+stand_end slot piece x y least (inl none) some = absurd (let is : is_nothing piece ≡ true = ap is_nothing none in cc)
+stand_end slot piece x y least (inr fit) some = fit_end slot piece x y least fit some

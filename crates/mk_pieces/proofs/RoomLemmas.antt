@@ -1,6 +1,7 @@
 -- There is room for what a template becomes.
 --     template_size       a code and the atoms of its expansion have no more numbers together than the template's size
---     have_room           so there is room where the size is at most 512
+--     pieces_room         so there is room where the size is at most 512
+--     have_room           by a choice
 use Rattle.std.proofs.Common.{◌≡◌, ◌∙◌, ℕ, zero, suc, ◌+◌, ◌*◌, ◌<◌, ◌≤◌, Bool, true, false, cond, ◌||◌, eqb, List, [], ◌∷◌, Some, length, get_or, refl, sym, ap, subst, arith, inl, inr, sum_by}
 use Rattle.std.specs.Prelude.{count_by, slice_get}
 use Rattle.std.specs.List.{range_with_len}
@@ -31,7 +32,7 @@ use Rattle.mk_pieces.specs.Fragments.{IsFragment}
 use Rattle.mk_pieces.proofs.ChoiceFits.{AreKnownSlots, chosen_there, kept_template, known_slots, template_at, slots_of_template, template_fit}
 use Rattle.mk_pieces.proofs.JoinedLemmas.{length_atoms, slot_piece}
 use Rattle.mk_pieces.proofs.SpanLemmas.{room_of, room_within}
-use Rattle.mk_pieces.proofs.PieceLemmas.{FitsSlot, fit_at, fit_length, neighbours}
+use Rattle.mk_pieces.proofs.PieceLemmas.{FitsSlot, MayAllStand, MayStand, all_stand, fit_length, neighbours, stand_at, stand_length}
 use Rattle.mk_pieces.proofs.TemplateLemmas.{slots_stand}
 use Rattle.mk_pieces.proofs.WidthLemmas.{room_caps, room_sum, taken_room}
 
@@ -52,7 +53,7 @@ link_takes template atom most from to x = by (eqb atom x) refl
         let own : hang_together (bonds_without (Link atom most from to) template.bonds) atom atom ≡ true = hangs_tested _ atom atom (hangs_same _ atom) in
         sym (subst (λ (y : ℕ). is_in_block template (Link atom most from to) y ≡ true) same own)
 
-count_link : (template : TemplateView) (atom most from to : ℕ) (xs : List ℕ)
+pub count_link : (template : TemplateView) (atom most from to : ℕ) (xs : List ℕ)
     → count_by (λ x. takes_atom template x (Link atom most from to)) xs ≡ count_by (is_in_block template (Link atom most from to)) xs
 count_link template atom most from to [] = refl
 count_link template atom most from to (x ∷ xs) =
@@ -76,7 +77,7 @@ count_none atom k (suc n) below =
     let here : one_if (eqb atom k || false) ≡ 0 = rw other refl in
     omega (arith, rest, here, sum_by-cons (λ (y : ℕ). cond (eqb atom y || false) 1 0) k (range_with_len (k + 1) n))
 
-count_once : (atom k n : ℕ) → count_by (λ x. eqb atom x || false) (range_with_len k n) ≤ 1
+pub count_once : (atom k n : ℕ) → count_by (λ x. eqb atom x || false) (range_with_len k n) ≤ 1
 count_once atom k zero = omega arith
 count_once atom k (suc n) =
     elim (cases_eq atom k) [
@@ -91,13 +92,13 @@ count_once atom k (suc n) =
           omega (arith, rest, here, sum_by-cons (λ (y : ℕ). cond (eqb atom y || false) 1 0) k (range_with_len (k + 1) n)))
     ]
 
-times_once : (w c : ℕ) → c ≤ 1 → w * c ≤ w
+pub times_once : (w c : ℕ) → c ≤ 1 → w * c ≤ w
 times_once w zero once = omega arith
 times_once w (suc c) once = (let none : c ≡ 0 = omega arith in rw none (omega arith))
 
 -- ---- sizes
 
-open_width : (query : QueryView) (atom : ℕ) (groups : List ℕ) (first second : ℕ) → width (left_open query (Site atom groups first second)) ≤ neighbours second
+pub open_width : (query : QueryView) (atom : ℕ) (groups : List ℕ) (first second : ℕ) → width (left_open query (Site atom groups first second)) ≤ neighbours second
 open_width query atom groups first second = by (draws_rest_hydrogens query (Site atom groups first second))
   where
     by : (b : Bool) → width (cond b (Hydrogens (neighbours second)) Nothing) ≤ neighbours second
@@ -105,7 +106,7 @@ open_width query atom groups first second = by (draws_rest_hydrogens query (Site
     by false = omega arith
 
 -- what a template becomes by a choice has room, where its slots do
-by_slots : (query : QueryView) (size : ℕ → ℕ) → IsSizing query size → (t : ℕ) (template : TemplateView) → slice_get query.templates t ≡ Some template → (pieces : List Piece)
+pub by_slots : (query : QueryView) (size : ℕ → ℕ) → IsSizing query size → (t : ℕ) (template : TemplateView) → slice_get query.templates t ≡ Some template → (pieces : List Piece)
     → length pieces ≡ length template.slots → (code : ℕ)
     → code + taken_room template template.slots pieces (atom_numbers template) ≤ sum_by (size_of_slot query size template) template.slots
     → code + room template pieces (length template.atoms) ≤ size t
@@ -209,15 +210,17 @@ small_piece (Site atom groups first second) (Hydrogens n) fit wide = record { bo
     ends false = omega arith
 small_piece (Site atom groups first second) Nothing fit wide = record { bonds = tt; width = wide; ends = λ far. omega arith }
 
-pub have_room : (query : QueryView) → QueryFits query → (t : ℕ) → IsSmallTemplate query t → (choice : Choice) → IsChoice query (slots_of query t) choice
-    → HaveRoom (template_of query t) (pieces_of query (slots_of query t) choice)
-have_room query fits t small choice made =
+small_standing : (slot : Slot) (p : Piece) → MayStand slot p → width p ≤ 512 → IsSmall p
+small_standing slot p (inl none) wide = subst IsSmall (sym none) (record { bonds = tt; width = omega arith; ends = λ far. omega arith })
+small_standing slot p (inr fit) wide = small_piece slot p fit wide
+
+-- there is room for what a template becomes, where it is no more than the template's size
+pub pieces_room : (query : QueryView) → QueryFits query → (t : ℕ) → (small : IsSmallTemplate query t) → (pieces : List Piece) → MayAllStand (template_of query t).slots pieces
+    → room (template_of query t) pieces (length (template_of query t).atoms) ≤ small.size t → HaveRoom (template_of query t) pieces
+pieces_room query fits t small pieces stand whole =
     let template = template_of query t in
     let kept = kept_template query fits t small.there in
-    let pieces = pieces_of query (slots_of query t) choice in
-    let fit = template_fit query fits t small.there choice made in
-    let long = fit_length template.slots pieces fit in
-    let whole = template_size query fits small.size small.adds_up t small.there choice made in
+    let long = stand_length template.slots pieces stand in
     let total : room template pieces (length template.atoms) ≤ 512 = omega (arith, whole, small.small) in
     record {
       size = long;
@@ -226,9 +229,16 @@ have_room query fits t small choice made =
           let slot = get_or template.slots k (Link 0 0 0 0) in
           let inside : k < length template.slots = omega arith in
           let stands = slots_stand template kept k (Link 0 0 0 0) inside in
-          let here : piece template pieces (slot_atom slot) ≡ get_or pieces k d = slot_piece template kept pieces fit k inside ∙ get_or_default pieces k (Copies 1) d below in
+          let here : piece template pieces (slot_atom slot) ≡ get_or pieces k d = slot_piece template kept pieces k inside ∙ get_or_default pieces k (Copies 1) d below in
           let up = room_within template pieces (slot_atom slot) (length template.atoms) stands.1 in
           let wide : width (get_or pieces k d) ≤ 512 = omega (arith, ap width here, room_of template pieces (slot_atom slot) stands.0, total) in
-          small_piece slot (get_or pieces k d) (fit_at template.slots pieces k (Link 0 0 0 0) d inside fit) wide;
+          small_standing slot (get_or pieces k d) (stand_at template.slots pieces k (Link 0 0 0 0) d inside stand) wide;
       room = total;
     }
+
+pub have_room : (query : QueryView) → QueryFits query → (t : ℕ) → IsSmallTemplate query t → (choice : Choice) → IsChoice query (slots_of query t) choice
+    → HaveRoom (template_of query t) (pieces_of query (slots_of query t) choice)
+have_room query fits t small choice made =
+    let whole = template_size query fits small.size small.adds_up t small.there choice made in
+    pieces_room query fits t small (pieces_of query (slots_of query t) choice)
+    (all_stand (template_of query t).slots (pieces_of query (slots_of query t) choice) (template_fit query fits t small.there choice made)) (omega (arith, whole))

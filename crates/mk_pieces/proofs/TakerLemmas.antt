@@ -2,7 +2,8 @@
 --     taker_is_slot       a slot takes an atom only as its own or as one of its block
 --     from_first          the first slot that takes an atom has its number
 --     taker_of_slot       each slot takes its own atom
-use Rattle.std.proofs.Common.{◌≡◌, ◌≢◌, ◌∙◌, ℕ, zero, suc, ◌+◌, ◌-◌, ◌<◌, ◌≤◌, inr, Bool, true, false, cond, eqb, List, [], ◌∷◌, length, get_or, refl, sym, arith}
+--     no_slot_at          and none an atom with a point
+use Rattle.std.proofs.Common.{◌≡◌, ◌≢◌, ◌∙◌, ℕ, zero, suc, ◌+◌, ◌-◌, ◌<◌, ◌≤◌, inl, inr, Bool, true, false, cond, ◌||◌, eqb, List, [], ◌∷◌, length, get_or, refl, sym, subst, arith}
 use Rattle.std.specs.Prelude.{Contains}
 use Rattle.std.proofs.lemmas.Bool.Decides.{nat_tests}
 use Rattle.std.proofs.lemmas.List.{get_or_default}
@@ -71,3 +72,18 @@ taker_of_slot template kept k d below =
     (λ i less. not_taken template (get_or template.slots i d) own (kept.blocks_closed i d (omega arith)) (k, below, get_or_default template.slots k own d below)
     (kept.slots_rise i k d less below)) in
     first ∙ omega arith
+
+-- an atom with a point is taken by no slot
+pub no_slot_at : (template : TemplateView) → IsTemplate template → (p : ℕ) → Contains template.points p → (slot : Slot) → Contains template.slots slot → HoldsItsBlock template slot
+    → takes_atom template p slot ≡ true → ⊥
+no_slot_at template kept p at (Site atom groups first second) held closed takes = by (eqb atom p) refl takes
+  where
+    by : (b : Bool) → eqb atom p ≡ b → (b || false) ≡ true → ⊥
+    by true e is = kept.points_free (Site atom groups first second) held (let same : atom ≡ p = grind (arith, nat_tests) in subst (Contains template.points) (sym same) at)
+    by false e is = absurd cc
+no_slot_at template kept p at (Link atom most from to) held closed takes = by (eqb atom p) (is_in_block template (Link atom most from to) p) refl refl takes
+  where
+    by : (b c : Bool) → eqb atom p ≡ b → is_in_block template (Link atom most from to) p ≡ c → (b || c) ≡ true → ⊥
+    by true c e f is = kept.points_free (Link atom most from to) held (let same : atom ≡ p = grind (arith, nat_tests) in subst (Contains template.points) (sym same) at)
+    by false true e f is = kept.points_free (Link atom most from to) held (subst (Contains template.points) ((closed p f).2 (inl at)) at)
+    by false false e f is = absurd cc

@@ -1,6 +1,5 @@
 -- What the conditions on a template say of its parts.
 use Rattle.std.proofs.Common.{◌≡◌, ℕ, ◌≤◌, ◌⊎◌, inl, inr, Bool, true, false, ◌&&◌, ◌||◌, eqb, length, get_or, refl, subst, arith, All}
-use Rattle.std.proofs.lemmas.Bool.{cases_eq}
 use Rattle.std.proofs.lemmas.Bool.Decides.{nat_tests}
 use Rattle.mk_model.specs.declared.template.QueryBond.{QueryBond}
 use Rattle.mk_model.specs.declared.template.Slot.{Slot}
@@ -10,7 +9,7 @@ use Rattle.mk_model.specs.Templates.{TemplateView, query_edge, joins}
 use Rattle.mk_model.specs.QueryFits.{AreNeighbours}
 use Rattle.mk_pieces.specs.Kept.{IsSlotOf, IsTemplate}
 use Rattle.mk_model.proofs.ForCallers.{all_mapped}
-use Rattle.mk_pieces.specs.Rooms.{AreEndsWithin, HasNeighbours, IsWithin, StandsAt}
+use Rattle.mk_pieces.specs.Rooms.{AreEndsWithin, IsWithin, StandsAt}
 
 pub bonds_within : (template : TemplateView) → IsTemplate template → All (IsWithin template) template.bonds
 bonds_within template is = λ k d below.
@@ -42,19 +41,6 @@ joined_within template is x y (bond, at, joins') =
       | inl here ↦ omega (arith, here, within.first)
       | inr here ↦ omega (arith, here, within.second)
     ]
-
-slot_neighbours : (template : TemplateView) → IsTemplate template → (slot : Slot) → IsSlotOf template slot → HasNeighbours template slot
-slot_neighbours template is (Link atom most from to) slot = tt
-slot_neighbours template is (Site atom groups first second) slot = (
-  joined_within template is atom first ((slot.1.neighbours first).1 (inl refl)),
-  elim (cases_eq second 0) [
-    | inl none ↦ (omega (arith, none))
-    | inr some ↦ joined_within template is atom second ((slot.1.neighbours second).1 (inr (refl, some)))
-  ],
-)
-
-pub slots_neighbours : (template : TemplateView) → IsTemplate template → All (HasNeighbours template) template.slots
-slots_neighbours template is = λ k d below. slot_neighbours template is (get_or template.slots k d) (is.slots k d below)
 
 -- both ends of each bond are atoms of the template
 pub ends_within : (template : TemplateView) → IsTemplate template → All (AreEndsWithin (length template.atoms)) template.bonds

@@ -17,7 +17,7 @@ use Rattle.mk_model.specs.Pieces.{Fragment}
 use Rattle.mk_pieces.specs.Fragments.{AreApart, HasRange, IsFragment, IsLowerFirst}
 use Rattle.mk_pieces.proofs.NumberLemmas.{mapped_at, mapped_length}
 use Rattle.mk_pieces.proofs.PairLemmas.{pairs_append}
-use Rattle.mk_pieces.proofs.PieceLemmas.{FitsSlot}
+use Rattle.mk_pieces.proofs.PieceLemmas.{MayStand}
 use Rattle.mk_pieces.proofs.SpanLemmas.{IsOf, Spans, is_of}
 
 -- ---- chains
@@ -139,7 +139,7 @@ module _ (template : TemplateView) (pieces : List Piece) (asked : All HasRange t
     shifted_apart _ part.bonds fragment.apart,
   )
 
-  pub within_both : (slot : Slot) (p : Piece) → 1 ≤ slot_atom slot → piece template pieces (slot_atom slot) ≡ p → FitsSlot slot p
+  pub within_both : (slot : Slot) (p : Piece) → 1 ≤ slot_atom slot → piece template pieces (slot_atom slot) ≡ p → MayStand slot p
       → ((b : QueryBond) → Contains (bonds_within template.bonds (before template pieces (slot_atom slot)) slot p) b → Spans template pieces (slot_atom slot) (slot_atom slot) b)
       × AllPairs AreApart (bonds_within template.bonds (before template pieces (slot_atom slot)) slot p)
   within_both (Link atom most from to) (Copies n) least is fit = chain_both atom atom from n least (ap width is)
@@ -147,7 +147,11 @@ module _ (template : TemplateView) (pieces : List Piece) (asked : All HasRange t
   within_both (Link atom most from to) (Hydrogens n) least is fit = no_bonds atom
   within_both (Link atom most from to) Nothing least is fit = no_bonds atom
   within_both (Site atom groups first second) (Copies n) least is fit = no_bonds atom
-  within_both (Site atom groups first second) (Member part) least is fit = member_both atom part least fit.0 (ap width is)
+  within_both (Site atom groups first second) (Member part) least is fit = member_both atom part least (member_fragment fit) (ap width is)
+    where
+      member_fragment : MayStand (Site atom groups first second) (Member part) → IsFragment part
+      member_fragment (inl none) = absurd cc
+      member_fragment (inr fits) = fits.0
   within_both (Site atom groups first second) (Hydrogens n) least is fit = no_bonds atom
   within_both (Site atom groups first second) Nothing least is fit = no_bonds atom
 

@@ -5,12 +5,10 @@
 --     IsWithin template bond         the ends of the bond are two atoms of the template
 --     AreEndsWithin count bond       they are among so many atoms
 --     StandsAt template slot         the slot stands at an atom of the template
---     HasNeighbours template slot    the neighbours that it names are atoms of the template
 --     IsSmallTemplate query t        the size of the template is at most 512
 use Rattle.std.specs.Prelude.{◌≡◌, ◌≢◌, ◌≤◌, ◌<◌, ℕ, Bool, List, length, All}
 use Rattle.mk_model.specs.declared.template.QueryBond.{QueryBond}
 use Rattle.mk_model.specs.declared.template.Slot.{Slot}
-use Rattle.mk_model.specs.declared.template.Slot.TheVariants.{Link, Site}
 use Rattle.mk_model.specs.Pieces.{Piece, end_of, room, width}
 use Rattle.mk_model.specs.Pieces.Piece.{Member}
 use Rattle.mk_model.specs.Queries.{QueryView}
@@ -49,11 +47,6 @@ StandsAt template slot = (1 ≤ slot_atom slot) × (slot_atom slot ≤ length te
 pub record AreEndsWithin (count : ℕ) (bond : QueryBond) : Type 0 where
   pub first : (1 ≤ bond.first) × (bond.first ≤ count)
   pub second : (1 ≤ bond.second) × (bond.second ≤ count)
-
--- the neighbours of a site are atoms of the template, where they are not 0
-abbrev pub HasNeighbours : TemplateView → Slot → Type 0
-HasNeighbours template (Link atom most from to) = Unit {0}
-HasNeighbours template (Site atom groups first second) = (first ≤ length template.atoms) × (second ≤ length template.atoms)
 
 -- there is such a template, and its size is at most 512
 pub record IsSmallTemplate (query : QueryView) (t : ℕ) : Type 0 where

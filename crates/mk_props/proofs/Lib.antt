@@ -2,5 +2,4 @@ pub mod ColumnLemmas
 pub mod EntryLemmas
 pub mod KindLemmas
 pub mod PropertyLemmas
-pub mod SymbolBytesLemmas
 pub mod ForCallers

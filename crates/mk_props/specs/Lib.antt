@@ -3,4 +3,3 @@ pub mod Lists
 pub mod Logic
 pub mod Property
 pub mod Reading
-pub mod SymbolBytes

@@ -18,11 +18,11 @@ mod logic;
 mod property;
 mod reading;
 mod short_list;
-mod symbols;
 
 pub use fault::LineFault;
 pub use laws::property_is_exact;
-pub use property::{AtomList, LinkEntry, Links, LogicLine, Pair, Pairs, Property, SiteOrder};
+pub use property::{
+    AtomList, LinkEntry, Links, LogicLine, Pair, Pairs, Property, SiteOrder, Symbols,
+};
 pub use reading::read_property;
 pub use short_list::ShortList;
-pub use symbols::Symbols;

@@ -5,9 +5,8 @@ ghost use Rattle.mk_props.specs.Reading.{Gives, flag_of, symbols_of, list_of};
 use crate::columns::{cell, is_blank_at};
 use crate::entries::{count_at, number_at};
 use crate::fault::LineFault;
-use crate::property::AtomList;
-use crate::symbols::Symbols;
-use mk_text::trimmed_column;
+use crate::property::{AtomList, Symbols};
+use mk_text::{Bytes, trimmed_column};
 use std::alloc::Global;
 
 // M  ALS aaan16 t ssss..   columns 8-10 the atom, 11-13 the count, 15 T or F, from 17 on four
@@ -51,7 +50,8 @@ fn symbols(alloc: Global, line: &[u8]) -> Result<Symbols, LineFault>
     };
     let mut symbols = Symbols::new(alloc);
     for i in 0..count {
-        symbols.push(trimmed_column(line, 17 + 4 * i, 20 + 4 * i))?;
+        let symbol = trimmed_column(line, 17 + 4 * i, 20 + 4 * i);
+        symbols.push(Bytes::of(Vec::from_slice(alloc, symbol)?))?;
     }
     Ok(symbols)
 }

@@ -1,7 +1,6 @@
 // What property lines hold. Atoms count from 1; nothing is checked against a table here.
 use crate::short_list::ShortList;
-use crate::symbols::Symbols;
-use mk_text::Bytes;
+use mk_text::{Bytes, Listed};
 
 /// An atom and a value for it.
 #[derive(Clone, Copy, Debug, Default, PartialEq, Eq)]
@@ -24,6 +23,9 @@ pub struct LinkEntry {
 
 /// A list of link entries. One takes no memory of its own.
 pub type Links = ShortList<LinkEntry, 1>;
+
+/// A list of symbols.
+pub type Symbols = Listed<Bytes>;
 
 /// The symbols that an atom may have, or with `not` those that it may not have.
 #[derive(Debug, Drop)]

@@ -3,7 +3,7 @@
 use Rattle.std.proofs.Common.{◌≡◌, ◌≤◌, ◌+◌, ◌-◌, ℕ, false, List, [], refl, ap, ◌∙◌, length, get_or, arith}
 use Rattle.std.specs.Prelude.{pos}
 use Rattle.mk_props.specs.declared.property.LinkEntry.{LinkEntry}
-use Rattle.mk_ctab.specs.declared.raw.RawTable.{RawTable}
+use Rattle.mk_tables.specs.declared.raw.RawTable.{RawTable}
 use Rattle.mk_demands.specs.Charges.{last_or, values_for}
 use Rattle.mk_query.specs.declared.atom_marks.Standing.{Standing}
 use Rattle.mk_query.specs.declared.linked_atoms.Linked.{Linked}

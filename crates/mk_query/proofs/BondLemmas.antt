@@ -10,7 +10,7 @@ use Rattle.std.proofs.lemmas.List.Sums.{sum_by_push}
 use Rattle.mk_text.specs.Items.{FindsLeast, OfItem}
 use Rattle.mk_model.specs.declared.edge.Edge.{Edge}
 use Rattle.mk_model.specs.Edges.{degree, touches}
-use Rattle.mk_ctab.specs.declared.raw.RawBond.{RawBond}
+use Rattle.mk_tables.specs.declared.raw.RawBond.{RawBond}
 use Rattle.mk_demands.specs.Bonds.{IsNewBondAt, raw_edge, edges_of}
 use Rattle.mk_demands.specs.Numbers.{natural}
 use Rattle.mk_query.specs.Checks.{HasQueryType, IsQueryBond, LeavesFewBonds}

@@ -3,7 +3,7 @@ use Rattle.std.proofs.Common.{◌≡◌, ◌≤◌, ◌+◌, ℕ, Bool, List, Op
 use Rattle.std.specs.Prelude.{if◌then◌else◌, ◌==◌}
 use Rattle.std.proofs.lemmas.Bool.{cases_lt}
 use Rattle.mk_text.specs.Items.{FindsLeast}
-use Rattle.mk_ctab.specs.declared.raw.RawTable.{RawTable}
+use Rattle.mk_tables.specs.declared.raw.RawTable.{RawTable}
 use Rattle.mk_rgfile.specs.declared.raw_query.RawGroup.{RawGroup}
 use Rattle.mk_query.specs.declared.checking.Fault.{Fault}
 use Rattle.mk_query.specs.FirstFault.{QueryCheck, query_atoms, query_bonds, query_properties, element_lists, labelled_sites, site_places, site_orders, attachment_points, link_atoms, group_logic, query_check_number, QueryDemands, Passes, PassesAll, PassesBelow, IsFirstFault, FindsBelow}

@@ -13,8 +13,8 @@ use Rattle.mk_model.specs.declared.template.QueryBond.{QueryBond}
 use Rattle.mk_model.specs.Edges.{AreBetween, IsBetween, IsSimple}
 use Rattle.mk_model.specs.Templates.{query_edge, query_edges}
 use Rattle.mk_model.specs.Tests.{IsBondInRange}
-use Rattle.mk_ctab.specs.declared.raw.RawBond.{RawBond}
-use Rattle.mk_ctab.specs.declared.raw.RawTable.{RawTable}
+use Rattle.mk_tables.specs.declared.raw.RawBond.{RawBond}
+use Rattle.mk_tables.specs.declared.raw.RawTable.{RawTable}
 use Rattle.mk_demands.specs.Bonds.{HasTwoEnds, IsEdgeFront, raw_edge, edges_of}
 use Rattle.mk_demands.specs.Numbers.{IsWithin, byte}
 use Rattle.mk_demands.proofs.ForCallers.{atom_within, atoms_differ, is_graph}

@@ -15,7 +15,7 @@ use Rattle.mk_model.specs.declared.template.Slot.TheVariants.{Link, Site}
 use Rattle.mk_model.specs.QueryFits.{AreApart, HasClosedBlocks, HasFreePoints, HasPairsOnce, HasRisingLabels, HasRisingSlots, HasSitesApart, IsAtomOf, HoldsItsBlock, IsInRange, IsMarked, IsSlotOf, NamesItsNeighbours, NamesNeighbours}
 use Rattle.mk_model.specs.Tests.{IsBondInRange}
 use Rattle.mk_model.specs.Templates.{TemplateView, is_in_block, slot_atom}
-use Rattle.mk_ctab.specs.declared.raw.RawTable.{RawTable}
+use Rattle.mk_tables.specs.declared.raw.RawTable.{RawTable}
 use Rattle.mk_demands.specs.Numbers.{natural}
 use Rattle.mk_demands.proofs.ForCallers.{atoms_differ}
 use Rattle.mk_query.specs.Compiled.{IsTemplateOf, labelled_groups, ordered_neighbours, points_of, slot_at, slot_with, table_slots}

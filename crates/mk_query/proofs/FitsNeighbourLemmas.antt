@@ -12,7 +12,7 @@ use Rattle.mk_model.specs.declared.template.QueryBond.{QueryBond}
 use Rattle.mk_model.specs.declared.template.Slot.{Slot}
 use Rattle.mk_model.specs.declared.template.Slot.TheVariants.{Link, Site}
 use Rattle.mk_model.specs.Templates.{joins}
-use Rattle.mk_ctab.specs.declared.raw.RawTable.{RawTable}
+use Rattle.mk_tables.specs.declared.raw.RawTable.{RawTable}
 use Rattle.mk_demands.specs.Numbers.{natural}
 use Rattle.mk_query.specs.Compiled.{labelled_groups, ordered_neighbours, slot_with, table_slots}
 use Rattle.mk_query.specs.Drawn.{drawn_neighbours, is_site_at, labels_at, links_at, neighbours_at, query_bonds}

@@ -12,7 +12,7 @@ use Rattle.mk_props.specs.declared.property.SiteOrder.{SiteOrder}
 use Rattle.mk_model.specs.declared.template.QueryBond.{QueryBond}
 use Rattle.mk_model.specs.Edges.{Joins}
 use Rattle.mk_model.specs.Templates.{joins, query_edge, query_edges}
-use Rattle.mk_ctab.specs.declared.raw.RawTable.{RawTable}
+use Rattle.mk_tables.specs.declared.raw.RawTable.{RawTable}
 use Rattle.mk_demands.specs.Numbers.{natural}
 use Rattle.mk_query.specs.Compiled.{atom_placed, neighbours_by, order_for, order_of, ordered_neighbours, rising_neighbours}
 use Rattle.mk_query.specs.Drawn.{drawn_neighbours, neighbours_at, query_bonds}

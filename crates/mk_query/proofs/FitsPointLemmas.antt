@@ -8,8 +8,8 @@ use Rattle.std.proofs.lemmas.List.{append-nil, length-append}
 use Rattle.std.proofs.lemmas.List.Elements.{All-append, All-filter, filter_passes}
 use Rattle.std.proofs.lemmas.List.FromFn.{get_or-range_with_len, length-range_with_len}
 use Rattle.std.proofs.lemmas.Option.{slice_get_cases}
-use Rattle.mk_ctab.specs.declared.raw.RawAtom.{RawAtom}
-use Rattle.mk_ctab.specs.declared.raw.RawTable.{RawTable}
+use Rattle.mk_tables.specs.declared.raw.RawAtom.{RawAtom}
+use Rattle.mk_tables.specs.declared.raw.RawTable.{RawTable}
 use Rattle.mk_query.specs.Compiled.{points_of}
 use Rattle.mk_query.specs.Drawn.{bears_point}
 use Rattle.mk_query.specs.FirstFault.{attachment_points}

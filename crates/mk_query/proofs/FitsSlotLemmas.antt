@@ -15,7 +15,7 @@ use Rattle.mk_model.specs.declared.template.Slot.TheVariants.{Link, Site}
 use Rattle.mk_model.specs.Labels.{site_labels}
 use Rattle.mk_model.specs.QueryFits.{AreRisingLabels}
 use Rattle.mk_model.specs.Templates.{slot_atom}
-use Rattle.mk_ctab.specs.declared.raw.RawTable.{RawTable}
+use Rattle.mk_tables.specs.declared.raw.RawTable.{RawTable}
 use Rattle.mk_demands.specs.Numbers.{natural}
 use Rattle.mk_query.specs.Compiled.{labelled_groups, ordered_neighbours, slot_at, slot_with, slots_at, slots_in, table_slots}
 use Rattle.mk_query.specs.Drawn.{is_site_at, labels_at, links_at}

@@ -16,11 +16,11 @@ use Rattle.mk_model.specs.declared.atom_test.Kind.{Kind}
 use Rattle.mk_model.specs.declared.atom_test.Kind.TheVariants.{OneOf, NoneOf}
 use Rattle.mk_model.specs.Molecules.{IsElement}
 use Rattle.mk_model.specs.Tests.{IsKindInRange, IsListOfElements, IsTestInRange}
-use Rattle.mk_ctab.specs.declared.raw.RawAtom.{RawAtom}
-use Rattle.mk_ctab.specs.declared.raw.RawTable.{RawTable}
+use Rattle.mk_tables.specs.declared.raw.RawAtom.{RawAtom}
+use Rattle.mk_tables.specs.declared.raw.RawTable.{RawTable}
 use Rattle.mk_demands.specs.Charges.{charge_at, charge_of_column, charge_pairs, charges_of, last_or, lists_values, radical_at, radical_of_column, radical_pairs, radicals_of, values_for}
 use Rattle.mk_demands.specs.Numbers.{IsWithin, natural}
-use Rattle.mk_ctab.specs.TableFacts.{HasSymbols}
+use Rattle.mk_tables.specs.TableFacts.{HasSymbols}
 use Rattle.mk_query.specs.Checks.{HasQueryValues, IsQueryProperty, IsRingBondCount}
 use Rattle.mk_query.specs.Compiled.{AreTestsOf, HasElements, IsKindOf, IsTestBy, IsTestDrawn, NameElements, is_not_list, kind_by, no_test, of_any, of_any_heavy, of_element, of_hetero, of_list}
 use Rattle.mk_query.specs.Drawn.{ElementList, all_lists, by_numbers, by_symbols, is_site, list_in_force, listed_atom, lists_at, pairs_by, ring_bonds_of, substitutions_of, symbol_lists, value_at}

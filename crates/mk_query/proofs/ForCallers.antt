@@ -3,8 +3,8 @@
 --     in_range         a raw query that is read is in range
 --     few_by_lines     a raw query of a text of at most 2^32 lines has few members and few properties
 use Rattle.std.proofs.Common.{◌+◌, ◌<◌, ◌≤◌, ℕ, arith}
-use Rattle.mk_ctab.specs.declared.raw.RawTable.{RawTable}
-use Rattle.mk_ctab.specs.TableFacts.{IsRawTable}
+use Rattle.mk_tables.specs.declared.raw.RawTable.{RawTable}
+use Rattle.mk_tables.specs.TableFacts.{IsRawTable}
 use Rattle.mk_rgfile.specs.declared.raw_query.RawQuery.{RawQuery}
 use Rattle.mk_rgfile.specs.QueryFacts.{FitsIn, IsRawQuery, member_count}
 use Rattle.mk_query.specs.InRange.{HaveFewProperties, IsQueryInRange, IsTableInRange}

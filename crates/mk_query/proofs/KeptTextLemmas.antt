@@ -21,11 +21,11 @@ use Rattle.mk_model.proofs.ForCallers.{kept_all}
 use Rattle.mk_logic.specs.RangeTexts.{AreRangeItems, IsNumeral, IsRangeItem, IsRangeText, IsSigned}
 use Rattle.mk_logic.specs.RangeTexts.IsRangeItem.{one_number, two_numbers, more_than, less_than}
 use Rattle.mk_logic.specs.RangeTexts.IsRangeText.{blank_text, item_text}
-use Rattle.mk_ctab.specs.declared.raw.RawAtom.{RawAtom}
-use Rattle.mk_ctab.specs.declared.raw.RawTable.{RawTable}
-use Rattle.mk_ctab.specs.KeptTables.{EndsWithoutCr, KeepsItsText}
+use Rattle.mk_tables.specs.declared.raw.RawAtom.{RawAtom}
+use Rattle.mk_tables.specs.declared.raw.RawTable.{RawTable}
+use Rattle.mk_tables.specs.KeptTables.{EndsWithoutCr, KeepsItsText}
 use Rattle.mk_demands.specs.Numbers.{natural}
-use Rattle.mk_ctab.specs.TableLines.{Line}
+use Rattle.mk_tables.specs.TableLines.{Line}
 use Rattle.mk_demands.proofs.ForCallers.{atom_within}
 use Rattle.mk_rgfile.specs.declared.raw_query.RawQuery.{RawQuery}
 use Rattle.mk_rgfile.specs.KeptQueries.{KeepsItsTexts, KeptLinesAreTheQuery}

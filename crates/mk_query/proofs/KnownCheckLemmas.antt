@@ -21,9 +21,9 @@ use Rattle.mk_model.specs.declared.group.Interval.{Interval}
 use Rattle.mk_model.specs.declared.template.QueryBond.{QueryBond}
 use Rattle.mk_model.specs.Edges.{degree}
 use Rattle.mk_model.specs.Templates.{joins}
-use Rattle.mk_ctab.specs.declared.raw.RawAtom.{RawAtom}
-use Rattle.mk_ctab.specs.declared.raw.RawBond.{RawBond}
-use Rattle.mk_ctab.specs.declared.raw.RawTable.{RawTable}
+use Rattle.mk_tables.specs.declared.raw.RawAtom.{RawAtom}
+use Rattle.mk_tables.specs.declared.raw.RawBond.{RawBond}
+use Rattle.mk_tables.specs.declared.raw.RawTable.{RawTable}
 use Rattle.mk_demands.specs.Bonds.{HasFewBonds, IsNewBond, JoinSame, edges_of}
 use Rattle.mk_demands.specs.Numbers.{IsAtom, IsWithin, natural}
 use Rattle.mk_demands.specs.Values.{AreForAtoms, HaveValues}

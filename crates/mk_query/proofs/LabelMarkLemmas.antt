@@ -27,7 +27,7 @@ use Rattle.mk_props.specs.declared.property.Property.{Property}
 use Rattle.mk_props.specs.declared.property.Property.TheVariants as kinds
 use Rattle.mk_model.specs.QueryFits.{AreRisingLabels}
 use Rattle.mk_model.proofs.ForCallers.{or_false, some_passes}
-use Rattle.mk_ctab.specs.declared.raw.RawTable.{RawTable}
+use Rattle.mk_tables.specs.declared.raw.RawTable.{RawTable}
 use Rattle.mk_demands.specs.Charges.{values_for}
 use Rattle.mk_demands.specs.Numbers.{natural}
 use Rattle.mk_query.specs.declared.drawn.Labels.{Labels}

@@ -14,8 +14,8 @@ use Rattle.mk_model.specs.declared.template.QueryBond.{QueryBond}
 use Rattle.mk_model.specs.Edges.{AreBetween, IsBetween}
 use Rattle.mk_model.specs.Templates.{hang_together, joins, query_edge, query_edges}
 use Rattle.mk_model.proofs.ForCallers.{hangs, hangs_closed, kept_within}
-use Rattle.mk_ctab.specs.declared.raw.RawBond.{RawBond}
-use Rattle.mk_ctab.specs.declared.raw.RawTable.{RawTable}
+use Rattle.mk_tables.specs.declared.raw.RawBond.{RawBond}
+use Rattle.mk_tables.specs.declared.raw.RawTable.{RawTable}
 use Rattle.mk_demands.specs.Bonds.{HasTwoEnds}
 use Rattle.mk_demands.specs.Numbers.{natural}
 use Rattle.mk_demands.proofs.ForCallers.{atom_within, atoms_differ}

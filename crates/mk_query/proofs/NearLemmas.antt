@@ -4,7 +4,7 @@ use Rattle.std.proofs.lemmas.Bool.{ne_eqb}
 use Rattle.std.proofs.lemmas.Bool.Decides.{nat_tests}
 use Rattle.std.proofs.lemmas.List.{map_push}
 use Rattle.mk_model.specs.declared.template.QueryBond.{QueryBond}
-use Rattle.mk_ctab.specs.declared.raw.RawBond.{RawBond}
+use Rattle.mk_tables.specs.declared.raw.RawBond.{RawBond}
 use Rattle.mk_query.specs.declared.drawn.Near.{Near}
 use Rattle.mk_query.specs.Drawn.{neighbours_at, query_bond, query_bonds}
 use Rattle.mk_query.specs.Marks.{AreMore, IsNear}

@@ -18,8 +18,8 @@ use Rattle.mk_model.specs.declared.group.Interval.{Interval}
 use Rattle.mk_model.specs.declared.template.QueryBond.{QueryBond}
 use Rattle.mk_model.specs.declared.template.Slot.{Slot}
 use Rattle.mk_model.specs.Templates.{TemplateView}
-use Rattle.mk_ctab.specs.declared.raw.RawAtom.{RawAtom}
-use Rattle.mk_ctab.specs.declared.raw.RawTable.{RawTable}
+use Rattle.mk_tables.specs.declared.raw.RawAtom.{RawAtom}
+use Rattle.mk_tables.specs.declared.raw.RawTable.{RawTable}
 use Rattle.mk_logic.specs.RangeTexts.{OneRange}
 use Rattle.mk_rgfile.specs.declared.raw_query.RawQuery.{RawQuery}
 use Rattle.mk_query.specs.Compiled.{AreGroupsOf, AreTemplatesOf, AreTestsOf, HasElements, IsKindOf, IsLogicOf, IsTemplateOf, IsTestBy, NameElements, kind_by, logic_for, of_any, of_any_heavy, of_element, of_hetero, of_list, query_tables}

@@ -12,8 +12,8 @@ use Rattle.mk_props.specs.declared.property.Property.TheVariants as kinds
 use Rattle.mk_props.specs.declared.property.SiteOrder.{SiteOrder}
 use Rattle.mk_text.specs.Items.{FindsLeast}
 use Rattle.mk_text.proofs.ForCallers.{items-none, of_item-at, of_item-here, of_item-past}
-use Rattle.mk_ctab.specs.declared.raw.RawAtom.{RawAtom}
-use Rattle.mk_ctab.specs.declared.raw.RawTable.{RawTable}
+use Rattle.mk_tables.specs.declared.raw.RawAtom.{RawAtom}
+use Rattle.mk_tables.specs.declared.raw.RawTable.{RawTable}
 use Rattle.mk_demands.specs.Numbers.{IsAtom, natural}
 use Rattle.mk_demands.proofs.ForCallers.{atom_is, atom_within}
 use Rattle.mk_query.specs.declared.drawn.Near.{Near}

@@ -10,8 +10,8 @@ use Rattle.mk_model.specs.Queries.{QueryView, members_of}
 use Rattle.mk_model.specs.QueryFits.{HasClosedBlocks, HasFreePoints, HasPairsOnce, HasRisingLabels, HasRisingSlots, HasSitesApart, HasSmallRoot, IsInRange, NamesNeighbours, QueryFits}
 use Rattle.mk_model.specs.Templates.{TemplateView, slot_atom}
 use Rattle.mk_model.proofs.ForCallers.{all_at, at_place}
-use Rattle.mk_ctab.specs.declared.raw.RawAtom.{RawAtom}
-use Rattle.mk_ctab.specs.declared.raw.RawTable.{RawTable}
+use Rattle.mk_tables.specs.declared.raw.RawAtom.{RawAtom}
+use Rattle.mk_tables.specs.declared.raw.RawTable.{RawTable}
 use Rattle.mk_rgfile.specs.declared.raw_query.RawQuery.{RawQuery}
 use Rattle.mk_rgfile.specs.QueryFacts.{member_count}
 use Rattle.mk_query.specs.Compiled.{AreGroupsOf, AreTemplatesOf, IsTemplateOf, member_tables, members_from, query_tables}

@@ -15,8 +15,8 @@ use Rattle.mk_model.specs.declared.atom_test.Kind.TheVariants.{Element, NotHydro
 use Rattle.mk_model.specs.declared.group.Group.{Group}
 use Rattle.mk_model.specs.Queries.{QueryView}
 use Rattle.mk_model.specs.Templates.{TemplateView}
-use Rattle.mk_ctab.specs.declared.raw.RawAtom.{RawAtom}
-use Rattle.mk_ctab.specs.declared.raw.RawTable.{RawTable}
+use Rattle.mk_tables.specs.declared.raw.RawAtom.{RawAtom}
+use Rattle.mk_tables.specs.declared.raw.RawTable.{RawTable}
 use Rattle.mk_demands.specs.Charges.{charge_at, radical_at}
 use Rattle.mk_demands.specs.Numbers.{natural}
 use Rattle.mk_rgfile.specs.declared.raw_query.RawQuery.{RawQuery}

@@ -14,8 +14,8 @@ use Rattle.mk_props.specs.declared.property.Property.{Property}
 use Rattle.mk_props.specs.declared.property.Property.TheVariants as kinds
 use Rattle.mk_props.specs.declared.property.SiteOrder.{SiteOrder}
 use Rattle.mk_model.specs.declared.template.Slot.{Slot}
-use Rattle.mk_ctab.specs.declared.raw.RawAtom.{RawAtom}
-use Rattle.mk_ctab.specs.declared.raw.RawTable.{RawTable}
+use Rattle.mk_tables.specs.declared.raw.RawAtom.{RawAtom}
+use Rattle.mk_tables.specs.declared.raw.RawTable.{RawTable}
 use Rattle.mk_demands.specs.Numbers.{natural}
 use Rattle.mk_query.specs.declared.drawn.Labels.{Labels}
 use Rattle.mk_query.specs.declared.drawn.Near.{Near}

@@ -1,5 +1,5 @@
 -- What the checks demand of one table of a query, item by item. Atoms, bonds and properties count
--- from 1. What is demanded of any table's bonds and values stands in mk_ctab.
+-- from 1. What is demanded of any table's bonds and values stands in mk_tables.
 --     IsQueryAtom atom                 a symbol that a query may have, and columns that mean
 --                                      something
 --     IsQueryBond atoms bonds item     a new bond of a known type and topology, with room at its
@@ -13,8 +13,8 @@ use Rattle.mk_elements.specs.Symbols.{NamesElement}
 use Rattle.mk_props.specs.declared.property.LinkEntry.{LinkEntry}
 use Rattle.mk_props.specs.declared.property.Property.{Property}
 use Rattle.mk_props.specs.declared.property.Property.TheVariants as kinds
-use Rattle.mk_ctab.specs.declared.raw.RawAtom.{RawAtom}
-use Rattle.mk_ctab.specs.declared.raw.RawBond.{RawBond}
+use Rattle.mk_tables.specs.declared.raw.RawAtom.{RawAtom}
+use Rattle.mk_tables.specs.declared.raw.RawBond.{RawBond}
 use Rattle.mk_demands.specs.Bonds.{HasFewBonds, IsNewBondAt, edges_of}
 use Rattle.mk_demands.specs.Numbers.{IsAtom, IsWithin}
 use Rattle.mk_demands.specs.Values.{AreForAtoms, HaveValues}

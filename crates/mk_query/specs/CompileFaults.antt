@@ -14,7 +14,7 @@ use Rattle.mk_model.specs.Queries.{QueryView}
 use Rattle.mk_model.specs.QueryFits.{FitsPoints}
 use Rattle.mk_model.specs.Sizes.{IsSizing}
 use Rattle.mk_model.specs.Templates.{TemplateView, slot_atom}
-use Rattle.mk_ctab.specs.declared.raw.RawTable.{RawTable}
+use Rattle.mk_tables.specs.declared.raw.RawTable.{RawTable}
 use Rattle.mk_rgfile.specs.declared.raw_query.RawGroup.{RawGroup}
 use Rattle.mk_rgfile.specs.declared.raw_query.RawQuery.{RawQuery}
 use Rattle.mk_rgfile.specs.QueryFacts.{member_count}

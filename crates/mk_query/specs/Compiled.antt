@@ -26,8 +26,8 @@ use Rattle.mk_model.specs.declared.template.Slot.{Slot}
 use Rattle.mk_model.specs.declared.template.Slot.TheVariants.{Link, Site}
 use Rattle.mk_model.specs.Queries.{QueryView}
 use Rattle.mk_model.specs.Templates.{TemplateView}
-use Rattle.mk_ctab.specs.declared.raw.RawAtom.{RawAtom}
-use Rattle.mk_ctab.specs.declared.raw.RawTable.{RawTable}
+use Rattle.mk_tables.specs.declared.raw.RawAtom.{RawAtom}
+use Rattle.mk_tables.specs.declared.raw.RawTable.{RawTable}
 use Rattle.mk_demands.specs.Charges.{charge_at, radical_at}
 use Rattle.mk_demands.specs.Numbers.{natural}
 use Rattle.mk_logic.specs.RangeTexts.{IsRangeText}

@@ -6,8 +6,8 @@
 --     HasFewProperties table    fewer than 2^32 properties
 --     HaveFewProperties raw     each table has
 use Rattle.std.specs.Prelude.{◌≤◌, ◌<◌, ◌^◌, length, All}
-use Rattle.mk_ctab.specs.declared.raw.RawTable.{RawTable}
-use Rattle.mk_ctab.specs.TableFacts.{HasSymbols}
+use Rattle.mk_tables.specs.declared.raw.RawTable.{RawTable}
+use Rattle.mk_tables.specs.TableFacts.{HasSymbols}
 use Rattle.mk_rgfile.specs.declared.raw_query.RawGroup.{RawGroup}
 use Rattle.mk_rgfile.specs.declared.raw_query.RawQuery.{RawQuery}
 

@@ -16,8 +16,8 @@ use Rattle.mk_model.specs.declared.group.Interval.{Interval}
 use Rattle.mk_model.specs.declared.template.QueryBond.{QueryBond}
 use Rattle.mk_model.specs.declared.template.Slot.TheVariants.{Link}
 use Rattle.mk_model.specs.Templates.{bonds_without, hang_together, joins}
-use Rattle.mk_ctab.specs.declared.raw.RawAtom.{RawAtom}
-use Rattle.mk_ctab.specs.declared.raw.RawTable.{RawTable}
+use Rattle.mk_tables.specs.declared.raw.RawAtom.{RawAtom}
+use Rattle.mk_tables.specs.declared.raw.RawTable.{RawTable}
 use Rattle.mk_demands.specs.Numbers.{IsAtom, IsWithin, natural}
 use Rattle.mk_logic.specs.RangeTexts.{IsRangeText}
 use Rattle.mk_query.specs.Drawn.{bears_point, is_site_at, links_at, query_bonds}

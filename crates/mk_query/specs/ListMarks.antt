@@ -9,7 +9,7 @@ use Rattle.std.specs.List.{filter}
 use Rattle.mk_props.specs.declared.property.AtomList.{AtomList}
 use Rattle.mk_props.specs.declared.property.Property.{Property}
 use Rattle.mk_props.specs.declared.property.Property.TheVariants as kinds
-use Rattle.mk_ctab.specs.declared.raw.RawList.{RawList}
+use Rattle.mk_tables.specs.declared.raw.RawList.{RawList}
 use Rattle.mk_demands.specs.Numbers.{natural}
 use Rattle.mk_query.specs.declared.list_places.ListPlace.{ListPlace}
 use Rattle.mk_query.specs.declared.list_places.ListPlace.TheVariants as place

@@ -6,7 +6,7 @@
 --     HasRoom counts n          atom n has at most 20
 use Rattle.std.specs.Prelude.{◌≡◌, ◌≤◌, ◌<◌, ◌+◌, ◌-◌, nat_le, ℕ, Bool, List, length, slice_index, Option, Some, None, if◌then◌else◌}
 use Rattle.mk_model.specs.Edges.{degree}
-use Rattle.mk_ctab.specs.declared.raw.RawBond.{RawBond}
+use Rattle.mk_tables.specs.declared.raw.RawBond.{RawBond}
 use Rattle.mk_demands.specs.Bonds.{edges_of}
 use Rattle.mk_query.specs.declared.checking.Fault.{Fault}
 

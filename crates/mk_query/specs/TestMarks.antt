@@ -5,8 +5,8 @@
 --     AreTestsTo table k tests      the tests of the first k atoms
 use Rattle.std.specs.Prelude.{◌≡◌, ◌<◌, ◌+◌, ℕ, List, Some, length, slice_get, slice_index_or}
 use Rattle.mk_model.specs.declared.atom_test.AtomTest.{AtomTest}
-use Rattle.mk_ctab.specs.declared.raw.RawAtom.{RawAtom}
-use Rattle.mk_ctab.specs.declared.raw.RawTable.{RawTable}
+use Rattle.mk_tables.specs.declared.raw.RawAtom.{RawAtom}
+use Rattle.mk_tables.specs.declared.raw.RawTable.{RawTable}
 use Rattle.mk_demands.specs.Charges.{AreElectrons}
 use Rattle.mk_query.specs.declared.atom_tests.AtomNotes.{AtomNotes}
 use Rattle.mk_query.specs.Compiled.{IsTestOf}

@@ -3,9 +3,9 @@ ghost use Rattle.std.specs.Prelude.{◌≡◌, ◌≤◌, ◌↔◌, ◌⊎◌, 
 ghost use Rattle.mk_text.specs.Items.{FindsLeast, OfItem};
 ghost use Rattle.mk_query.specs.Checks.{IsElementName, IsQueryAtom, IsQueryWord};
 
-use mk_ctab::RawAtom;
 use mk_demands::is_within;
 use mk_elements::number_of;
+use mk_tables::RawAtom;
 
 /// The first atom that has an unknown symbol, charge or number of hydrogens.
 pub fn first_unknown_atom(atoms: &[RawAtom]) -> Option<u32>

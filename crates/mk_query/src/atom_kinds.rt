@@ -7,9 +7,9 @@ ghost use Rattle.mk_query.specs.KindMarks.{AreKnownAt, IsKindFor, IsPlainSymbol}
 use crate::atom_checks::is_word;
 use crate::element_kinds::listed_kind;
 use crate::list_places::ListPlace;
-use mk_ctab::RawTable;
 use mk_elements::number_of;
 use mk_model::Kind;
+use mk_tables::RawTable;
 use mk_text::Memory;
 use std::alloc::Global;
 

@@ -8,8 +8,8 @@ use crate::drawn::{Labels, Near, labels_of, neighbours_of, sites_of};
 use crate::linked_atoms::{Linked, linked_atoms};
 use crate::sites::site_mark;
 use crate::values::{ValueKind, last_values};
-use mk_ctab::RawTable;
 use mk_demands::natural;
+use mk_tables::RawTable;
 use mk_text::Memory;
 use std::alloc::Global;
 

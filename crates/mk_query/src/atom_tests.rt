@@ -10,9 +10,9 @@ use crate::atom_kinds::kind_of;
 use crate::drawn::is_site;
 use crate::list_places::{ListPlace, list_places};
 use crate::values::{ValueKind, last_values};
-use mk_ctab::{RawAtom, RawTable};
 use mk_demands::{Electrons, charges_and_radicals};
 use mk_model::{AtomTest, Kind};
+use mk_tables::{RawAtom, RawTable};
 use mk_text::Memory;
 use std::alloc::Global;
 

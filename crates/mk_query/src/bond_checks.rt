@@ -7,9 +7,9 @@ ghost use Rattle.mk_demands.specs.Numbers.{natural};
 ghost use Rattle.mk_query.specs.Checks.{HasQueryType, IsQueryBond, LeavesFewBonds};
 ghost use Rattle.mk_query.specs.Searches.{AreCounted, HasRoom, least_of};
 
-use mk_ctab::RawBond;
 use mk_demands::{edges_between, first_no_new_bond, is_within, natural};
 use mk_model::Neighbours;
+use mk_tables::RawBond;
 use mk_text::Memory;
 use std::alloc::Global;
 

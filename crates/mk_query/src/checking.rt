@@ -15,7 +15,7 @@ use crate::orders::first_disordered_site;
 use crate::points::first_misplaced_point;
 use crate::property_checks::first_unknown_property;
 use crate::sites::{first_misplaced_site, first_unlabelled_atom};
-use mk_ctab::RawTable;
+use mk_tables::RawTable;
 use mk_text::Memory;
 use std::alloc::Global;
 

@@ -6,9 +6,9 @@ ghost use Rattle.mk_query.specs.Drawn.{is_site, label_pairs, neighbours_at, pair
 ghost use Rattle.mk_query.specs.Marks.{AreMarks, AreMore, HasMore, IsKnownLabel, IsLabels, IsNear, has_group};
 
 use crate::bond_checks::{first_end, second_end};
-use mk_ctab::{RawAtom, RawBond};
 use mk_demands::{is_within, natural};
 use mk_props::{Pair, Property};
+use mk_tables::{RawAtom, RawBond};
 use mk_text::Memory;
 use std::alloc::Global;
 

@@ -3,9 +3,9 @@ ghost use Rattle.std.specs.Prelude.{◌≡◌, IfOk};
 ghost use Rattle.mk_model.specs.Templates.{joins, query_edge, query_edges};
 ghost use Rattle.mk_query.specs.Drawn.{query_bond, query_bonds};
 
-use mk_ctab::RawBond;
 use mk_demands::{byte, natural};
 use mk_model::{Edge, QueryBond};
+use mk_tables::RawBond;
 use mk_text::Memory;
 use std::alloc::Global;
 

@@ -8,12 +8,12 @@ ghost use Rattle.mk_query.specs.Drawn.{by_numbers};
 ghost use Rattle.mk_query.specs.KindMarks.{AreKnownAt, AreKnownIn, IsKindAt, IsKindBy, IsKindIn, kind_with};
 
 use crate::list_places::ListPlace;
-use mk_ctab::{RawList, RawTable};
 use mk_demands::natural;
 use mk_elements::number_of;
 use mk_model::{Elements, Kind};
-use mk_props::{Property, Symbols};
-use mk_text::Memory;
+use mk_props::Property;
+use mk_tables::{RawList, RawTable};
+use mk_text::{Bytes, Memory};
 use std::alloc::Global;
 
 /// The kind that the list at a place tells, where there is one.
@@ -43,7 +43,7 @@ fn property_kind(alloc: Global, property: &Property) -> Result<Kind, Memory>
     ensures { IfOk result (IsKindBy property.now) }
 {
     if let Property::List(list) = property {
-        let elements = named_elements(alloc, &list.symbols)?;
+        let elements = named_elements(alloc, list.symbols.as_slice())?;
         return Ok(kind_with(list.not, elements));
     }
     Ok(Kind::Anything)
@@ -78,13 +78,13 @@ fn numbered_element(number: &i32) -> u8
     z as u8
 }
 
-fn named_elements(alloc: Global, symbols: &Symbols) -> Result<Elements, Memory>
+fn named_elements(alloc: Global, symbols: &[Bytes]) -> Result<Elements, Memory>
     requires { All IsElementName symbols.now }
     ensures { IfOk result (NameElements symbols.now) }
 {
     let mut elements = Elements::new(alloc);
-    for i in 0..symbols.count() {
-        elements.push(named_element(symbols.symbol(i)))?;
+    for symbol in symbols {
+        elements.push(named_element(symbol.as_slice()))?;
     }
     Ok(elements)
 }

@@ -18,7 +18,7 @@
 //! All other files there serve the code alone. The checks are told in docs/FORMAT.md, "The checks
 //! of a query".
 //!
-//! What any table has to keep stands in mk_ctab. Which molecules a query finds isn't said here.
+//! What any table has to keep stands in mk_tables. Which molecules a query finds isn't said here.
 #![tactic(auto)]
 
 mod atom_checks;

@@ -4,9 +4,9 @@ ghost use Rattle.mk_demands.specs.Numbers.{natural};
 ghost use Rattle.mk_query.specs.Drawn.{all_lists};
 ghost use Rattle.mk_query.specs.ListMarks.{AreInForce, IsListNoted, IsPlaceAt};
 
-use mk_ctab::{RawList, RawTable};
 use mk_demands::natural;
 use mk_props::{AtomList, Property};
+use mk_tables::{RawList, RawTable};
 use mk_text::Memory;
 use std::alloc::Global;
 

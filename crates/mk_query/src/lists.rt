@@ -9,10 +9,10 @@ ghost use Rattle.mk_query.specs.SiteChecks.{HasKnownMembers, HasLists, IsListed}
 
 use crate::atom_checks::is_element_name;
 use crate::drawn::is_symbol;
-use mk_ctab::{RawAtom, RawList, RawTable};
 use mk_demands::{is_atom, is_within, natural};
-use mk_props::{AtomList, Property, Symbols};
-use mk_text::Memory;
+use mk_props::{AtomList, Property};
+use mk_tables::{RawAtom, RawList, RawTable};
+use mk_text::{Bytes, Memory};
 use std::alloc::Global;
 
 /// Whether a list of elements names the atom, and whether all that do have known members.
@@ -136,7 +136,11 @@ fn add_property(marks: &mut Vec<ListMark>, property: &Property)
     ensures { AreMore IsListMark (lists_for (symbol_lists (property.now ∷ []))) marks.old.items marks.new.items }
 {
     match property {
-        Property::List(list) => add_list(marks, atom_of_symbols(list), are_symbols(&list.symbols)),
+        Property::List(list) => add_list(
+            marks,
+            atom_of_symbols(list),
+            are_symbols(list.symbols.as_slice()),
+        ),
         _ => {}
     }
 }
@@ -148,11 +152,11 @@ fn atom_of_symbols(list: &AtomList) -> u32
 }
 
 // Whether these are symbols of elements.
-fn are_symbols(symbols: &Symbols) -> bool
+fn are_symbols(symbols: &[Bytes]) -> bool
     ensures { IsTrue result ↔ All IsElementName symbols.now }
 {
-    for i in 0..symbols.count() {
-        if !is_element_name(symbols.symbol(i)) {
+    for symbol in symbols {
+        if !is_element_name(symbol.as_slice()) {
             return false;
         }
     }

@@ -4,7 +4,7 @@ ghost use Rattle.std.specs.Prelude.{◌≡◌, ◌≤◌, IfOk, length};
 ghost use Rattle.mk_query.specs.AtomMarks.{AreStanding, note_props};
 
 use crate::atom_marks::{Standing, standing_of};
-use mk_ctab::RawTable;
+use mk_tables::RawTable;
 use mk_text::Memory;
 use std::alloc::Global;
 

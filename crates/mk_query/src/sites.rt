@@ -9,8 +9,8 @@ ghost use Rattle.mk_query.specs.SiteChecks.{HasLabel, HasSitePlace, IsLabelled};
 use crate::draft::GROUPS;
 use crate::drawn::{Labels, Near, has_group, is_site};
 use crate::notes::Notes;
-use mk_ctab::RawAtom;
 use mk_rgfile::RawGroup;
+use mk_tables::RawAtom;
 use mk_text::Memory;
 use std::alloc::Global;
 

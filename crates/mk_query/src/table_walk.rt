@@ -1,7 +1,7 @@
 // The tables of a raw query: their templates, or the first that fails a check of its own. What is
 // noted of a table serves its checks and its template.
 ghost use Rattle.std.specs.Prelude.{◌≡◌, ◌≤◌, ◌<◌, ◌+◌, ◌∷◌, ◌^◌, [], All, IfOk, List, None, length};
-ghost use Rattle.mk_ctab.specs.declared.raw.RawTable.{RawTable as Table};
+ghost use Rattle.mk_tables.specs.declared.raw.RawTable.{RawTable as Table};
 ghost use Rattle.mk_rgfile.specs.QueryFacts.{member_count};
 ghost use Rattle.mk_query.specs.InRange.{HasFewProperties, HaveFewProperties, IsQueryInRange, IsTableInRange};
 ghost use Rattle.mk_query.specs.Marks.{AreServed};
@@ -12,9 +12,9 @@ use crate::compile_fault::FaultAt;
 use crate::notes::Notes;
 use crate::sites::served_numbers;
 use crate::templates::template_of;
-use mk_ctab::RawTable;
 use mk_model::Template;
 use mk_rgfile::{RawGroup, RawQuery};
+use mk_tables::RawTable;
 use mk_text::Memory;
 use std::alloc::Global;
 

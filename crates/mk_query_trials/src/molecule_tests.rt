@@ -1,8 +1,8 @@
 // A table with its filled molecule. The shorthand is that of docs/TESTING.md, "Tables of tests".
-use mk_ctab::{TableFault, read_table};
 use mk_fixtures::{mol_of_sketch, table_of_sketch};
 use mk_model::Mol;
 use mk_mol::{PrepareFault, prepare};
+use mk_tables::{TableFault, read_table};
 use mk_text::lines;
 use std::alloc::Global;
 use std::test::Fail;

@@ -18,11 +18,11 @@ use Rattle.mk_text.specs.Fields.{IsField, Sign, NoSign, Plus, Minus, sign_text}
 use Rattle.mk_text.specs.KeptLines.{kept_lines, without_crs}
 use Rattle.mk_text.specs.Lines.{EndsWith, IsWholeLine, lines_of, text_of}
 use Rattle.mk_text.proofs.ForCallers.{both, crs_behind, lines_hold_no_lf, text_of_lines_is_read, without_crs_end, without_crs_same}
-use Rattle.mk_ctab.specs.declared.raw.RawTable.{RawTable}
-use Rattle.mk_ctab.specs.KeptTables.{KeepsItsText}
-use Rattle.mk_ctab.specs.Molfile.{IsMolfile}
-use Rattle.mk_ctab.specs.TableLines.{Line}
-use Rattle.mk_ctab.proofs.ForCallers.{whole_is_table}
+use Rattle.mk_tables.specs.declared.raw.RawTable.{RawTable}
+use Rattle.mk_tables.specs.KeptTables.{KeepsItsText}
+use Rattle.mk_tables.specs.Molfile.{IsMolfile}
+use Rattle.mk_tables.specs.TableLines.{Line}
+use Rattle.mk_tables.proofs.ForCallers.{whole_is_table}
 use Rattle.mk_rgfile.specs.declared.raw_query.RawGroup.{RawGroup}
 use Rattle.mk_rgfile.specs.declared.raw_query.RawQuery.{RawQuery}
 use Rattle.mk_rgfile.specs.KeptQueries.{IsKeptText, KeepsItsTexts, KeptLinesAreKept, KeptLinesAreTheQuery, KeptTextStays}

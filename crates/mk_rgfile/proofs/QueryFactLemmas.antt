@@ -4,11 +4,11 @@ use Rattle.std.specs.Prelude.{All, IfOk}
 use Rattle.std.proofs.lemmas.List.{length-append}
 use Rattle.std.proofs.lemmas.List.Elements.{All-nil, All-cons}
 use Rattle.mk_form.specs.Rows.{Series}
-use Rattle.mk_ctab.specs.declared.fault.TableFault.{TableFault}
-use Rattle.mk_ctab.specs.declared.raw.RawTable.{RawTable}
-use Rattle.mk_ctab.specs.TableFacts.{IsRawTable}
-use Rattle.mk_ctab.specs.TableLines.{Line}
-use Rattle.mk_ctab.proofs.ForCallers.{keeps, few_properties}
+use Rattle.mk_tables.specs.declared.fault.TableFault.{TableFault}
+use Rattle.mk_tables.specs.declared.raw.RawTable.{RawTable}
+use Rattle.mk_tables.specs.TableFacts.{IsRawTable}
+use Rattle.mk_tables.specs.TableLines.{Line}
+use Rattle.mk_tables.proofs.ForCallers.{keeps, few_properties}
 use Rattle.mk_rgfile.specs.declared.raw_query.RawGroup.{RawGroup}
 use Rattle.mk_rgfile.specs.declared.raw_query.RawQuery.{RawQuery}
 use Rattle.mk_rgfile.specs.QueryFile.{IsTableBlock, IsGroup, IsRgfile, IsMolfileQuery, IsQueryFile}

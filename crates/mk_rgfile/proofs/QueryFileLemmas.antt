@@ -13,10 +13,10 @@ use Rattle.mk_form.proofs.Seen.{exact-seen_as}
 use Rattle.mk_form.proofs.Sequence.{exact-sequence}
 use Rattle.mk_form.proofs.ToEnd.{exact-lines_to_end}
 use Rattle.mk_text.specs.Columns.{are_blank}
-use Rattle.mk_ctab.specs.declared.raw.RawTable.{RawTable}
-use Rattle.mk_ctab.specs.Table.{IsTable}
-use Rattle.mk_ctab.specs.TableLines.{Line, is_v3000}
-use Rattle.mk_ctab.proofs.ForCallers.{exact-table}
+use Rattle.mk_tables.specs.declared.raw.RawTable.{RawTable}
+use Rattle.mk_tables.specs.Table.{IsTable}
+use Rattle.mk_tables.specs.TableLines.{Line, is_v3000}
+use Rattle.mk_tables.proofs.ForCallers.{exact-table}
 use Rattle.mk_rgfile.specs.declared.raw_query.RawGroup.{RawGroup}
 use Rattle.mk_rgfile.specs.declared.raw_query.RawQuery.{RawQuery}
 use Rattle.mk_rgfile.specs.QueryLines.{begins_mdl, is_keyword}

@@ -10,7 +10,7 @@ use Rattle.mk_text.specs.Columns.{are_blank}
 use Rattle.mk_text.specs.Fields.{signed_in, field_in, field_of}
 use Rattle.mk_text.specs.Options.{◌>>=◌, when, count_in}
 use Rattle.mk_text.proofs.ForCallers.{both, fields_are_read, trimmed-columns}
-use Rattle.mk_ctab.specs.TableLines.{Line}
+use Rattle.mk_tables.specs.TableLines.{Line}
 use Rattle.mk_rgfile.specs.QueryLines.{is_keyword, IsGroupNumber, group_number_of}
 
 -- ---- keywords

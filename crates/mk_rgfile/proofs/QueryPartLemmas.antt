@@ -12,9 +12,9 @@ use Rattle.mk_form.proofs.Seen.{exact-seen_as}
 use Rattle.mk_form.proofs.Sequence.{exact-sequence}
 use Rattle.mk_form.proofs.Until.{exact-until}
 use Rattle.mk_text.specs.Fields.{digits_number}
-use Rattle.mk_ctab.specs.declared.raw.RawTable.{RawTable}
-use Rattle.mk_ctab.specs.TableLines.{Line, is_v3000}
-use Rattle.mk_ctab.proofs.ForCallers.{exact-table}
+use Rattle.mk_tables.specs.declared.raw.RawTable.{RawTable}
+use Rattle.mk_tables.specs.TableLines.{Line, is_v3000}
+use Rattle.mk_tables.proofs.ForCallers.{exact-table}
 use Rattle.mk_rgfile.specs.declared.raw_query.RawGroup.{RawGroup}
 use Rattle.mk_rgfile.specs.QueryLines.{is_keyword, group_number_of}
 use Rattle.mk_rgfile.specs.QueryFile.{IsTableBlock, IsGroup, IsKeywordLine, IsGroupToTable}

@@ -14,11 +14,11 @@ use Rattle.mk_text.specs.Lines.{lines_of}
 use Rattle.mk_text.specs.LineStart.{BeginLines}
 use Rattle.mk_text.specs.Spans.{AreWithin, parts}
 use Rattle.mk_text.proofs.ForCallers.{parts_length}
-use Rattle.mk_ctab.specs.declared.fault.TableFault.{TableFault}
-use Rattle.mk_ctab.specs.declared.raw.RawTable.{RawTable}
-use Rattle.mk_ctab.specs.TableLines.{Line}
-use Rattle.mk_ctab.specs.TableReading.{Fails}
-use Rattle.mk_ctab.proofs.ForCallers.{fails_first, until_fails}
+use Rattle.mk_tables.specs.declared.fault.TableFault.{TableFault}
+use Rattle.mk_tables.specs.declared.raw.RawTable.{RawTable}
+use Rattle.mk_tables.specs.TableLines.{Line}
+use Rattle.mk_tables.specs.TableReading.{Fails}
+use Rattle.mk_tables.proofs.ForCallers.{fails_first, until_fails}
 use Rattle.mk_rgfile.specs.declared.raw_query.RawGroup.{RawGroup}
 use Rattle.mk_rgfile.specs.QueryLines.{is_keyword}
 use Rattle.mk_rgfile.specs.QueryReading.{keyword, block_at, table_block, further_part, members_with, behind_member, members_part, group_at, group_form, groups_to_end, groups_in, groups_part, AreLines}

@@ -8,8 +8,8 @@
 use Rattle.std.specs.Prelude.{◌≡◌, ◌↔◌, ℕ, List, map, All}
 use Rattle.mk_text.specs.KeptLines.{kept_lines, without_crs}
 use Rattle.mk_text.specs.Lines.{IsWholeLine, lines_of, text_of}
-use Rattle.mk_ctab.specs.KeptTables.{KeepsItsText}
-use Rattle.mk_ctab.specs.TableLines.{Line}
+use Rattle.mk_tables.specs.KeptTables.{KeepsItsText}
+use Rattle.mk_tables.specs.TableLines.{Line}
 use Rattle.mk_rgfile.specs.declared.raw_query.RawQuery.{RawQuery}
 use Rattle.mk_rgfile.specs.QueryFile.{IsQueryFile}
 

@@ -4,7 +4,7 @@
 --                                   more than the last
 --     IsV3000Line lines k           line k says V3000, and a counts line is due there
 --     HasOneQuery, HasBadLine, HasOneBadLine     three laws of it
--- What the lines of a table are, and what a molfile is, is said in mk_ctab. The layout is drawn in
+-- What the lines of a table are, and what a molfile is, is said in mk_tables. The layout is drawn in
 -- docs/FORMAT.md, "Query files".
 use Rattle.std.specs.Prelude.{◌≡◌, ◌↔◌, ℕ, ◌≤◌, true, false, List, [], ◌∷◌, ◌++◌, length, ◌⊎◌, codes}
 use Rattle.mk_form.specs.Choice.{FirstIs}
@@ -12,10 +12,10 @@ use Rattle.mk_form.specs.Fronts.{IsBadLine, IsNamed}
 use Rattle.mk_form.specs.Rows.{Series}
 use Rattle.mk_form.specs.ToEnd.{EachIs}
 use Rattle.mk_text.specs.Columns.{are_blank}
-use Rattle.mk_ctab.specs.declared.raw.RawTable.{RawTable}
-use Rattle.mk_ctab.specs.Molfile.{IsMolfile, AreHeaders}
-use Rattle.mk_ctab.specs.Table.{IsTable}
-use Rattle.mk_ctab.specs.TableLines.{Line, is_v3000}
+use Rattle.mk_tables.specs.declared.raw.RawTable.{RawTable}
+use Rattle.mk_tables.specs.Molfile.{IsMolfile, AreHeaders}
+use Rattle.mk_tables.specs.Table.{IsTable}
+use Rattle.mk_tables.specs.TableLines.{Line, is_v3000}
 use Rattle.mk_rgfile.specs.declared.raw_query.RawGroup.{RawGroup}
 use Rattle.mk_rgfile.specs.declared.raw_query.RawQuery.{RawQuery}
 use Rattle.mk_rgfile.specs.QueryLines.{begins_mdl, is_keyword, IsGroupNumber}

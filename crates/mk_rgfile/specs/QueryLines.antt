@@ -9,7 +9,7 @@ use Rattle.std.specs.List.{starts_with}
 use Rattle.mk_text.specs.Columns.{are_blank}
 use Rattle.mk_text.specs.Fields.{IsField, field_in}
 use Rattle.mk_text.specs.Options.{◌>>=◌, count_in}
-use Rattle.mk_ctab.specs.TableLines.{Line}
+use Rattle.mk_tables.specs.TableLines.{Line}
 
 -- the line begins with `$MDL`, whatever stands behind it
 abbrev pub begins_mdl : Line → Bool

@@ -17,9 +17,9 @@ use Rattle.mk_text.specs.Columns.{are_blank}
 use Rattle.mk_text.specs.Lines.{lines_of}
 use Rattle.mk_text.specs.LineStart.{BeginLines}
 use Rattle.mk_text.specs.Spans.{AreWithin, parts}
-use Rattle.mk_ctab.specs.declared.raw.RawTable.{RawTable}
-use Rattle.mk_ctab.specs.TableLaws.{table_form}
-use Rattle.mk_ctab.specs.TableLines.{Line}
+use Rattle.mk_tables.specs.declared.raw.RawTable.{RawTable}
+use Rattle.mk_tables.specs.TableLaws.{table_form}
+use Rattle.mk_tables.specs.TableLines.{Line}
 use Rattle.mk_rgfile.specs.declared.raw_query.RawGroup.{RawGroup}
 use Rattle.mk_rgfile.specs.declared.raw_query.RawQuery.{RawQuery}
 use Rattle.mk_rgfile.specs.QueryLines.{begins_mdl, is_keyword, group_number_of}

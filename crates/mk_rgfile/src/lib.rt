@@ -7,7 +7,7 @@
 //! `specs/QueryFile.antt` over the lines of `specs/QueryLines.antt`; the layout in docs/FORMAT.md,
 //! "Query files"). Every raw query that it gives keeps what `specs/QueryFacts.antt` says.
 //!
-//! The lines of a table are those of `mk_ctab`. What a query means, and whether its tables hang
+//! The lines of a table are those of `mk_tables`. What a query means, and whether its tables hang
 //! together, isn't said here.
 #![tactic(auto)]
 
@@ -16,7 +16,7 @@ mod query_lines;
 mod query_reading;
 mod raw_query;
 
-pub use mk_ctab::{RawTable, TableFault};
+pub use mk_tables::{RawTable, TableFault};
 pub use mk_text::Memory;
 pub use query_laws::{kept_lines_are_the_query, kept_text_stays, query_file_is_exact};
 pub use query_reading::read_rgfile;

@@ -5,8 +5,8 @@ ghost use Rattle.mk_form.specs.Rows.{any_lines};
 ghost use Rattle.mk_form.specs.ToEnd.{lines_to_end};
 ghost use Rattle.mk_text.specs.Columns.{are_blank};
 ghost use Rattle.mk_text.specs.Lines.{lines_of};
-ghost use Rattle.mk_ctab.specs.TableFaults.{IfBad, IfV3000};
-ghost use Rattle.mk_ctab.specs.TableReading.{Answers, AnswersText, AnswersLine, AnswersIndex};
+ghost use Rattle.mk_tables.specs.TableFaults.{IfBad, IfV3000};
+ghost use Rattle.mk_tables.specs.TableReading.{Answers, AnswersText, AnswersLine, AnswersIndex};
 ghost use Rattle.mk_rgfile.specs.QueryLines.{group_number_of};
 ghost use Rattle.mk_rgfile.specs.QueryFile.{IsQueryFile, IsBadQueryLine, IsV3000Line};
 ghost use Rattle.mk_rgfile.specs.QueryFacts.{IsRawQuery, FitsIn};
@@ -14,7 +14,7 @@ ghost use Rattle.mk_rgfile.specs.QueryReading.{AreLines, keyword, block_at, memb
 
 use crate::query_lines::{is_keyword_line, is_mdl_line, read_group_number};
 use crate::raw_query::{RawGroup, RawGroups, RawQuery, RawTables};
-use mk_ctab::{RawTable, TableFault, read_table};
+use mk_tables::{RawTable, TableFault, read_table};
 use mk_text::{Span, is_blank, lines};
 use std::alloc::Global;
 

@@ -1,5 +1,5 @@
 // A query as it is written: its tables, and nothing checked.
-use mk_ctab::RawTable;
+use mk_tables::RawTable;
 use mk_text::Listed;
 
 /// A list of tables.

@@ -39,6 +39,16 @@ module _ (bonds : List Edge) (s : ℕ → Bool) (start : ℕ) (path : List ℕ) 
   not_over zero not by = not by.1
   not_over (suc left) not by = not by.2
 
+  -- a path that is closed over the bond is closed from its other end
+  pub on_from : (left : ℕ) → left ≢ 0 → ClosesBy bonds s start path at label left b → CanClose bonds s start (y ∷ path) y (3 - label) (left - 1)
+  on_from zero some by = absurd (some refl)
+  on_from (suc left) some by =
+      let one_less : suc left - 1 ≡ left = omega arith in
+      let P : ℕ → Type 0 = λ n. CanClose bonds s start (y ∷ path) y (3 - label) n in
+      let same : by.0 ≡ y = end_is by.0 by.1 in
+      let Q : ℕ → Type 0 = λ z. CanClose bonds s start (z ∷ path) z (3 - label) left in
+      subst P (sym one_less) (subst Q same by.4)
+
   -- from a new atom the path has to be closed
   pub on_from_new : (left : ℕ) → left ≢ 0 → Takes bonds s b label → NotAmong path y → CanClose bonds s start (y ∷ path) y (3 - label) (left - 1) ↔ ClosesBy bonds s start path at label left b
   on_from_new zero some takes new = absurd (some refl)
@@ -46,10 +56,7 @@ module _ (bonds : List Edge) (s : ℕ → Bool) (start : ℕ) (path : List ℕ) 
       let one_less : suc left - 1 ≡ left = omega arith in
       let P : ℕ → Type 0 = λ n. CanClose bonds s start (y ∷ path) y (3 - label) n in (
         λ rest. (y, joined, takes, new, subst P one_less rest),
-        λ by.
-            let same : by.0 ≡ y = end_is by.0 by.1 in
-            let Q : ℕ → Type 0 = λ z. CanClose bonds s start (z ∷ path) z (3 - label) left in
-            subst P (sym one_less) (subst Q same by.4),
+        λ by. on_from (suc left) some by,
       )
 
 -- the path with one atom more in front

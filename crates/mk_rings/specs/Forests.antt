@@ -6,7 +6,6 @@
 --                                   the same tree
 --     IsForest atoms bonds nodes    besides, every atom was reached, and bonds stay within trees
 --     is_over nodes x a             x is a or stands above a
---     IsBranch nodes b              the bond is one by which an atom hangs
 use Rattle.std.specs.Prelude.{◌≡◌, ◌≢◌, ◌≤◌, ◌<◌, ◌+◌, ◌==◌, ◌||◌, ℕ, zero, suc, Bool, List, count_by, length, slice_index_or}
 use Rattle.mk_model.specs.declared.edge.Edge.{Edge}
 use Rattle.mk_model.specs.Edges.{Joins}

@@ -8,9 +8,8 @@ ghost use Rattle.mk_rings.specs.Rounds.{AllBelow};
 ghost use Rattle.mk_rings.specs.Bridges.{AreWithoutBridges, label_if};
 
 use crate::marking::{neighbours_of, ring_bonds_over};
-use crate::ring_search::Spot;
 use crate::rounds::mark_round;
-use crate::spreading::{NOWHERE, spread};
+use crate::spreading::spread;
 use mk_model::{Edge, Memory, Neighbours};
 use std::alloc::Global;
 
@@ -42,9 +41,7 @@ pub fn aromatic_bonds_over(
     let mut marks = vec![in alloc; false; bonds.len()]?;
     let mut two = vec![in alloc; 0usize; atoms as usize + 1]?;
     let mut three = vec![in alloc; 0usize; atoms as usize + 1]?;
-    let mut told = vec![in alloc; false; bonds.len()]?;
     let mut queue = vec![in alloc; 0usize; bonds.len()]?;
-    let mut spots = vec![in alloc; NOWHERE; atoms as usize + 1]?;
     mark_aromatic(
         near,
         atoms,
@@ -52,9 +49,7 @@ pub fn aromatic_bonds_over(
         &mut marks,
         &mut two,
         &mut three,
-        &mut told,
         &mut queue,
-        &mut spots,
     );
     Ok(marks)
 }
@@ -81,7 +76,8 @@ fn without_label(edge: Edge, ring: bool) -> Edge
     Edge { kind: 0, ..edge }
 }
 
-// Marks the bonds of type 4, and then round by round those that close a six-ring.
+// Marks the bonds of type 4, and then those that close a six-ring: as many as are found at small
+// cost, and round by round what that leaves.
 fn mark_aromatic(
     near: &Neighbours,
     atoms: u32,
@@ -89,9 +85,7 @@ fn mark_aromatic(
     marks: &mut [bool],
     two: &mut [usize],
     three: &mut [usize],
-    told: &mut [bool],
     queue: &mut [usize],
-    spots: &mut [Spot],
 )
     requires atoms { atoms ≡ length near.now }
     requires ends { AreBetween (length near.now) bonds.now }
@@ -99,15 +93,13 @@ fn mark_aromatic(
     requires size { length marks.old ≡ length bonds.now }
     requires two { length two.old ≡ length near.now + 1 }
     requires three { length three.old ≡ length near.now + 1 }
-    requires told { length told.old ≡ length bonds.now }
     requires queue { AllBelow (length bonds.now) queue.old }
-    requires spots { length spots.old ≡ length near.now + 1 }
     ensures { Marks (IsAromatic bonds.now) bonds.now marks.new }
 {
     mark_type_four(bonds, marks);
-    mark_type_four(bonds, told);
+    spread(near, atoms, bonds, marks, queue, two);
     while mark_round(near, atoms, bonds, marks, two, three) {
-        spread(near, atoms, bonds, marks, told, queue, spots);
+        spread(near, atoms, bonds, marks, queue, two);
     }
 }
 

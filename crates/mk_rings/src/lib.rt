@@ -10,8 +10,9 @@
 //!
 //! Six-rings are looked for from both sides. For each atom those that reach it over two bonds and
 //! over three are stamped once, and a path from the other end goes on only to stamped atoms
-//! (`reach`, `six_rings`). Where a bond was marked, the rings through it are looked for next
-//! (`spreading`), so that few rounds over all bonds are left (`rounds`).
+//! (`reach`, `six_rings`). Before that short searches, whose finds are checked, mark whole rings
+//! (`ring_search`, `spreading`), so that few rounds over the bonds without a mark are left
+//! (`rounds`).
 //!
 //! Which molecule the bonds come from isn't known here.
 #![tactic(auto)]

@@ -73,8 +73,8 @@ fn mark_at(
 }
 
 // Marks bonds of this type that begin at the start and close a six-ring. The stamps are made once
-// for all of them: where a bond was marked meanwhile they tell too little, and another round
-// follows.
+// for all of them, and not where there is none: where a bond was marked meanwhile they tell too
+// little, and another round follows.
 fn mark_from(
     near: &Neighbours,
     bonds: &[Edge],
@@ -100,6 +100,9 @@ fn mark_from(
     ensures grows { Grows bonds.now marks.old marks.new result }
     ensures done { result ≡ false → (b : ℕ) (edge : Edge) → slice_get bonds.now b ≡ Some edge → edge.first ≡ start → edge.kind ≡ kind → IsDone bonds.now marks.new b }
 {
+    if !is_open(near, bonds, marks, start, kind) {
+        return false;
+    }
     reach(near, bonds, marks, two, three, stamp, start, 3 - kind);
     let numbers = numbers_of(near, bonds, start);
     let mut some_marked = false;
@@ -123,8 +126,32 @@ fn mark_from(
     some_marked
 }
 
-// Takes all stamps away.
-fn wipe(stamps: &mut [usize])
+// Tells whether an unmarked bond of this type begins at the start.
+fn is_open(near: &Neighbours, bonds: &[Edge], marks: &[bool], start: u32, kind: u8) -> bool
+    requires rows { near.now ≡ rows_of (length near.now) bonds.now }
+    requires size { length marks.now ≡ length bonds.now }
+    requires start { (1 ≤ start) × (start ≤ length near.now) }
+    ensures { result ≡ false → (b : ℕ) (edge : Edge) → slice_get bonds.now b ≡ Some edge → edge.first ≡ start → edge.kind ≡ kind → IsDone bonds.now marks.now b }
+{
+    let numbers = numbers_of(near, bonds, start);
+    for i in 0..numbers.len() {
+        let b = step_over(numbers, bonds, start, i).bond;
+        if marks[b] {
+            continue;
+        }
+        if bonds[b].first != start {
+            continue;
+        }
+        if bonds[b].kind != kind {
+            continue;
+        }
+        return true;
+    }
+    false
+}
+
+/// Takes all stamps away.
+pub fn wipe(stamps: &mut [usize])
     ensures { AllBelow 1 stamps.new }
 {
     for x in 0..stamps.len() {

@@ -78,9 +78,6 @@ fn can_close(
     ensures closed { IsTrue result → CanClose bonds.now (set_of marks.now) start (drop left path) at label left }
     ensures open { MaySkip bonds.now (set_of marks.now) start two.now three.now stamp label left → result ≡ false → ¬ (CanClose bonds.now (set_of marks.now) start (drop left path) at label left) }
 {
-    if is_stamped_out(two, three, stamp, at, left) {
-        return false;
-    }
     let numbers = numbers_of(near, bonds, at);
     for i in 0..numbers.len() {
         let over = step_over(numbers, bonds, at, i);
@@ -127,6 +124,9 @@ fn closes_over(
     }
     if left == 0 {
         return over.to == start;
+    }
+    if is_stamped_out(two, three, stamp, over.to, left - 1) {
+        return false;
     }
     if is_among(&path[left..], over.to) {
         return false;

@@ -1,116 +1,120 @@
-// Marks that spread: where a bond was just marked, the six-rings through it that have a bond
-// without a mark are looked for, so that few rounds are left.
+// Marks that are found at small cost: each bond without a mark begins a short search for a six-ring,
+// and so do the bonds beside those that were marked. What that leaves is found by rounds.
 ghost use Rattle.std.specs.Prelude.{◌≡◌, ◌≤◌, ◌<◌, ◌+◌, ◌⊎◌, ℕ, IfSome, IsTrue, length, slice_index};
 ghost use Rattle.mk_model.specs.Aromatic.{Takes};
 ghost use Rattle.mk_model.specs.Edges.{AreBetween, Joins, rows_of};
 ghost use Rattle.mk_marks.specs.SixRings.{set_of};
 ghost use Rattle.mk_rings.specs.Rounds.{AllBelow, Follows, Spreads};
 
-use crate::ring_search::{Spot, ring_along, spot_all};
+use crate::ring_search::{ring_along, stamp_ends};
+use crate::rounds::wipe;
 use crate::six_rings::takes;
 use crate::steps::{numbers_of, step_over};
 use mk_model::{Edge, Neighbours};
 
-pub const NOWHERE: Spot = Spot {
-    two: 0,
-    two_open: 0,
-    three: 0,
-    three_open: 0,
-};
+// How many steps a search takes at most, and how many there are for each bond on average.
+const STEPS: usize = 60;
 
-/// Marks what follows from the bonds that are marked and not told yet, unless these are many: then
-/// another round is cheaper. The queue has room for as many numbers as there are bonds.
+const STEPS_A_BOND: usize = 30;
+
+/// Marks bonds that follow from those that are marked. The queue has room for as many numbers as
+/// there are bonds.
 pub fn spread(
     near: &Neighbours,
     atoms: u32,
     bonds: &[Edge],
     marks: &mut [bool],
-    told: &mut [bool],
     queue: &mut [usize],
-    spots: &mut [Spot],
+    ends: &mut [usize],
 )
     requires ends { AreBetween (length near.now) bonds.now }
     requires rows { near.now ≡ rows_of (length near.now) bonds.now }
     requires size { length marks.old ≡ length bonds.now }
     requires atoms { atoms ≡ length near.now }
-    requires told { length told.old ≡ length bonds.now }
     requires queue { AllBelow (length bonds.now) queue.old }
-    requires spots { length spots.old ≡ length near.now + 1 }
+    requires stamps { length ends.old ≡ length near.now + 1 }
     ensures spreads { Spreads bonds.now marks.old marks.new }
     ensures queue { AllBelow (length bonds.now) queue.new }
 {
-    if are_many(bonds, marks, told) {
-        return;
+    wipe(ends);
+    let mut purse = bonds.len().saturating_mul(STEPS_A_BOND);
+    let mut tail = 0;
+    for b in 0..bonds.len() {
+        tail = spread_from(near, atoms, bonds, marks, queue, ends, tail, b, &mut purse);
     }
-    for x in 0..spots.len() {
-        spots[x] = NOWHERE;
-    }
-    let mut tail = gather(marks, told, queue);
     let mut head = 0;
     while head < tail {
-        let b = queue[head];
-        tail = spread_from(near, atoms, bonds, marks, queue, spots, tail, head, b);
+        let edge = bonds[queue[head]];
+        tail = spread_at(
+            near, atoms, bonds, marks, queue, ends, tail, edge.first, &mut purse,
+        );
+        tail = spread_at(
+            near,
+            atoms,
+            bonds,
+            marks,
+            queue,
+            ends,
+            tail,
+            edge.second,
+            &mut purse,
+        );
         head += 1;
     }
-    for b in 0..told.len() {
-        told[b] = marks[b];
-    }
 }
 
-// Tells whether the bonds that are marked and not told are more than a third of those that may
-// still be.
-fn are_many(bonds: &[Edge], marks: &[bool], told: &[bool]) -> bool
-    requires marks { length marks.now ≡ length bonds.now }
-    requires told { length told.now ≡ length bonds.now }
-{
-    let mut new = 0usize;
-    let mut open = 0usize;
-    for b in 0..bonds.len() {
-        if marks[b] && !told[b] {
-            new = new.saturating_add(1);
-        }
-        if !marks[b] && bonds[b].kind != 0 {
-            open = open.saturating_add(1);
-        }
-    }
-    new.saturating_mul(3) >= open
-}
-
-// Puts the places of the bonds that are marked and not told into the queue, and gives the index
-// behind them.
-fn gather(marks: &[bool], told: &[bool], queue: &mut [usize]) -> usize
-    requires told { length told.now ≡ length marks.now }
-    ensures queue { AllBelow (length marks.now) queue.old → AllBelow (length marks.now) queue.new }
+// Looks for rings through the bonds of an atom.
+fn spread_at(
+    near: &Neighbours,
+    atoms: u32,
+    bonds: &[Edge],
+    marks: &mut [bool],
+    queue: &mut [usize],
+    ends: &mut [usize],
+    tail: usize,
+    x: u32,
+    purse: &mut usize,
+) -> usize
+    requires ends { AreBetween (length near.now) bonds.now }
+    requires rows { near.now ≡ rows_of (length near.now) bonds.now }
+    requires size { length marks.old ≡ length bonds.now }
+    requires queue { AllBelow (length bonds.now) queue.old }
+    requires stamps { length ends.old ≡ length near.now + 1 }
+    requires room { tail ≤ length queue.old }
+    requires atoms { atoms ≡ length near.now }
+    requires atom { (1 ≤ x) × (x ≤ length near.now) }
+    ensures spreads { Spreads bonds.now marks.old marks.new }
+    ensures queue { AllBelow (length bonds.now) queue.new }
     ensures room { result ≤ length queue.new }
 {
-    let mut tail = 0;
-    for b in 0..marks.len() {
-        if !marks[b] || told[b] {
-            continue;
-        }
-        tail = put_at(queue, tail, b);
+    let numbers = numbers_of(near, bonds, x);
+    let mut tail = tail;
+    for i in 0..numbers.len() {
+        let b = step_over(numbers, bonds, x, i).bond;
+        tail = spread_from(near, atoms, bonds, marks, queue, ends, tail, b, purse);
     }
     tail
 }
 
-// Marks the rings through a bond, one after another, and puts the bonds that are new into the
-// queue. Gives the index behind them.
+// Marks a ring through a bond without a mark, if one is found, and puts the bonds that are new into
+// the queue. Gives the index behind them. The purse falls with each search, so no two searches have
+// one stamp.
 fn spread_from(
     near: &Neighbours,
     atoms: u32,
     bonds: &[Edge],
     marks: &mut [bool],
     queue: &mut [usize],
-    spots: &mut [Spot],
+    ends: &mut [usize],
     tail: usize,
-    turn: usize,
     b: usize,
+    purse: &mut usize,
 ) -> usize
     requires ends { AreBetween (length near.now) bonds.now }
     requires rows { near.now ≡ rows_of (length near.now) bonds.now }
     requires size { length marks.old ≡ length bonds.now }
     requires queue { AllBelow (length bonds.now) queue.old }
-    requires spots { length spots.old ≡ length near.now + 1 }
+    requires stamps { length ends.old ≡ length near.now + 1 }
     requires room { tail ≤ length queue.old }
     requires atoms { atoms ≡ length near.now }
     requires bond { b < length bonds.now }
@@ -119,35 +123,30 @@ fn spread_from(
     ensures room { result ≤ length queue.new }
 {
     let edge = bonds[b];
-    if edge.kind < 1 || edge.kind > 2 {
+    if marks[b] || *purse == 0 || edge.kind < 1 || edge.kind > 2 {
         return tail;
     }
-    let mut tail = tail;
-    for again in 0..bonds.len() {
-        // no other search has this stamp
-        let stamp = turn
-            .wrapping_mul(bonds.len())
-            .wrapping_add(again)
-            .wrapping_add(1);
-        spot_all(near, bonds, marks, spots, stamp, edge.first, edge.kind);
-        let path = [0, 0, 0, 0, edge.second, edge.first];
-        let found = ring_along(
-            near,
-            bonds,
-            marks,
-            spots,
-            stamp,
-            edge.first,
-            path,
-            edge.second,
-            edge.kind,
-            4,
-            false,
-        );
-        let Some(ring) = found else { return tail };
-        tail = mark_ring(near, atoms, bonds, marks, queue, tail, ring, 3 - edge.kind);
-    }
-    tail
+    let stamp = *purse;
+    stamp_ends(near, bonds, marks, ends, stamp, edge.first, 3 - edge.kind);
+    let path = [0, 0, 0, 0, edge.second, edge.first];
+    let mut steps = STEPS;
+    let found = ring_along(
+        near,
+        bonds,
+        marks,
+        ends,
+        stamp,
+        path,
+        edge.second,
+        3 - edge.kind,
+        4,
+        &mut steps,
+    );
+    *purse = stamp
+        .saturating_sub(STEPS.saturating_sub(steps))
+        .min(stamp - 1);
+    let Some(ring) = found else { return tail };
+    mark_ring(near, atoms, bonds, marks, queue, tail, ring, edge.kind)
 }
 
 // Marks the bonds of a ring, if the atoms are one whose bonds take the labels, and puts those that

@@ -14,13 +14,13 @@ use Rattle.mk_form.proofs.InWords.{exact-in_words}
 use Rattle.mk_form.proofs.Readings.{took_both, stopped}
 use Rattle.mk_form.proofs.Rows.{exact-any_lines}
 use Rattle.mk_form.proofs.Sequence.{exact-sequence}
-use Rattle.mk_ctab.specs.declared.raw.RawTable.{RawTable}
-use Rattle.mk_ctab.specs.Molfile.{AreHeaders, molfile_at}
-use Rattle.mk_ctab.specs.Table.{IsTable}
-use Rattle.mk_ctab.specs.TableLaws.{table_form}
-use Rattle.mk_ctab.specs.TableLines.{Line, is_v3000}
-use Rattle.mk_ctab.specs.TableReading.{table_at}
-use Rattle.mk_ctab.proofs.ForCallers.{exact-table, exact-molfile, molfile_is}
+use Rattle.mk_tables.specs.declared.raw.RawTable.{RawTable}
+use Rattle.mk_tables.specs.Molfile.{AreHeaders, molfile_at}
+use Rattle.mk_tables.specs.Table.{IsTable}
+use Rattle.mk_tables.specs.TableLaws.{table_form}
+use Rattle.mk_tables.specs.TableLines.{Line, is_v3000}
+use Rattle.mk_tables.specs.TableReading.{table_at}
+use Rattle.mk_tables.proofs.ForCallers.{exact-table, exact-molfile, molfile_is}
 use Rattle.mk_v3000.specs.V3000Form.{v3000_form}
 use Rattle.mk_v3000.specs.V3000Table.{IsV3000Table, EndInside, IsV3000Front}
 use Rattle.mk_v3000.proofs.ForCallers.{exact-v3000}

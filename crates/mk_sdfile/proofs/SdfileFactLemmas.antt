@@ -7,13 +7,13 @@ use Rattle.std.proofs.lemmas.List.Elements.{All-from_recursion}
 use Rattle.mk_form.specs.Rows.{Series}
 use Rattle.mk_form.specs.ToEnd.{EachIs}
 use Rattle.mk_text.specs.Columns.{are_blank}
-use Rattle.mk_ctab.specs.declared.fault.TableFault.{TableFault}
-use Rattle.mk_ctab.specs.declared.fault.TableFault.TheVariants.{Bad, V3000, Memory}
-use Rattle.mk_ctab.specs.TableFacts.{IsRawTable}
-use Rattle.mk_ctab.specs.TableFaults.{IfV3000}
-use Rattle.mk_ctab.specs.TableLines.{Line}
-use Rattle.mk_ctab.specs.Table.{IsTable}
-use Rattle.mk_ctab.proofs.ForCallers as ctab
+use Rattle.mk_tables.specs.declared.fault.TableFault.{TableFault}
+use Rattle.mk_tables.specs.declared.fault.TableFault.TheVariants.{Bad, V3000, Memory}
+use Rattle.mk_tables.specs.TableFacts.{IsRawTable}
+use Rattle.mk_tables.specs.TableFaults.{IfV3000}
+use Rattle.mk_tables.specs.TableLines.{Line}
+use Rattle.mk_tables.specs.Table.{IsTable}
+use Rattle.mk_tables.proofs.ForCallers as ctab
 use Rattle.mk_v3000.specs.V3000Table.{IsV3000Table}
 use Rattle.mk_v3000.proofs.ForCallers as v3000
 use Rattle.mk_sdfile.specs.declared.raw_record.RawRecord.{RawRecord}

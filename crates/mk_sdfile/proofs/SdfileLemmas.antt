@@ -24,10 +24,10 @@ use Rattle.mk_form.proofs.ToEnd.{each-at, exact-lines_to_end}
 use Rattle.mk_form.proofs.UpTo.{exact-up_to, same_up_to}
 use Rattle.mk_text.specs.Columns.{are_blank}
 use Rattle.mk_text.specs.KeptLines.{kept_lines}
-use Rattle.mk_ctab.specs.declared.raw.RawTable.{RawTable}
-use Rattle.mk_ctab.specs.Table.{IsTable}
-use Rattle.mk_ctab.specs.TableLines.{Line, is_v3000}
-use Rattle.mk_ctab.proofs.ForCallers.{blank_is_no_counts_line}
+use Rattle.mk_tables.specs.declared.raw.RawTable.{RawTable}
+use Rattle.mk_tables.specs.Table.{IsTable}
+use Rattle.mk_tables.specs.TableLines.{Line, is_v3000}
+use Rattle.mk_tables.proofs.ForCallers.{blank_is_no_counts_line}
 use Rattle.mk_v3000.specs.V3000Table.{IsV3000Table}
 use Rattle.mk_sdfile.specs.declared.raw_record.RawRecord.{RawRecord}
 use Rattle.mk_sdfile.specs.MoleculeFile.{IsMoleculeFile, EndInTable, IsMoleculeFront, molecule_file}

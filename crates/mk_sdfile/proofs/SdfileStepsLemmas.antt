@@ -19,13 +19,13 @@ use Rattle.mk_text.specs.declared.line_start.LineStart.{LineStart}
 use Rattle.mk_text.specs.Columns.{are_blank}
 use Rattle.mk_text.specs.KeptLines.{kept_lines}
 use Rattle.mk_text.specs.Lines.{lines_of}
-use Rattle.mk_ctab.specs.declared.fault.TableFault.{TableFault}
-use Rattle.mk_ctab.specs.declared.fault.TableFault.TheVariants.{Bad, V3000, Memory}
-use Rattle.mk_ctab.specs.declared.raw.RawTable.{RawTable}
-use Rattle.mk_ctab.specs.TableLines.{Line, is_v3000}
-use Rattle.mk_ctab.specs.TableReading.{Fails}
-use Rattle.mk_ctab.specs.TableWalk.{TakesTo}
-use Rattle.mk_ctab.proofs.ForCallers.{fails_first}
+use Rattle.mk_tables.specs.declared.fault.TableFault.{TableFault}
+use Rattle.mk_tables.specs.declared.fault.TableFault.TheVariants.{Bad, V3000, Memory}
+use Rattle.mk_tables.specs.declared.raw.RawTable.{RawTable}
+use Rattle.mk_tables.specs.TableLines.{Line, is_v3000}
+use Rattle.mk_tables.specs.TableReading.{Fails}
+use Rattle.mk_tables.specs.TableWalk.{TakesTo}
+use Rattle.mk_tables.proofs.ForCallers.{fails_first}
 use Rattle.mk_sdfile.specs.declared.raw_record.RawRecord.{RawRecord}
 use Rattle.mk_sdfile.specs.declared.sdfile.DataEnd.{DataEnd}
 use Rattle.mk_sdfile.specs.MoleculeFile.{molecule_file, molecule_at}

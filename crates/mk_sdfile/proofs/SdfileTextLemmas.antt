@@ -8,10 +8,10 @@ use Rattle.mk_form.specs.ToEnd.{EachIs}
 use Rattle.mk_text.specs.KeptLines.{is_cr, without_crs, kept_lines}
 use Rattle.mk_text.specs.Lines.{lines_of}
 use Rattle.mk_text.proofs.ForCallers.{both, kept_lines_are_read, kept_lines_stay, lines_hold_no_lf}
-use Rattle.mk_ctab.specs.declared.raw.RawTable.{RawTable}
-use Rattle.mk_ctab.specs.KeptTables.{KeepsItsText}
-use Rattle.mk_ctab.specs.TableLines.{Line}
-use Rattle.mk_ctab.proofs.ForCallers.{whole_is_table}
+use Rattle.mk_tables.specs.declared.raw.RawTable.{RawTable}
+use Rattle.mk_tables.specs.KeptTables.{KeepsItsText}
+use Rattle.mk_tables.specs.TableLines.{Line}
+use Rattle.mk_tables.proofs.ForCallers.{whole_is_table}
 use Rattle.mk_v3000.proofs.ForCallers.{kept_lines_are_the_table}
 use Rattle.mk_sdfile.specs.declared.raw_record.RawRecord.{RawRecord}
 use Rattle.mk_sdfile.specs.MoleculeFile.{IsEitherTable}

@@ -11,10 +11,10 @@ use Rattle.mk_form.specs.Fronts.{IsFront}
 use Rattle.mk_form.specs.Reading.{Reading, Took, Stop}
 use Rattle.mk_form.specs.Rows.{any_lines}
 use Rattle.mk_form.specs.Sequence.{sequence}
-use Rattle.mk_ctab.specs.declared.raw.RawTable.{RawTable}
-use Rattle.mk_ctab.specs.Table.{IsTable}
-use Rattle.mk_ctab.specs.TableLaws.{table_form}
-use Rattle.mk_ctab.specs.TableLines.{Line, is_v3000}
+use Rattle.mk_tables.specs.declared.raw.RawTable.{RawTable}
+use Rattle.mk_tables.specs.Table.{IsTable}
+use Rattle.mk_tables.specs.TableLaws.{table_form}
+use Rattle.mk_tables.specs.TableLines.{Line, is_v3000}
 use Rattle.mk_v3000.specs.V3000Form.{v3000_form}
 use Rattle.mk_v3000.specs.V3000Table.{IsV3000Table, EndInside}
 

@@ -14,10 +14,10 @@ use Rattle.mk_form.specs.Sequence.{sequence}
 use Rattle.mk_form.specs.ToEnd.{lines_to_end, up_to}
 use Rattle.mk_text.specs.Columns.{are_blank}
 use Rattle.mk_text.specs.KeptLines.{kept_lines}
-use Rattle.mk_ctab.specs.declared.fault.TableFault.{TableFault}
-use Rattle.mk_ctab.specs.declared.fault.TableFault.TheVariants.{Bad, V3000, Memory}
-use Rattle.mk_ctab.specs.declared.raw.RawTable.{RawTable}
-use Rattle.mk_ctab.specs.TableLines.{Line}
+use Rattle.mk_tables.specs.declared.fault.TableFault.{TableFault}
+use Rattle.mk_tables.specs.declared.fault.TableFault.TheVariants.{Bad, V3000, Memory}
+use Rattle.mk_tables.specs.declared.raw.RawTable.{RawTable}
+use Rattle.mk_tables.specs.TableLines.{Line}
 use Rattle.mk_sdfile.specs.declared.raw_record.RawRecord.{RawRecord}
 use Rattle.mk_sdfile.specs.MoleculeFile.{molecule_file}
 use Rattle.mk_sdfile.specs.Sdfile.{is_separator}

@@ -12,9 +12,9 @@ use Rattle.mk_text.specs.declared.line_start.LineStart.{LineStart}
 use Rattle.mk_text.specs.Columns.{are_blank}
 use Rattle.mk_text.specs.Lines.{lines_of}
 use Rattle.mk_text.specs.LineStart.{IsLineStart}
-use Rattle.mk_ctab.specs.declared.fault.TableFault.{TableFault}
-use Rattle.mk_ctab.specs.TableLines.{Line}
-use Rattle.mk_ctab.specs.TableReading.{Fails}
+use Rattle.mk_tables.specs.declared.fault.TableFault.{TableFault}
+use Rattle.mk_tables.specs.TableLines.{Line}
+use Rattle.mk_tables.specs.TableReading.{Fails}
 use Rattle.mk_sdfile.specs.declared.raw_record.RawRecord.{RawRecord}
 use Rattle.mk_sdfile.specs.declared.sdfile.DataEnd.{DataEnd}
 use Rattle.mk_sdfile.specs.Sdfile.{is_separator}

@@ -5,7 +5,7 @@
 //! `specs/Sdfile.antt`; the layout in docs/FORMAT.md, "SDfiles"). A record's text are its lines
 //! before the separator, as `kept_lines` of mk_text keeps them.
 //!
-//! The lines of a table are those of `mk_ctab`, or those of `mk_v3000` where the counts line says
+//! The lines of a table are those of `mk_tables`, or those of `mk_v3000` where the counts line says
 //! V3000; then the record's table is its twin. What data lines say isn't read, and whether a table
 //! is a molecule is known in `mk_mol`.
 #![tactic(auto)]
@@ -15,7 +15,7 @@ mod raw_record;
 mod sdfile;
 mod sdfile_laws;
 
-pub use mk_ctab::{RawTable, TableFault};
+pub use mk_tables::{RawTable, TableFault};
 pub use mk_text::{Bytes, Memory};
 pub use raw_record::{RawRecord, RawRecords};
 pub use sdfile::read_sdfile;

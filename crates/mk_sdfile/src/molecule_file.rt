@@ -3,10 +3,10 @@ ghost use Rattle.std.specs.Prelude.{drop};
 ghost use Rattle.mk_form.specs.Rows.{any_lines};
 ghost use Rattle.mk_text.specs.LineStart.{IsLineStart};
 ghost use Rattle.mk_text.specs.Lines.{lines_of};
-ghost use Rattle.mk_ctab.specs.TableWalk.{AnswersAt, AnswersPast};
+ghost use Rattle.mk_tables.specs.TableWalk.{AnswersAt, AnswersPast};
 ghost use Rattle.mk_sdfile.specs.MoleculeFile.{molecule_at, v3000_molfile};
 
-use mk_ctab::{RawTable, TableFault, molfile_from};
+use mk_tables::{RawTable, TableFault, molfile_from};
 use mk_text::{LineStart, line_from};
 use mk_v3000::v3000_from;
 use std::alloc::Global;

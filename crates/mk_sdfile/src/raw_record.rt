@@ -1,5 +1,5 @@
 // What a record of an SDfile holds.
-use mk_ctab::RawTable;
+use mk_tables::RawTable;
 use mk_text::{Bytes, Listed};
 
 /// The table of a record, and the record's text: its lines before the separator, without the CR

@@ -5,16 +5,16 @@ ghost use Rattle.mk_form.specs.ToEnd.{read_all};
 ghost use Rattle.mk_text.specs.Columns.{are_blank};
 ghost use Rattle.mk_text.specs.LineStart.{IsLineStart};
 ghost use Rattle.mk_text.specs.Lines.{lines_of};
-ghost use Rattle.mk_ctab.specs.TableFacts.{IsRawTable};
-ghost use Rattle.mk_ctab.specs.TableFaults.{IfBad, IfV3000};
-ghost use Rattle.mk_ctab.specs.TableReading.{AnswersText};
+ghost use Rattle.mk_tables.specs.TableFacts.{IsRawTable};
+ghost use Rattle.mk_tables.specs.TableFaults.{IfBad, IfV3000};
+ghost use Rattle.mk_tables.specs.TableReading.{AnswersText};
 ghost use Rattle.mk_sdfile.specs.Sdfile.{is_separator, IsSdfile, IsBadSdfileLine, IsNamedV3000};
 ghost use Rattle.mk_sdfile.specs.SdfileReading.{sdfile_at, farther_fault};
 ghost use Rattle.mk_sdfile.specs.SdfileSteps.{IsDataEnd, AnswersFirst, AnswersBlock};
 
 use crate::molecule_file::molecule_from;
 use crate::raw_record::{RawRecord, RawRecords};
-use mk_ctab::TableFault;
+use mk_tables::TableFault;
 use mk_text::{LineStart, Listed, first_line, is_blank, kept_lines_between, line_from};
 use std::alloc::Global;
 

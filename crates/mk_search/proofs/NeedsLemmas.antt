@@ -1,15 +1,16 @@
 -- What all codes of a query need, code by code, and records without keys.
 --     covers_through                       what covers a need covers what that need covers
---     need_first, need_more, need_all      code by code
+--     need_none, need_taken, need_moved, need_all      turn by turn
 --     next_by_screen, none_by_screen       a record whose screen doesn't cover the need has no keys
 --     next_by_number, none_by_number       nor has a number that isn't held
-use Rattle.std.proofs.Common.{◌≡◌, ℕ, inl, inr, List, [], ◌∷◌, ◌++◌, Some, None, sym, subst, arith}
+use Rattle.std.proofs.Common.{◌≡◌, ◌∙◌, ℕ, inl, inr, List, [], ◌∷◌, ◌++◌, Some, None, sym, subst, arith}
 use Rattle.std.specs.Prelude.{Option, IfNone, IfSome}
 use Rattle.mk_text.specs.Rising.{IsBelow, IsLeast, IsLeastFrom}
 use Rattle.mk_text.proofs.ForCallers.{below_or_not, between_none}
 use Rattle.mk_model.specs.Expansions.{IsExpansion}
 use Rattle.mk_model.specs.Graphs.{GraphView}
 use Rattle.mk_model.specs.Logic.{IsValid}
+use Rattle.mk_model.specs.Nodes.{SameFrom}
 use Rattle.mk_model.specs.Queries.{QueryView}
 use Rattle.mk_model.specs.Hits.{IsHit}
 use Rattle.mk_model.specs.Molecules.{Molecule}
@@ -18,8 +19,10 @@ use Rattle.mk_model.specs.Screens.{Covers, IsNeedOf, IsScreenOf}
 use Rattle.mk_screen.proofs.LossFreeLemmas.{covers_of_hit}
 use Rattle.mk_rows.specs.declared.by_number.Numbered.{Numbered}
 use Rattle.mk_rows.specs.Rows.{IsLeastFrom as IsLeastNumber, NoneFrom}
+use Rattle.mk_choice.specs.Codes.{CodesLeft, IsNext}
 use Rattle.mk_index.specs.Postings.{HaveScreens, IsCandidate, IsNextCandidate, NoCandidate}
 use Rattle.mk_expand.proofs.ForCallers.{one_graph}
+use Rattle.mk_expansions.proofs.StartsLemmas.{before_zero}
 use Rattle.mk_open_codes.specs.Fronts.{IsNeedOfAll}
 use Rattle.mk_search.specs.Records.{HasKeys, IsNextRecord, NoRecord}
 use Rattle.mk_search.proofs.RecordsLemmas.{held_number}
@@ -47,13 +50,23 @@ module _ (query : QueryView) where
       let one : its ≡ graph = one_graph query code its graph (subst (λ (zs : List ℕ). IsExpansion query zs its) (sym same) other_expanded) expanded in
       covers_of_hit graph mol hit held need (subst (λ (g : GraphView). IsHit g mol hit) one hits) shows is
 
-  pub need_first : (code : List ℕ) (graph : GraphView) (need : Screen) → IsLeast [] (IsValid query) code
-      → IsExpansion query code graph → IsNeedOf graph need → IsNeedBelow query (code ++ (0 ∷ [])) need
+  -- no code is below the empty place
+  pub need_none : (need : Screen) → IsNeedBelow query [] need
   unfolding IsNeedBelow
-  need_first code graph need least expanded is other hit its mol held valid below other_expanded hits shows =
-      of_code code other hit graph its need held mol (between_none code other (least.least other valid (λ under. under)) below) expanded is other_expanded hits shows
+  need_none need code hit graph mol held valid below expanded hits shows = absurd below
 
-  pub need_more : (place code : List ℕ) (graph : GraphView) (all need both : Screen)
+  -- a place from which the same codes are left has the same below it
+  pub need_moved : (place to : List ℕ) (need : Screen) → SameFrom (IsValid query) place to → IsNeedBelow query place need → IsNeedBelow query to need
+  unfolding IsNeedBelow
+  need_moved place to need same h code hit graph mol held valid below expanded hits shows =
+      elim (below_or_not code place) [
+        | inl early ↦ h code hit graph mol held valid early expanded hits shows
+        | inr late ↦ absurd (same.on code valid late below)
+      ]
+
+  -- of two needs that all codes below the place and the least code from it on have, what both have in
+  -- common is had by all below the place behind that code
+  need_more : (place code : List ℕ) (graph : GraphView) (all need both : Screen)
       → IsLeast place (IsValid query) code → IsExpansion query code graph → IsNeedOf graph need → Covers all both
       → Covers need both
       → IsNeedBelow query place all → IsNeedBelow query (code ++ (0 ∷ [])) both
@@ -64,6 +77,18 @@ module _ (query : QueryView) where
         | inr late ↦ covers_through held need both (of_code code other hit graph its need held mol
             (between_none code other (least.least other valid late) below) expanded is other_expanded hits shows) second
       ]
+
+  -- so it is where a turn takes that code out
+  pub need_taken : (old new : CodesLeft) (taken given : List ℕ) (graph : GraphView) (all need both : Screen)
+      → old.query ≡ query → (code : List ℕ) × IsNext old new code → new.place ≡ taken ++ 0 ∷ []
+      → given ≡ taken → IsExpansion query given graph → IsNeedOf graph need → Covers all both → Covers need both
+      → IsNeedBelow query old.place all → IsNeedBelow query new.place both
+  need_taken old new taken given graph all need both of next at spelt expanded is first second h =
+      let code = next.0 in
+      let least : IsLeast old.place (IsValid query) code = subst (λ (q : QueryView). IsLeast old.place (IsValid q) code) of next.1.least in
+      let same : given ≡ code = spelt ∙ before_zero taken code (sym at ∙ next.1.place) in
+      let its : IsExpansion query code graph = subst (λ (zs : List ℕ). IsExpansion query zs graph) same expanded in
+      subst (λ (place : List ℕ). IsNeedBelow query place both) (sym next.1.place) (need_more old.place code graph all need both least its is first second h)
 
   pub need_all : (place : List ℕ) (need : Screen) → IsLeastFrom place (IsValid query) None → IsNeedBelow query place need → IsNeedOfAll query need
   unfolding IsNeedBelow

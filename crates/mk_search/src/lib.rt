@@ -33,7 +33,7 @@ mod turns;
 pub use hits::Hits;
 pub use laws::{
     keys_are_listed, keys_are_short, no_held_key_begins_another, nothing_is_behind_a_key,
-    one_page_from_a_place, paced_and_others_are_all, paced_pages_are_there,
+    one_page_from_a_place, paced_and_others_are_all, paced_pages_add_up, paced_pages_are_there,
     page_and_others_are_all, page_and_others_are_listed, places_are_short,
 };
 pub use mk_expansions::least_key_of;

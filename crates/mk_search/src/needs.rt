@@ -10,12 +10,28 @@ use crate::passing::{fronts_of, need_by};
 use mk_choice::Codes;
 use mk_expansions::{Expansion, expansion_by, keep};
 use mk_fronts::Fronts;
-use mk_model::{Memory, Query, Screen};
+use mk_model::{Memory, Query, Screen, Turn};
 use std::alloc::Global;
 use std::collections::VecDeque;
 
 // How many codes may share a need at most: as many as there are expansions that are kept.
 const MOST_CODES: usize = 64;
+
+// How many turns of the codes are taken at most before all of them are known, times the slots of a
+// template with many.
+const MOST_SLOTS: usize = 16_384;
+
+// What counts as few slots: so there are 512 turns at most.
+const FEW_SLOTS: usize = 32;
+
+// How many atoms the expansions of the codes may have before one more is made.
+const MOST_ATOMS: u32 = 2048;
+
+// What all codes need, where none was met: each need is less.
+const NEED_OF_NONE: Screen = Screen {
+    counts: [u8::MAX; 16],
+    bits: [u64::MAX; 8],
+};
 
 /// The fronts that are asked, and what all codes need of a screen. The expansions of few codes are kept.
 pub fn fronts_and_need<'a>(
@@ -38,8 +54,8 @@ pub fn fronts_and_need<'a>(
     Ok((fronts, need))
 }
 
-// What the expansions of all codes need, where there are few codes, and whether there are several.
-// These expansions are kept.
+// What the expansions of all codes need, where the codes are few, small and soon found, and whether
+// there may be several. These expansions are kept.
 fn need_of_all(
     alloc: Global,
     query: &Query,
@@ -55,21 +71,34 @@ fn need_of_all(
 {
     // The reader's clause says what every query keeps.
     let _kept = query.templates();
-    let Some(code) = codes.next() else {
-        return Ok((None, false));
-    };
-    let expansion = expansion_by(alloc, query, code, kept)?;
-    let mut need = expansion.need;
-    keep(expansion, kept)?;
-    for count in 1..MOST_CODES {
-        let Some(code) = codes.next() else {
-            return Ok((Some(need), count > 1));
-        };
-        let expansion = expansion_by(alloc, query, code, kept)?;
+    let mut need = NEED_OF_NONE;
+    let (mut turns, mut count, mut atoms) = (0usize, 0usize, 0u32);
+    let most = most_turns(query);
+    while turns < most && count < MOST_CODES && atoms < MOST_ATOMS {
+        turns += 1;
+        match codes.advance() {
+            Turn::End => return Ok((Some(need), count > 1)),
+            Turn::Moved => continue,
+            Turn::Item => {}
+        }
+        let expansion = expansion_by(alloc, query, codes.item(), kept)?;
+        count += 1;
+        atoms += expansion.graph.atom_count();
         need = meet(&need, &expansion.need);
         keep(expansion, kept)?;
     }
+    // Not all codes were met, so what these need isn't what all need.
     Ok((None, true))
+}
+
+// How many turns of the codes are taken at most. The more slots a template has, the longer a turn may
+// take, and the fewer they are.
+fn most_turns(query: &Query) -> usize {
+    let mut most = 0;
+    for template in query.templates() {
+        most = most.max(template.slots().len());
+    }
+    MOST_SLOTS / most.max(FEW_SLOTS)
 }
 
 // What two needs have in common: what covers one of them covers it.

@@ -6,3 +6,4 @@ pub mod RunningLemmas
 pub mod ReadingLemmas
 pub mod AnsweredLemmas
 pub mod HeadlineLemmas
+pub mod StepTicksLemmas

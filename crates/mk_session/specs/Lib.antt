@@ -12,3 +12,4 @@ pub mod Turns
 pub mod Opening
 pub mod Given
 pub mod Running
+pub mod Sizes

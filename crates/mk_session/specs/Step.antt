@@ -1,7 +1,6 @@
 -- One command on the tables. A further command is a further case here, and nothing above this file
 -- changes by it.
 --     Comes files t order effect       from the tables t the order comes to this effect
---     IsDrillAnswer start count effect     what `drill` comes to
 --     Reaches files t order name       the turn of the file comes: the order names it, and no
 --                                      refusal before its turn holds
 use Rattle.std.specs.Prelude.{◌≡◌, ℕ, List, [], Option, Some, None, codes}

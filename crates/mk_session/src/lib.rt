@@ -9,7 +9,7 @@
 //! stored rows read stands in mk_kept, what a hit is in mk_model, the records of an SDfile in
 //! mk_sdfile, and the molecule of a table in mk_mol.
 //!
-//! Only this crate knows what a command does. It reads no columns: see `mk_ctab`.
+//! Only this crate knows what a command does. It reads no columns: see `mk_tables`.
 #![tactic(auto)]
 
 mod findings;
@@ -17,6 +17,7 @@ mod orders;
 mod reading;
 mod running;
 mod session;
+mod sizes;
 mod status;
 mod stepping;
 mod work;
@@ -29,6 +30,8 @@ pub use mk_words::{
     Command, LineKind, WordsKind, command_of_line, command_of_words, commands_are_read, store_word,
     words_are_read,
 };
-pub use running::top;
+pub use orders::step_order;
+pub use running::{bad_store_line, top};
 pub use session::Session;
+pub use sizes::Sizes;
 pub use status::{Ended, Status};

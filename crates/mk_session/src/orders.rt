@@ -65,8 +65,9 @@ fn is_refused(ended: Ended) -> bool
     }
 }
 
-// A command is a step, which counts on a ledger of its own, and what is no command is refused.
-fn step_order<F: Files, K: Keeper, L: Ledger>(
+/// Does an order and appends its answer: a command is a step, which counts on a ledger of its own,
+/// and what is no command is refused. After a failure the session and the answer are as before.
+pub fn step_order<F: Files, K: Keeper, L: Ledger>(
     alloc: Global,
     session: &mut Session,
     order: &Option<Command>,

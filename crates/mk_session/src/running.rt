@@ -139,7 +139,8 @@ fn open<W: Sink, K: Keeper>(
     }
 }
 
-fn bad_store_line(alloc: Global, kind: RowKind, number: u32) -> Result<Vec<u8>, Memory>
+/// The line of a store whose row doesn't read.
+pub fn bad_store_line(alloc: Global, kind: RowKind, number: u32) -> Result<Vec<u8>, Memory>
     ensures { IfOk result (λ line. line.items ≡ bad_store_text kind number) }
 {
     let mut line = Vec::from_slice(alloc, b"bad store ")?;

@@ -36,7 +36,7 @@ impl Session {
     ) -> Result<Ended, StepFail>
         requires { CanAsk command.now }
         ensures stepped { IsStepped (F.look_up files.old) self.old self.new (Some command.now) answer.old.items answer.new.items result }
-        ensures begins { IfOk result (BeginsOfDone (F.look_up files.old) self.old command.now answer.old.items answer.new.items steps.old steps.new) }
+        ensures begins { IfOk result (BeginsOfDone (F.look_up files.old) self.old self.new command.now answer.old.items answer.new.items steps.old steps.new) }
         ensures kept { K.sound keeper.new → K.tables keeper.old ≡ Some self.old → K.tables keeper.new ≡ Some self.new }
         ensures sound { K.sound keeper.new → K.sound keeper.old }
         ensures counted { StepCounts (F.look_up files.old) self.old (Some command.now) (F.faults files.old) (F.faults files.new) (K.faults keeper.old) (K.faults keeper.new) result }

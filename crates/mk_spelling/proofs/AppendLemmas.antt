@@ -4,7 +4,7 @@ use Rattle.std.specs.Prelude.{ℤ, codes}
 use Rattle.std.specs.Result.{is_ok}
 use Rattle.std.specs.List.{flat_map}
 use Rattle.std.proofs.lemmas.List.Concat.{flat_map-append}
-use Rattle.mk_ctab.specs.declared.raw.RawTable.{RawTable}
+use Rattle.mk_tables.specs.declared.raw.RawTable.{RawTable}
 use Rattle.std.proofs.lemmas.List.{take_more, flat_map_more, replicate-append-replicate}
 use mir.Syntax.{w32}
 use mir.Val.{to_z, of_z}

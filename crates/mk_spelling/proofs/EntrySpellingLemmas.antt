@@ -8,7 +8,7 @@ use Rattle.mk_props.specs.declared.property.Pair.{Pair}
 use Rattle.mk_props.specs.declared.property.LinkEntry.{LinkEntry}
 use Rattle.mk_props.specs.declared.property.SiteOrder.{SiteOrder}
 use Rattle.mk_props.specs.Entries.{IsPairAt, ArePairs, IsPairLine, IsLinkAt, IsLinkLine, IsOrderLine}
-use Rattle.mk_ctab.specs.TableLines.{Line}
+use Rattle.mk_tables.specs.TableLines.{Line}
 use Rattle.mk_spelling.specs.TableSpelling.{spaced, count_text, pair_text, pairs_line, link_text, links_line, order_line, FitsThree, PairFits, PairsFit, LinkFits, LinksFit, OrderFits}
 use Rattle.mk_spelling.proofs.ThreeLemmas.{length-three, count_fits}
 use Rattle.mk_spelling.proofs.StandingLemmas.{StandsBehind, first, alone, behind, within, text_at, field_at, length-spaced, spaced_at, entry_at}

@@ -9,7 +9,7 @@ use Rattle.std.proofs.lemmas.List.Elements.{All-more}
 use Rattle.mk_text.specs.Columns.{is_space, trimmed}
 use Rattle.mk_text.proofs.ForCallers.{trimmed_between, trimmed_blank, list_all_at}
 use Rattle.mk_props.specs.declared.property.Property.{Property}
-use Rattle.mk_ctab.specs.Table.{IsKept}
+use Rattle.mk_tables.specs.Table.{IsKept}
 use Rattle.mk_text.specs.Lines.{EndsWith}
 use Rattle.mk_spelling.specs.TableSpelling.{IsSymbol, PropertyFits, SymbolsFit, SymbolsEnd, RangeFits}
 

@@ -12,11 +12,11 @@ use Rattle.mk_text.specs.Spelling.{right_in}
 use Rattle.mk_text.proofs.ForCallers.{columns_between, right_justified_is_read, trimmed_padded}
 use Rattle.mk_props.specs.Lists.{flag_text}
 use Rattle.mk_text.specs.Options.{◌>>=◌, count_in, not_negative, entries_of}
-use Rattle.mk_ctab.specs.declared.raw.RawAtom.{RawAtom}
-use Rattle.mk_ctab.specs.declared.raw.RawBond.{RawBond}
-use Rattle.mk_ctab.specs.declared.raw.RawList.{RawList}
-use Rattle.mk_ctab.specs.declared.raw.RawTable.{RawTable}
-use Rattle.mk_ctab.specs.TableLines.{Line, word_of, natural_of, is_v2000_or_none, counts_of, atom_numbers_of, raw_atom_of, raw_bond_of, list_flag_of, list_count_of, list_numbers_of, list_of}
+use Rattle.mk_tables.specs.declared.raw.RawAtom.{RawAtom}
+use Rattle.mk_tables.specs.declared.raw.RawBond.{RawBond}
+use Rattle.mk_tables.specs.declared.raw.RawList.{RawList}
+use Rattle.mk_tables.specs.declared.raw.RawTable.{RawTable}
+use Rattle.mk_tables.specs.TableLines.{Line, word_of, natural_of, is_v2000_or_none, counts_of, atom_numbers_of, raw_atom_of, raw_bond_of, list_flag_of, list_count_of, list_numbers_of, list_of}
 use Rattle.mk_spelling.specs.TableSpelling.{three, spaced, at_left, counts_line, atom_line, bond_line, numbers_line, FitsThree, AtomFits, BondFits, ListFits, IsSymbol}
 use Rattle.mk_spelling.proofs.ThreeLemmas.{length-three, three_end, end_some, count_fits}
 use Rattle.mk_spelling.proofs.StandingLemmas.{StandsBehind, first, alone, behind, within, text_at, read_at, length-spaced, spaced_read_at, entry_at}

@@ -11,7 +11,7 @@ use Rattle.mk_text.specs.Columns.{is_space, trimmed}
 use Rattle.mk_text.specs.Spelling.{signed_decimal}
 use Rattle.mk_text.proofs.ForCallers.{decimal_digits, both, and_true}
 use Rattle.mk_props.specs.Lists.{flag_text}
-use Rattle.mk_ctab.specs.TableLines.{Line}
+use Rattle.mk_tables.specs.TableLines.{Line}
 use Rattle.mk_spelling.specs.TableSpelling.{three, count_text, at_left, FitsThree}
 use Rattle.mk_spelling.proofs.ThreeLemmas.{HasEnd, end_behind, fits_pos, fits_negsuc, count_fits}
 use Rattle.mk_spelling.proofs.EndLemmas.{IsPadded, trimmed_is_core}

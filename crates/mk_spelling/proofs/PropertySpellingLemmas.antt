@@ -15,8 +15,8 @@ use Rattle.mk_props.specs.Entries.{IsSpacedNumber}
 use Rattle.mk_props.specs.Lists.{flag_text, IsListLine}
 use Rattle.mk_props.specs.Logic.{IsLogicLine}
 use Rattle.mk_props.specs.Property.{IsProperty}
-use Rattle.mk_ctab.specs.Table.{IsKept}
-use Rattle.mk_ctab.specs.TableLines.{Line}
+use Rattle.mk_tables.specs.Table.{IsKept}
+use Rattle.mk_tables.specs.TableLines.{Line}
 use Rattle.mk_spelling.specs.TableSpelling.{spaced, count_text, at_left, wide_symbols_line, symbols_line, wide_logic_line, logic_line, property_line, FitsThree, AtomListFits, LogicFits, PropertyFits, IsSymbol, SymbolsFit, SymbolsEnd, RangeFits, IsRangeText}
 use Rattle.mk_spelling.proofs.ThreeLemmas.{length-three, count_fits, end_behind}
 use Rattle.mk_spelling.proofs.StandingLemmas.{columns_padded, StandsBehind, first, alone, behind, within, text_at, field_at, length-spaced, spaced_at, entry_at}

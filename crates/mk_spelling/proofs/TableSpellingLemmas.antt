@@ -11,10 +11,10 @@ use Rattle.mk_form.specs.Rows.{Series}
 use Rattle.mk_props.specs.declared.property.Property.{Property}
 use Rattle.mk_props.specs.declared.property.Property.TheVariants as kinds
 use Rattle.mk_props.specs.Property.{IsProperty}
-use Rattle.mk_ctab.specs.declared.raw.RawAtom.{RawAtom}
-use Rattle.mk_ctab.specs.declared.raw.RawTable.{RawTable}
-use Rattle.mk_ctab.specs.Table.{Spell, IsKept, IsBlock, values_of, IsTable}
-use Rattle.mk_ctab.specs.TableLines.{Line, raw_atom_of, raw_bond_of, list_of}
+use Rattle.mk_tables.specs.declared.raw.RawAtom.{RawAtom}
+use Rattle.mk_tables.specs.declared.raw.RawTable.{RawTable}
+use Rattle.mk_tables.specs.Table.{Spell, IsKept, IsBlock, values_of, IsTable}
+use Rattle.mk_tables.specs.TableLines.{Line, raw_atom_of, raw_bond_of, list_of}
 use Rattle.mk_text.specs.Lines.{EndsWith}
 use Rattle.mk_spelling.specs.TableSpelling.{counts_line, atom_line, bond_line, numbers_line, property_line, end_line, table_lines, table_spelling, AtomFits, BondFits, ListFits, PropertyFits, IsSymbol, SymbolsFit, SymbolsEnd, RangeFits, CanBeSpelt, SpellingIsRead, EndsWithNoBlank}
 use Rattle.mk_spelling.proofs.LineSpellingLemmas.{counts_are_read, atom_is_read, bond_is_read, list_is_read, each_of}

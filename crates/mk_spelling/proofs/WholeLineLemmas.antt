@@ -11,12 +11,12 @@ use Rattle.mk_props.specs.declared.property.SiteOrder.{SiteOrder}
 use Rattle.mk_props.specs.declared.property.LogicLine.{LogicLine}
 use Rattle.mk_props.specs.declared.property.Property.{Property}
 use Rattle.mk_props.specs.declared.property.Property.TheVariants as kinds
-use Rattle.mk_ctab.specs.declared.raw.RawAtom.{RawAtom}
-use Rattle.mk_ctab.specs.declared.raw.RawBond.{RawBond}
-use Rattle.mk_ctab.specs.declared.raw.RawList.{RawList}
-use Rattle.mk_ctab.specs.declared.raw.RawTable.{RawTable}
-use Rattle.mk_ctab.specs.Table.{IsKept}
-use Rattle.mk_ctab.specs.TableLines.{Line}
+use Rattle.mk_tables.specs.declared.raw.RawAtom.{RawAtom}
+use Rattle.mk_tables.specs.declared.raw.RawBond.{RawBond}
+use Rattle.mk_tables.specs.declared.raw.RawList.{RawList}
+use Rattle.mk_tables.specs.declared.raw.RawTable.{RawTable}
+use Rattle.mk_tables.specs.Table.{IsKept}
+use Rattle.mk_tables.specs.TableLines.{Line}
 use Rattle.mk_spelling.specs.TableSpelling.{three, spaced, count_text, at_left, counts_line, atom_line, bond_line, numbers_line, pair_text, pairs_line, link_text, links_line, order_line, wide_symbols_line, symbols_line, wide_logic_line, logic_line, end_line, property_line, FitsThree, AtomFits, BondFits, ListFits, PairFits, PairsFit, LinkFits, LinksFit, AtomListFits, OrderFits, LogicFits, PropertyFits, IsSymbol, SymbolsFit, SymbolsEnd, IsRangeText, RangeFits}
 use Rattle.mk_spelling.proofs.ThreeLemmas.{HasEnd, end_behind, three_end}
 use Rattle.mk_spelling.proofs.EndLemmas.{trimmed_end, padded_symbols, padded_logic}

@@ -2,7 +2,7 @@
 //!
 //! Callers use one promise. `write_table` appends exactly the spelling of a table that can be spelt
 //! (`table_spelling` and `CanBeSpelt` in `specs/TableSpelling.antt`), and that spelling is the table
-//! again (`spelling_is_read`), as mk_ctab reads it.
+//! again (`spelling_is_read`), as mk_tables reads it.
 //!
 //! The header of a molfile isn't written here.
 #![tactic(auto)]

@@ -1,14 +1,14 @@
 // Tables, written.
 ghost use Rattle.std.specs.Prelude.{◌≡◌, ◌++◌, All, OnOk, OnErr};
 ghost use Rattle.std.specs.List.{flat_map};
-ghost use Rattle.mk_ctab.specs.Table.{IsKept};
+ghost use Rattle.mk_tables.specs.Table.{IsKept};
 ghost use Rattle.mk_text.specs.Lines.{ended};
 ghost use Rattle.mk_spelling.specs.TableSpelling.{atom_line, bond_line, numbers_line, property_line, table_spelling, AtomFits, BondFits, ListFits, PropertyFits, CanBeSpelt};
 
 use crate::writing_lines::{put_atom, put_bond, put_counts, put_list};
 use crate::writing_properties::put_property;
-use mk_ctab::{RawAtom, RawBond, RawList, RawTable};
 use mk_props::Property;
+use mk_tables::{RawAtom, RawBond, RawList, RawTable};
 use mk_text::Memory;
 use std::alloc::Global;
 

@@ -5,7 +5,7 @@ ghost use Rattle.mk_text.specs.Lines.{ended};
 ghost use Rattle.mk_spelling.specs.TableSpelling.{spaced, counts_line, atom_line, bond_line, numbers_line, FitsThree, AtomFits, BondFits, ListFits};
 
 use crate::writing_columns::{put_count, put_flag, put_left, put_spaced, put_three};
-use mk_ctab::{RawAtom, RawBond, RawList, RawTable};
+use mk_tables::{RawAtom, RawBond, RawList, RawTable};
 use mk_text::{Memory, put_number};
 use std::alloc::Global;
 

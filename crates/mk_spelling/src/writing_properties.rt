@@ -2,13 +2,13 @@
 ghost use Rattle.std.specs.Prelude.{◌≡◌, ◌++◌, ◌≤◌, length, All, OnOk, IfOk};
 ghost use Rattle.std.specs.List.{flat_map};
 ghost use Rattle.mk_text.specs.Columns.{trimmed};
-ghost use Rattle.mk_ctab.specs.Table.{IsKept};
+ghost use Rattle.mk_tables.specs.Table.{IsKept};
 ghost use Rattle.mk_text.specs.Lines.{ended};
-ghost use Rattle.mk_spelling.specs.TableSpelling.{count_text, pair_text, link_text, at_left, pairs_line, links_line, order_line, wide_symbols_line, symbols_line, wide_logic_line, logic_line, property_line, IsCounted, PairFits, PairsFit, LinkFits, LinksFit, OrderFits, AtomListFits, LogicFits, PropertyFits};
+ghost use Rattle.mk_spelling.specs.TableSpelling.{pair_text, link_text, at_left, pairs_line, links_line, order_line, wide_symbols_line, symbols_line, wide_logic_line, logic_line, property_line, IsCounted, PairFits, PairsFit, LinkFits, LinksFit, OrderFits, AtomListFits, LogicFits, PropertyFits};
 
-use crate::writing_columns::{put_count, put_flag, put_left, put_right, put_spaced};
-use mk_props::{AtomList, LinkEntry, LogicLine, Pair, Property, SiteOrder, Symbols};
-use mk_text::{Memory, trimmed_column};
+use crate::writing_columns::{put_count, put_flag, put_left, put_spaced};
+use mk_props::{AtomList, LinkEntry, LogicLine, Pair, Property, SiteOrder};
+use mk_text::{Bytes, Memory, trimmed_column};
 use std::alloc::Global;
 
 // aaa vvv   eight columns
@@ -93,22 +93,13 @@ fn put_order(alloc: Global, out: &mut Vec<u8>, order: &SiteOrder) -> Result<(), 
 }
 
 // ssss..   each symbol at the left of four columns
-fn put_symbols(out: &mut Vec<u8>, symbols: &Symbols) -> Result<(), Memory>
+fn put_symbols(out: &mut Vec<u8>, symbols: &[Bytes]) -> Result<(), Memory>
     ensures { OnOk result (out.new.items ≡ out.old.items ++ flat_map (at_left 4) symbols.now) }
 {
-    for i in 0..symbols.count() {
-        put_left(out, 4, symbols.symbol(i))?;
+    for symbol in symbols {
+        put_left(out, 4, symbol.as_slice())?;
     }
     Ok(())
-}
-
-// How many symbols there are, at the right of three columns.
-#[tactic(auto, unfolding(crate::specs::TableSpelling::three))]
-fn put_symbol_count(alloc: Global, out: &mut Vec<u8>, symbols: &Symbols) -> Result<(), Memory>
-    requires { length symbols.now ≤ 999 }
-    ensures { OnOk result (out.new.items ≡ out.old.items ++ count_text symbols.now) }
-{
-    put_right(alloc, out, symbols.count() as u32)
 }
 
 // A line without the blanks at its end, and LF. No line begins with a blank.
@@ -126,13 +117,14 @@ fn wide_symbols(alloc: Global, list: &AtomList) -> Result<Vec<u8>, Memory>
     requires { AtomListFits list.now }
     ensures { IfOk result (λ line. line.items ≡ wide_symbols_line list.now) }
 {
+    let symbols = list.symbols.as_slice();
     let mut line = Vec::from_slice(alloc, b"M  ALS")?;
     put_spaced(alloc, &mut line, list.atom)?;
-    put_symbol_count(alloc, &mut line, &list.symbols)?;
+    put_count(alloc, &mut line, symbols)?;
     line.extend_from_slice(b" ")?;
     put_flag(&mut line, list.not)?;
     line.extend_from_slice(b" ")?;
-    put_symbols(&mut line, &list.symbols)?;
+    put_symbols(&mut line, symbols)?;
     Ok(line)
 }
 

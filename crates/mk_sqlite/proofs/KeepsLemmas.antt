@@ -3,17 +3,21 @@ use Rattle.std.proofs.Common.{inl, inr, ◌≡◌, ◌≤◌, ◌&&◌, ℕ, Lis
 use Rattle.std.proofs.lemmas.Bool.{and_parts, and_from, eqb-true, not-true, eq-eqb}
 use Rattle.sqlite_trees.specs.Tree.{Trees}
 use Rattle.sqlite_trees.specs.View.{doubt}
+use Rattle.sqlite_trees.specs.declared.store.Store.{Ghosts}
 use Rattle.sqlite.specs.Effect.{Database, IsDatabase}
 use Rattle.sqlite.specs.State.{State, HasCleanDisk, IsLive, Survives}
+use Rattle.sqlite.specs.Held.{Held, state}
 use Rattle.sqlite.proofs.StateLemmas.{survives_then}
 use Rattle.mk_outside.specs.declared.tables.Tables.{Tables}
 use Rattle.mk_outside.specs.declared.tables.Change.{Change}
+use Rattle.mk_outside.specs.declared.answers.KeepFail.{KeepFail}
 use Rattle.mk_outside.specs.Tables.{after_batch}
 use Rattle.mk_outside.specs.Told.{committed}
 use Rattle.mk_sqlite.specs.Layout.{Stage, all_tables}
 use Rattle.mk_sqlite.specs.Told.{tables_of}
 use Rattle.mk_sqlite.specs.Steps.{IsAt, IsWhole, Inside, Leaves, Ends}
-use Rattle.mk_sqlite.specs.Keeps.{IsSoundState, is_sound, told_in, StandsFor, StaysSound, OnCrash}
+use Rattle.mk_sqlite.specs.Keeps.{IsSoundState, is_sound, told_in, StandsFor, StaysSound, OnCrash, LeavesNoMore}
+use Rattle.mk_sqlite.specs.Keeper.{FaultLeaves}
 use Rattle.mk_sqlite.proofs.ToldLemmas.{told_is, is_told}
 
 -- by the value, where there is one
@@ -78,12 +82,27 @@ stays_sound s0 s3 P survives idle sound clean = elim (survives.closes clean soun
   | inr more ↦ inr more
 ]
 
+-- what a connection that is shut leaves it could leave before
+pub after_fault : (s0 s3 : State) (Q : Trees → Type 0) → Survives s0 s3 (λ db. IsTrue s0.is_open × Q db) → LeavesNoMore s0 s3
+after_fault s0 s3 Q survives shut clean = (
+  omega (arith, survives.clean, clean),
+  λ db may. elim (survives.crash clean db may) [ inl before ↦ before | inr after ↦ absurd (let opens = after.0 in cc) ],
+)
+
+-- the same of a keeper, which is open or not
+pub fault_leaves : {S : Type 0} (g : Ghosts S) (old new : Result (Held S) KeepFail) (c d : Held S) → old ≡ Ok c → new ≡ Ok d → LeavesNoMore (state g c) (state g d) → FaultLeaves g old new
+fault_leaves g old new c d was is leaves = rw (was, is) leaves
+
+-- a keeper that is shut for good leaves nothing
+pub shut_leaves : {S : Type 0} (g : Ghosts S) (old new : Result (Held S) KeepFail) (fail : KeepFail) → old ≡ Err fail → FaultLeaves g old new
+shut_leaves g old new fail was = rw was tt
+
 -- an old outcome of a crash is the last commit
 pub on_crash : (s0 s3 : State) (batch : List Change) → ((db : Trees) → IsTrue s0.is_open → s0.may_leave db → db ≡ s0.committed.trees) → IsLive s0
-    → Survives s0 s3 (λ db. IfSome (told_in s0) (λ t. StandsFor db (after_batch batch t))) → OnCrash s0 s3 batch
+    → Survives s0 s3 (λ db. IsTrue s0.is_open × IfSome (told_in s0) (λ t. StandsFor db (after_batch batch t))) → OnCrash s0 s3 batch
 on_crash s0 s3 batch law live survives clean = if_some (told_in s0) _ (λ t told db may. elim (survives.crash clean db may) [
   | inl before ↦ inl (let it = told_sound s0 t told in subst (λ trees. StandsFor trees t) (sym (law db it.0.is_open before)) (s0.committed.schema, (live it.0.is_open).1, it.1))
-  | inr after ↦ inr (rw told at after)
+  | inr after ↦ inr (rw told at after.1)
 ])
 
 -- within a transaction nothing is told
@@ -168,14 +187,28 @@ module _ (s0 s1 s2 s3 : State) (begun_now : s1.now ≡ s0.now) (begun_committed 
   pub gives : (Q : A → Tables → Type 0) → ((a : A) → P a → (stage : Stage) (t : Tables) → IsAt stage s1.now t → Q a t) → IsSoundState s3 → IfSome (told_in s0) (λ t. IfOk result (λ a. Q a t))
   gives Q reads h = if_some (told_in s0) _ (λ t told. if_ok result _ (λ a is. let start = begins t told in reads a (done a is h t told).1 start.0 t start.1))
 
-  -- a crash leaves what it could leave before, or the tables as they are changed
-  pub crashes : Survives s1 s2 (λ _. ⊥) → Survives s2 s3 (λ db. IsOk answer × (db ≡ s2.now.trees)) → Survives s1 s3 (λ db. IfSome (told_in s0) (λ t. StandsFor db (f t)))
-  crashes one two = survives_then s1 s2 s3 (λ _. ⊥) (λ db. IsOk answer × (db ≡ s2.now.trees)) (λ db. IfSome (told_in s0) (λ t. StandsFor db (f t))) (λ clean db none. absurd none)
-      (λ clean db it. if_some (told_in s0) (λ t. StandsFor db (f t)) (λ t told.
+  -- what is answered of the database that it began with, whatever that tells
+  pub finds : (Q : A → Database → Type 0) → ((a : A) → P a → IsDatabase s1.now → Q a s1.now) → IsSoundState s3 → IfOk result (λ a. Q a s0.committed)
+  finds Q reads h = if_ok result _ (λ a is.
+      let its : answer ≡ Ok a = rw is at same in
+      let opens = (sound_back h).is_open in
+      let now : s1.now ≡ s0.committed = begun_now ∙ settled opens in
+      subst (Q a) now (reads a (went_well a its (earlier h.clean)).1.1 (subst IsDatabase (sym now) (live opens).1)))
+
+  -- A crash leaves what it could leave before, or the tables as they are changed. That comes of an
+  -- open connection alone.
+  pub crashes : ((a : A) → P a → IsTrue s1.is_open) → Survives s1 s2 (λ _. ⊥) → Survives s2 s3 (λ db. IsOk answer × (db ≡ s2.now.trees))
+      → Survives s1 s3 (λ db. IsTrue s0.is_open × IfSome (told_in s0) (λ t. StandsFor db (f t)))
+  crashes opens one two = survives_then s1 s2 s3 (λ _. ⊥) (λ db. IsOk answer × (db ≡ s2.now.trees))
+      (λ db. IsTrue s0.is_open × IfSome (told_in s0) (λ t. StandsFor db (f t))) (λ clean db none. absurd none)
+      (λ clean db it.
       let a = ok_of answer it.0 in
-      let went = went_well a.0 a.1 (earlier clean) in
-      let start = begins t told in
-      subst (λ trees. StandsFor trees (f t)) (sym it.1) (whole_stands s2.now (f t) (went.1.0 start.0 t start.1)))) one two
+      let went = went_well a.0 a.1 (earlier clean) in (
+        sym begun_open ∙ opens a.0 went.1.1,
+        if_some (told_in s0) (λ t. StandsFor db (f t)) (λ t told.
+            let start = begins t told in
+            subst (λ trees. StandsFor trees (f t)) (sym it.1) (whole_stands s2.now (f t) (went.1.0 start.0 t start.1))),
+      )) one two
     where
       ok_of : (r : Result A E) → IsOk r → (a : A) × (r ≡ Ok a)
       ok_of (Ok a) h = (a, refl)

@@ -11,11 +11,12 @@ pub mod FormLemmas
 pub mod StatementLemmas
 pub mod SelectLemmas
 pub mod MakeLemmas
+pub mod MovesLemmas
 pub mod InsideLemmas
 pub mod StoredLemmas
 pub mod KeepsLemmas
 pub mod PlaceLemmas
 pub mod BatchLemmas
 pub mod AgainLemmas
+pub mod RestartLemmas
 mod ToldOnLiterals
-pub mod ForCallers

@@ -12,10 +12,9 @@ use Rattle.sqlite.specs.Listing.{understood}
 use Rattle.sqlite.specs.Effect.{Database, IsDatabase}
 use Rattle.sqlite.specs.State.{State, Writes, Executes, IsUnchanged}
 use Rattle.sqlite.proofs.Callers.{runs_as}
-use Rattle.mk_outside.specs.declared.tables.Tables.{Tables}
 use Rattle.mk_sqlite.specs.Layout.{records, queries, cursors, nexts, Stage, no_table, one_table, two_tables, three_tables, all_tables, schema_at}
-use Rattle.mk_sqlite.specs.Told.{record_in, query_in, cursor_in, IsKept, AreNext, IsTold}
-use Rattle.mk_sqlite.specs.Steps.{IsAt, Moves, with_one, with_two, with_three, with_all}
+use Rattle.mk_sqlite.specs.Told.{records_at, queries_at, cursors_at, nexts_at}
+use Rattle.mk_sqlite.specs.Steps.{HasTables, HaveSameRows, Moves, with_one, with_two, with_three, with_all}
 use Rattle.mk_sqlite.proofs.MakeTextLemmas
 use Rattle.mk_sqlite.proofs.MakeTextLemmas.{MakesTable, FindsTable, treeless}
 use Rattle.mk_sqlite.proofs.WriteLemmas.{went, same_value}
@@ -47,94 +46,69 @@ made before after text table it makes plain old new count has ran =
           (subst (λ (s : Schema). AllByRecursion (λ (t : Table). first.0.trees t.tree ≡ old.now.trees t.tree) s.tables) has create.others);
     }
 
-stays : (stage : Stage) (text : List ℕ) → FindsTable stage text → (old new : State) (count : ℕ) (t : Tables) → Executes text [] old new (Ok count) → IsAt stage old.now t → IsAt stage new.now t
-stays stage text it old new count t ran at =
+-- so many tables are there, with the rows as they were
+abbrev Moved : Stage → Database → Stage → Database → Type 0
+Moved before old after new = HasTables after new × HaveSameRows before old.trees after new.trees
+
+stays : (stage : Stage) (text : List ℕ) → FindsTable stage text → (old new : State) (count : ℕ) → Executes text [] old new (Ok count) → HasTables stage old.now → Moved stage old.now stage new.now
+stays stage text it old new count ran at =
     let same : IsUnchanged old new = (runs_as text [] old new (schema_at stage) at.schema Nothing it.command it.plain count ran).0 in
-    subst (λ db. IsAt stage db t) (sym same.0.now_is) at
+    let now : new.now ≡ old.now = same.0.now_is in (
+      subst (HasTables stage) (sym now) at,
+      record {
+        records = ap (λ (db : Database). records_at stage db.trees) now;
+        queries = ap (λ (db : Database). queries_at stage db.trees) now;
+        cursors = ap (λ (db : Database). cursors_at stage db.trees) now;
+        nexts = ap (λ (db : Database). nexts_at stage db.trees) now;
+      },
+    )
 
 -- the making of the records
 pub moves_one : (old new : State) (count : ℕ) → Executes MakeTextLemmas.make_records [] old new (Ok count) → Moves (λ stage. stage) with_one old.now new.now
-moves_one old new count ran no_table t at =
+moves_one old new count ran no_table at =
     let m = made no_table one_table MakeTextLemmas.make_records (treeless records) MakeTextLemmas.records_made refl refl old new count at.schema ran in
-    record {
-      schema = m.schema;
-      sound = m.sound;
-      told = record {
-        records = subst (λ r. IsKept record_in r t.records) (sym m.empty) at.told.records;
-        queries = at.told.queries;
-        cursors =
-            at.told.cursors;
-        nexts = at.told.nexts;
-      };
-    }
-moves_one old new count ran one_table t at = stays one_table _ MakeTextLemmas.records_found_1 old new count t ran at
-moves_one old new count ran two_tables t at = stays two_tables _ MakeTextLemmas.records_found_2 old new count t ran at
-moves_one old new count ran three_tables t at = stays three_tables _ MakeTextLemmas.records_found_3 old new count t ran at
-moves_one old new count ran all_tables t at = stays all_tables _ MakeTextLemmas.records_found_4 old new count t ran at
+    (record { schema = m.schema; sound = m.sound }, record { records = m.empty; queries = refl; cursors = refl; nexts = refl })
+moves_one old new count ran one_table at = stays one_table _ MakeTextLemmas.records_found_1 old new count ran at
+moves_one old new count ran two_tables at = stays two_tables _ MakeTextLemmas.records_found_2 old new count ran at
+moves_one old new count ran three_tables at = stays three_tables _ MakeTextLemmas.records_found_3 old new count ran at
+moves_one old new count ran all_tables at = stays all_tables _ MakeTextLemmas.records_found_4 old new count ran at
 
-second : (old new : State) (count : ℕ) (t : Tables) → Executes MakeTextLemmas.make_queries [] old new (Ok count) → IsAt one_table old.now t → IsAt two_tables new.now t
+second : (old new : State) (count : ℕ) → Executes MakeTextLemmas.make_queries [] old new (Ok count) → HasTables one_table old.now → Moved one_table old.now two_tables new.now
 unfolding digits
-second old new count t ran at =
+second old new count ran at =
     let m = made one_table two_tables MakeTextLemmas.make_queries (treeless queries) MakeTextLemmas.queries_made refl refl old new count at.schema ran in
-    record {
-      schema = m.schema;
-      sound = m.sound;
-      told = record {
-        records = subst (λ r. IsKept record_in r t.records) (sym m.others.0) at.told.records;
-        queries = subst (λ r. IsKept query_in r t.queries) (sym m.empty) at.told.queries;
-        cursors = at.told.cursors;
-        nexts = at.told.nexts;
-      };
-    }
+    (record { schema = m.schema; sound = m.sound }, record { records = m.others.0; queries = m.empty; cursors = refl; nexts = refl })
 
 -- the making of the queries
 pub moves_two : (old new : State) (count : ℕ) → Executes MakeTextLemmas.make_queries [] old new (Ok count) → Moves with_one with_two old.now new.now
-moves_two old new count ran no_table t at = second old new count t ran at
-moves_two old new count ran one_table t at = second old new count t ran at
-moves_two old new count ran two_tables t at = stays two_tables _ MakeTextLemmas.queries_found_2 old new count t ran at
-moves_two old new count ran three_tables t at = stays three_tables _ MakeTextLemmas.queries_found_3 old new count t ran at
-moves_two old new count ran all_tables t at = stays all_tables _ MakeTextLemmas.queries_found_4 old new count t ran at
+moves_two old new count ran no_table at = second old new count ran at
+moves_two old new count ran one_table at = second old new count ran at
+moves_two old new count ran two_tables at = stays two_tables _ MakeTextLemmas.queries_found_2 old new count ran at
+moves_two old new count ran three_tables at = stays three_tables _ MakeTextLemmas.queries_found_3 old new count ran at
+moves_two old new count ran all_tables at = stays all_tables _ MakeTextLemmas.queries_found_4 old new count ran at
 
-third : (old new : State) (count : ℕ) (t : Tables) → Executes MakeTextLemmas.make_cursors [] old new (Ok count) → IsAt two_tables old.now t → IsAt three_tables new.now t
-third old new count t ran at =
+third : (old new : State) (count : ℕ) → Executes MakeTextLemmas.make_cursors [] old new (Ok count) → HasTables two_tables old.now → Moved two_tables old.now three_tables new.now
+third old new count ran at =
     let m = made two_tables three_tables MakeTextLemmas.make_cursors (treeless cursors) MakeTextLemmas.cursors_made refl refl old new count at.schema ran in
-    record {
-      schema = m.schema;
-      sound = m.sound;
-      told = record {
-        records = subst (λ r. IsKept record_in r t.records) (sym m.others.0) at.told.records;
-        queries = subst (λ r. IsKept query_in r t.queries) (sym m.others.1.0) at.told.queries;
-        cursors = subst (λ r. IsKept cursor_in r t.cursors) (sym m.empty) at.told.cursors;
-        nexts = at.told.nexts;
-      };
-    }
+    (record { schema = m.schema; sound = m.sound }, record { records = m.others.0; queries = m.others.1.0; cursors = m.empty; nexts = refl })
 
 -- the making of the cursors
 pub moves_three : (old new : State) (count : ℕ) → Executes MakeTextLemmas.make_cursors [] old new (Ok count) → Moves with_two with_three old.now new.now
-moves_three old new count ran no_table t at = third old new count t ran at
-moves_three old new count ran one_table t at = third old new count t ran at
-moves_three old new count ran two_tables t at = third old new count t ran at
-moves_three old new count ran three_tables t at = stays three_tables _ MakeTextLemmas.cursors_found_3 old new count t ran at
-moves_three old new count ran all_tables t at = stays all_tables _ MakeTextLemmas.cursors_found_4 old new count t ran at
+moves_three old new count ran no_table at = third old new count ran at
+moves_three old new count ran one_table at = third old new count ran at
+moves_three old new count ran two_tables at = third old new count ran at
+moves_three old new count ran three_tables at = stays three_tables _ MakeTextLemmas.cursors_found_3 old new count ran at
+moves_three old new count ran all_tables at = stays all_tables _ MakeTextLemmas.cursors_found_4 old new count ran at
 
-last : (old new : State) (count : ℕ) (t : Tables) → Executes MakeTextLemmas.make_nexts [] old new (Ok count) → IsAt three_tables old.now t → IsAt all_tables new.now t
-last old new count t ran at =
+last : (old new : State) (count : ℕ) → Executes MakeTextLemmas.make_nexts [] old new (Ok count) → HasTables three_tables old.now → Moved three_tables old.now all_tables new.now
+last old new count ran at =
     let m = made three_tables all_tables MakeTextLemmas.make_nexts (treeless nexts) MakeTextLemmas.nexts_made refl refl old new count at.schema ran in
-    record {
-      schema = m.schema;
-      sound = m.sound;
-      told = record {
-        records = subst (λ r. IsKept record_in r t.records) (sym m.others.0) at.told.records;
-        queries = subst (λ r. IsKept query_in r t.queries) (sym m.others.1.0) at.told.queries;
-        cursors = subst (λ r. IsKept cursor_in r t.cursors) (sym m.others.1.1.0) at.told.cursors;
-        nexts = subst (λ r. AreNext r t.next_record t.next_cursor) (sym m.empty) at.told.nexts;
-      };
-    }
+    (record { schema = m.schema; sound = m.sound }, record { records = m.others.0; queries = m.others.1.0; cursors = m.others.1.1.0; nexts = m.empty })
 
 -- the making of the next numbers
 pub moves_four : (old new : State) (count : ℕ) → Executes MakeTextLemmas.make_nexts [] old new (Ok count) → Moves with_three with_all old.now new.now
-moves_four old new count ran no_table t at = last old new count t ran at
-moves_four old new count ran one_table t at = last old new count t ran at
-moves_four old new count ran two_tables t at = last old new count t ran at
-moves_four old new count ran three_tables t at = last old new count t ran at
-moves_four old new count ran all_tables t at = stays all_tables _ MakeTextLemmas.nexts_found_4 old new count t ran at
+moves_four old new count ran no_table at = last old new count ran at
+moves_four old new count ran one_table at = last old new count ran at
+moves_four old new count ran two_tables at = last old new count ran at
+moves_four old new count ran three_tables at = last old new count ran at
+moves_four old new count ran all_tables at = stays all_tables _ MakeTextLemmas.nexts_found_4 old new count ran at

@@ -1,6 +1,7 @@
 -- What the selections show of the told tables.
-use Rattle.std.proofs.Common.{◌≡◌, ◌≢◌, ◌&&◌, ℕ, ℤ, pos, List, [], ◌∷◌, map, filter, find, Bool, true, false, cond, Option, Some, None, refl, sym, ap, subst, ◌∙◌, arith, IsPermutation, codes}
+use Rattle.std.proofs.Common.{◌≡◌, ◌≢◌, ◌&&◌, ◌<◌, ℕ, ℤ, pos, List, [], ◌∷◌, map, filter, find, Bool, true, false, cond, Option, Some, None, refl, sym, ap, subst, ◌∙◌, arith, IsPermutation, codes}
 use Rattle.std.specs.List.{AllZip}
+use Rattle.std.proofs.lemmas.Bool.{lt-ltb}
 use Rattle.std.proofs.lemmas.List.Sorted.{length_permutation}
 use Rattle.sqlite_value.specs.declared.value.Value.TheVariants.{Null, Int, Text, Blob}
 use Rattle.sqlite_value.specs.Order.{Row, column}
@@ -19,12 +20,11 @@ use Rattle.sqlite.proofs.Callers.{IsPlain, reads_as, one_permutation}
 use Rattle.mk_outside.specs.declared.tables.RecordRow.{RecordRow}
 use Rattle.mk_outside.specs.declared.tables.QueryRow.{QueryRow}
 use Rattle.mk_outside.specs.declared.tables.CursorRow.{CursorRow}
-use Rattle.mk_outside.specs.declared.tables.Tables.{Tables}
+use Rattle.mk_sqlite.specs.Layout.{all_tables}
 use Rattle.mk_sqlite.specs.Told.{record_in, query_in, cursor_in, next_by, next_in, number_by, spelt_place, AreRead}
-use Rattle.mk_sqlite.specs.Steps.{IsWhole}
+use Rattle.mk_sqlite.specs.Steps.{HasTables}
 use Rattle.mk_sqlite.specs.Stored.{IsRecordRow, IsQueryRow, IsCursorRow, IsNext}
 use Rattle.mk_sqlite.proofs.AnswerLemmas.{answered, answered_in_order, passes}
-use Rattle.mk_sqlite.proofs.FormLemmas.{record_is, query_is, cursor_is, number_is}
 use Rattle.mk_sqlite.proofs.OneRowLemmas.{equal_test, one_row}
 use Rattle.mk_sqlite.proofs.TextLemmas
 use Rattle.mk_sqlite.proofs.TextLemmas.{whole, same_column}
@@ -40,66 +40,49 @@ shown_plain sql params old new schema has plain rows h =
 
 -- ---- rows in order, as they are read
 
-same_record : (r : Row) (x y : RecordRow) → record_in r ≡ Some y → IsRecordRow (rowid r ∷ column r 2 ∷ []) x → x ≡ y
-same_record r x y is h =
-    let p = record_is r y is in
-    let n : x.number ≡ y.number = let a = sym h.number ∙ p.number in cc in
-    let t : x.text ≡ y.text = let a = sym h.text ∙ p.text in cc in
-    λ i. record { number = n i; text = t i }
+read_record : (r : Row) (x : RecordRow) → IsRecordRow (rowid r ∷ column r 2 ∷ []) x → record_in r ≡ Some x
+read_record r x h = rw (h.number, lt-ltb x.number 4294967296 h.fits, h.text)
 
-same_query : (r : Row) (x y : QueryRow) → query_in r ≡ Some y → IsQueryRow (rowid r ∷ column r 2 ∷ column r 3 ∷ []) x → x ≡ y
-same_query r x y is h =
-    let p = query_is r y is in
-    let n : x.number ≡ y.number = let a = sym h.number ∙ p.number in cc in
-    let m : x.name ≡ y.name = let a = sym h.name ∙ p.name in cc in
-    let t : x.text ≡ y.text = let a = sym h.text ∙ p.text in cc in
-    λ i. record { number = n i; name = m i; text = t i }
+read_query : (r : Row) (x : QueryRow) → IsQueryRow (rowid r ∷ column r 2 ∷ column r 3 ∷ []) x → query_in r ≡ Some x
+read_query r x h = rw (h.number, lt-ltb x.number 4294967296 h.fits, h.name, h.text)
 
-same_cursor : (r : Row) (x y : CursorRow) → cursor_in r ≡ Some y → IsCursorRow (rowid r ∷ column r 2 ∷ column r 3 ∷ []) x → x ≡ y
-same_cursor r x y is h =
-    let p = cursor_is r y is in
-    let n : x.number ≡ y.number = let a = sym h.number ∙ p.number in cc in
-    let m : x.name ≡ y.name = let a = sym h.name ∙ p.name in cc in
-    let b : Rattle.mk_sqlite.specs.Stored.stored_place x.place ≡ p.bytes = let a = sym h.place ∙ p.blob in cc in
-    let t : x.place ≡ y.place = let a = sym h.read ∙ ap spelt_place b ∙ p.place in cc in
-    λ i. record { number = n i; name = m i; place = t i }
+read_cursor : (r : Row) (x : CursorRow) → IsCursorRow (rowid r ∷ column r 2 ∷ column r 3 ∷ []) x → cursor_in r ≡ Some x
+read_cursor r x h = rw (h.number, lt-ltb x.number 4294967296 h.fits, h.name, h.place, h.read)
 
-module _ {X : Type 0} (f : Row → Option X) (show : Row → Row) (IsRow : Row → X → Type 0) (same : (r : Row) (x y : X) → f r ≡ Some y → IsRow (show r) x → x ≡ y) where
-  -- rows that are read from what is shown are those that the tree tells
-  pub same_rows : (rows : List Row) (xs ys : List X) → AreRead f rows ys → AllZip IsRow (map show rows) xs → xs ≡ ys
-  same_rows [] [] [] read h = refl
-  same_rows [] [] (y ∷ ys) read h = absurd read
-  same_rows [] (x ∷ xs) ys read h = absurd h
-  same_rows (r ∷ rows) [] ys read h = absurd h
-  same_rows (r ∷ rows) (x ∷ xs) [] read h = absurd read
-  same_rows (r ∷ rows) (x ∷ xs) (y ∷ ys) read h = let first = same r x y read.0 h.0 in let rest = same_rows rows xs ys read.1 h.1 in λ i. first i ∷ rest i
+module _ {X : Type 0} (f : Row → Option X) (show : Row → Row) (IsRow : Row → X → Type 0) (read : (r : Row) (x : X) → IsRow (show r) x → f r ≡ Some x) where
+  -- rows that are read from what is shown are read from the tree
+  pub read_rows : (rows : List Row) (xs : List X) → AllZip IsRow (map show rows) xs → AreRead f rows xs
+  read_rows [] [] h = tt
+  read_rows [] (x ∷ xs) h = absurd h
+  read_rows (r ∷ rows) [] h = absurd h
+  read_rows (r ∷ rows) (x ∷ xs) h = (read r x h.0, read_rows rows xs h.1)
 
--- the records that are selected are the told ones
-pub selects_records : (old new : State) (shown : List Row) (xs : List RecordRow) (t : Tables) → IsWhole old.now t → Shown TextLemmas.select_records [] old new shown → AllZip IsRecordRow shown xs
-    → xs ≡ t.records
-selects_records old new shown xs t at h read =
+-- the records that are selected are those of the tree
+pub selects_records : (old new : State) (shown : List Row) (xs : List RecordRow) → HasTables all_tables old.now → Shown TextLemmas.select_records [] old new shown → AllZip IsRecordRow shown xs
+    → IsShaped Table (old.now.trees 0) → AreRead record_in (old.now.trees 0) xs
+selects_records old new shown xs at h read shaped =
     let db = overlay old.now.trees [] in
     let answer = reads_as TextLemmas.select_records [] old new whole at.schema _ TextLemmas.select_records_is TextLemmas.select_records_plain TextLemmas.select_records_unlisted shown h in
-    let rows = answered_in_order 0 (col 1 0 ∷ col 1 2 ∷ []) db [] shown at.told.records.shaped.0 (answer.answer Null) in
-    same_rows record_in (λ r. rowid r ∷ column r 2 ∷ []) IsRecordRow same_record (old.now.trees 0) xs t.records at.told.records.read (subst (λ l. AllZip IsRecordRow l xs) rows read)
+    let rows = answered_in_order 0 (col 1 0 ∷ col 1 2 ∷ []) db [] shown shaped.0 (answer.answer Null) in
+    read_rows record_in (λ r. rowid r ∷ column r 2 ∷ []) IsRecordRow read_record (old.now.trees 0) xs (subst (λ l. AllZip IsRecordRow l xs) rows read)
 
--- the queries that are selected are the told ones
-pub selects_queries : (old new : State) (shown : List Row) (xs : List QueryRow) (t : Tables) → IsWhole old.now t → Shown TextLemmas.select_queries [] old new shown → AllZip IsQueryRow shown xs →
-    xs ≡ t.queries
-selects_queries old new shown xs t at h read =
+-- the queries that are selected are those of the tree
+pub selects_queries : (old new : State) (shown : List Row) (xs : List QueryRow) → HasTables all_tables old.now → Shown TextLemmas.select_queries [] old new shown → AllZip IsQueryRow shown xs
+    → IsShaped Table (old.now.trees 1) → AreRead query_in (old.now.trees 1) xs
+selects_queries old new shown xs at h read shaped =
     let db = overlay old.now.trees [] in
     let answer = reads_as TextLemmas.select_queries [] old new whole at.schema _ TextLemmas.select_queries_is TextLemmas.select_queries_plain TextLemmas.select_queries_unlisted shown h in
-    let rows = answered_in_order 1 (col 1 0 ∷ col 1 2 ∷ col 1 3 ∷ []) db [] shown at.told.queries.shaped.0 (answer.answer Null) in
-    same_rows query_in (λ r. rowid r ∷ column r 2 ∷ column r 3 ∷ []) IsQueryRow same_query (old.now.trees 1) xs t.queries at.told.queries.read (subst (λ l. AllZip IsQueryRow l xs) rows read)
+    let rows = answered_in_order 1 (col 1 0 ∷ col 1 2 ∷ col 1 3 ∷ []) db [] shown shaped.0 (answer.answer Null) in
+    read_rows query_in (λ r. rowid r ∷ column r 2 ∷ column r 3 ∷ []) IsQueryRow read_query (old.now.trees 1) xs (subst (λ l. AllZip IsQueryRow l xs) rows read)
 
--- the cursors that are selected are the told ones
-pub selects_cursors : (old new : State) (shown : List Row) (xs : List CursorRow) (t : Tables) → IsWhole old.now t → Shown TextLemmas.select_cursors [] old new shown → AllZip IsCursorRow shown xs
-    → xs ≡ t.cursors
-selects_cursors old new shown xs t at h read =
+-- the cursors that are selected are those of the tree
+pub selects_cursors : (old new : State) (shown : List Row) (xs : List CursorRow) → HasTables all_tables old.now → Shown TextLemmas.select_cursors [] old new shown → AllZip IsCursorRow shown xs
+    → IsShaped Table (old.now.trees 3) → AreRead cursor_in (old.now.trees 3) xs
+selects_cursors old new shown xs at h read shaped =
     let db = overlay old.now.trees [] in
     let answer = reads_as TextLemmas.select_cursors [] old new whole at.schema _ TextLemmas.select_cursors_is TextLemmas.select_cursors_plain TextLemmas.select_cursors_unlisted shown h in
-    let rows = answered_in_order 3 (col 1 0 ∷ col 1 2 ∷ col 1 3 ∷ []) db [] shown at.told.cursors.shaped.0 (answer.answer Null) in
-    same_rows cursor_in (λ r. rowid r ∷ column r 2 ∷ column r 3 ∷ []) IsCursorRow same_cursor (old.now.trees 3) xs t.cursors at.told.cursors.read (subst (λ l. AllZip IsCursorRow l xs) rows read)
+    let rows = answered_in_order 3 (col 1 0 ∷ col 1 2 ∷ col 1 3 ∷ []) db [] shown shaped.0 (answer.answer Null) in
+    read_rows cursor_in (λ r. rowid r ∷ column r 2 ∷ column r 3 ∷ []) IsCursorRow read_cursor (old.now.trees 3) xs (subst (λ l. AllZip IsCursorRow l xs) rows read)
 
 -- ---- a next number
 
@@ -119,47 +102,43 @@ and_true : (b : Bool) → (b && true) ≡ b
 and_true true = refl
 and_true false = refl
 
+read_next : (row : Row) (next : ℕ) → column row 2 ≡ Int (pos next) → next < 4294967296 → next_by (Some row) ≡ Some next
+read_next row next is fits = rw (is, lt-ltb next 4294967296 fits)
+
 -- what the query shows is the value of the one row of the number
-next_is : (w : ℕ) (rows shown : List Row) (next m : ℕ) → IsShaped Table rows → IsPermutation (map (λ r. column r 2 ∷ []) (filter (has_rowid (pos w)) rows)) shown → IsNext shown next → next_in
-    (pos w) rows ≡ Some m → next ≡ m
-next_is w rows shown next m shaped perm is told = go (find (has_rowid (pos w)) rows) refl told
+next_is : (w : ℕ) (rows shown : List Row) (next : ℕ) → IsPermutation (map (λ r. column r 2 ∷ []) (filter (has_rowid (pos w)) rows)) shown → IsNext shown next → IsShaped Table rows
+    → next_in (pos w) rows ≡ Some next
+next_is w rows shown next perm is shaped = go (find (has_rowid (pos w)) rows) refl
   where
-    go : (o : Option Row) → find (has_rowid (pos w)) rows ≡ o → next_by o ≡ Some m → next ≡ m
-    go None e h =
+    go : (o : Option Row) → find (has_rowid (pos w)) rows ≡ o → next_by o ≡ Some next
+    go None e =
         let none : shown ≡ [] = none_permuted shown (rw (none_kept _ rows e) at perm) in
         let one : next ≡ 1 = rw none at is in
-        let first : 1 ≡ m = cc in
-        one ∙ first
-    go (Some r) e h =
+        ap Some (sym one)
+    go (Some r) e =
         let found = has_found (has_rowid (pos w)) rows r e in
         let one : shown ≡ (column r 2 ∷ []) ∷ [] = one_permutation _ shown (rw (one_row (pos w) rows r shaped.0 found.0 found.1) at perm) in
-        let value : column r 2 ≡ Int (pos next) = rw one at is in
-        let other = number_is (column r 2) m h in
-        let same = sym value ∙ other in
-        cc
+        let value : (column r 2 ≡ Int (pos next)) × (next < 4294967296) = rw one at is in
+        read_next r next value.0 value.1
 
--- the next number of records that is selected is the told one
-pub selects_next_record : (old new : State) (shown : List Row) (next : ℕ) (t : Tables) → IsWhole old.now t → Shown TextLemmas.select_next (Int (pos 1) ∷ []) old new shown → IsNext shown next →
-    next ≡ t.next_record
-selects_next_record old new shown next t at h is =
+-- the next number of records that is selected is that of the tree
+pub selects_next_record : (old new : State) (shown : List Row) (next : ℕ) → HasTables all_tables old.now → Shown TextLemmas.select_next (Int (pos 1) ∷ []) old new shown → IsNext shown next
+    → IsShaped Table (old.now.trees 4) → next_in (pos 1) (old.now.trees 4) ≡ Some next
+selects_next_record old new shown next at h is =
     let params = Int (pos 1) ∷ [] in
     let rows = old.now.trees 4 in
     let answer = reads_as TextLemmas.select_next params old new whole at.schema _ TextLemmas.select_next_is TextLemmas.select_next_plain TextLemmas.select_next_unlisted shown h in
     let perm = answered 4 (same_column 0 0 ∷ []) (col 1 2 ∷ []) [] (overlay old.now.trees []) params shown (answer.answer Null) in
     let asked = subst (λ (p : Row → Bool). IsPermutation (map (λ r. column r 2 ∷ []) (filter p rows)) shown) (λ i r. (and_true _ ∙ equal_test (rowid r) (pos 1)) i) perm in
-    next_is 1 rows shown next t.next_record at.told.nexts.shaped asked is at.told.nexts.for_records
+    next_is 1 rows shown next asked is
 
--- the next number of cursors that is selected is the told one
-pub selects_next_cursor : (old new : State) (shown : List Row) (next : ℕ) (t : Tables) → IsWhole old.now t → Shown TextLemmas.select_next (Int (pos 2) ∷ []) old new shown → IsNext shown next →
-    next ≡ t.next_cursor
-selects_next_cursor old new shown next t at h is =
+-- the next number of cursors that is selected is that of the tree
+pub selects_next_cursor : (old new : State) (shown : List Row) (next : ℕ) → HasTables all_tables old.now → Shown TextLemmas.select_next (Int (pos 2) ∷ []) old new shown → IsNext shown next
+    → IsShaped Table (old.now.trees 4) → next_in (pos 2) (old.now.trees 4) ≡ Some next
+selects_next_cursor old new shown next at h is =
     let params = Int (pos 2) ∷ [] in
     let rows = old.now.trees 4 in
     let answer = reads_as TextLemmas.select_next params old new whole at.schema _ TextLemmas.select_next_is TextLemmas.select_next_plain TextLemmas.select_next_unlisted shown h in
     let perm = answered 4 (same_column 0 0 ∷ []) (col 1 2 ∷ []) [] (overlay old.now.trees []) params shown (answer.answer Null) in
     let asked = subst (λ (p : Row → Bool). IsPermutation (map (λ r. column r 2 ∷ []) (filter p rows)) shown) (λ i r. (and_true _ ∙ equal_test (rowid r) (pos 2)) i) perm in
-    next_is 2 rows shown next t.next_cursor at.told.nexts.shaped asked is at.told.nexts.for_cursors
-
--- what is read stays where nothing is changed
-pub still_whole : (old new : State) (t : Tables) → IsUnchanged old new → IsWhole old.now t → IsWhole new.now t
-still_whole old new t same at = subst (λ db. IsWhole db t) (sym same.0.now_is) at
+    next_is 2 rows shown next asked is

@@ -29,7 +29,8 @@ is_above : (row : Row) (rows : List Row) → AllByRecursion (λ s. value_cmp (ro
 is_above row [] h = refl
 is_above row (s ∷ rows) h = and_from _ _ (ap is_lt h.0) (is_above row rows h.1)
 
-ordered_is : (rows : List Row) → is_ordered rows ≡ true → IsShaped Table rows
+-- rows that pass the test are those of a tree
+pub ordered_is : (rows : List Row) → is_ordered rows ≡ true → IsShaped Table rows
 ordered_is [] h = (tt, tt)
 ordered_is (row ∷ rows) h =
     let p = and_parts _ _ h in
@@ -93,7 +94,8 @@ at_told stage db t ordered h =
       nexts = record { shaped = ordered_is _ p2.1; for_records = n.1; for_cursors = m.1 };
     })
 
-told_at : (stage : Stage) (db : Trees) (t : Tables) → IsTold stage db t → tables_at stage db ≡ Some t
+-- trees that tell tables have them
+pub told_at : (stage : Stage) (db : Trees) (t : Tables) → IsTold stage db t → tables_at stage db ≡ Some t
 told_at stage db t h =
     rw (
       all_from_read record_in (records_at stage db) t.records h.records.read,

@@ -7,13 +7,16 @@
 --                                    disk
 --     CrashLeaves g old new batch    a crash leaves what stands for the tables before the batch or
 --                                    after it
-use Rattle.std.specs.Prelude.{Bool, false, ⊤, List, Option, Some, None, Result, Ok, Err}
+--     FaultLeaves g old new          and once a fault has shut the connection, no more than before
+--     AreKeptTables g opened t       the rows of the last commit have forms, and are these tables
+use Rattle.std.specs.Prelude.{⊤, List, Option, Some, None, Result, Ok, Err}
 use Rattle.sqlite_trees.specs.declared.store.Store.{Ghosts}
 use Rattle.sqlite.specs.Held.{Held, state}
 use Rattle.mk_outside.specs.declared.tables.Tables.{Tables}
 use Rattle.mk_outside.specs.declared.tables.Change.{Change}
 use Rattle.mk_outside.specs.declared.answers.KeepFail.{KeepFail}
-use Rattle.mk_sqlite.specs.Keeps.{IsSoundState, is_sound, told_in, StaysSound, OnCrash}
+use Rattle.mk_sqlite.specs.Told.{AreTablesOf}
+use Rattle.mk_sqlite.specs.Keeps.{IsSoundState, told_in, StaysSound, OnCrash, LeavesNoMore}
 
 -- an open keeper tells what its connection tells, and a shut one nothing
 abbrev pub kept_tables : {S : Type 0} → Ghosts S → Result (Held S) KeepFail → Option Tables
@@ -24,11 +27,6 @@ kept_tables g (Err fail) = None
 abbrev pub IsKeptSound : {S : Type 0} → Ghosts S → Result (Held S) KeepFail → Type 0
 IsKeptSound g (Ok c) = IsSoundState (state g c)
 IsKeptSound g (Err fail) = ⊥
-
--- the same as a test
-abbrev pub is_kept_sound : {S : Type 0} → Ghosts S → Result (Held S) KeepFail → Bool
-is_kept_sound g (Ok c) = is_sound (state g c)
-is_kept_sound g (Err fail) = false
 
 -- the connection of an open keeper, and nothing of a shut one
 abbrev pub handed_back : {A : Type 0} → Result A KeepFail → Option A
@@ -47,3 +45,15 @@ abbrev pub CrashLeaves : {S : Type 0} → Ghosts S → Result (Held S) KeepFail 
 CrashLeaves g (Ok old) (Ok new) batch = OnCrash (state g old) (state g new) batch
 CrashLeaves g (Ok old) (Err fail) batch = ⊥
 CrashLeaves g (Err fail) new batch = ⊤
+
+-- After a call on a keeper whose connection is shut, as by a fault of the disk, a crash leaves
+-- nothing that it couldn't leave before.
+abbrev pub FaultLeaves : {S : Type 0} → Ghosts S → Result (Held S) KeepFail → Result (Held S) KeepFail → Type 0
+FaultLeaves g (Ok old) (Ok new) = LeavesNoMore (state g old) (state g new)
+FaultLeaves g (Ok old) (Err fail) = ⊥
+FaultLeaves g (Err fail) new = ⊤
+
+-- each row of the last commit has a form where its schema is one of ours, and these are its tables
+abbrev pub AreKeptTables : {S : Type 0} → Ghosts S → Result (Held S) KeepFail → Tables → Type 0
+AreKeptTables g (Ok c) t = AreTablesOf (state g c).committed t
+AreKeptTables g (Err fail) t = ⊥

@@ -6,6 +6,7 @@
 --                                 row
 --     StaysSound old new          a sound connection stays one, but for a fault of the disk
 --     OnCrash old new batch       a crash leaves the told tables, or what the batch makes of them
+--     LeavesNoMore old new        a shut connection leaves no more than it left before
 use Rattle.std.specs.Prelude.{◌≡◌, ◌&&◌, ◌⊎◌, ℕ, List, IfSome, nat_eq, Bool, false, not, if◌then◌else◌, Option, Some, None, IsTrue}
 use Rattle.sqlite_disk.specs.Disk.{MoreFaults}
 use Rattle.sqlite_wal.specs.Recovery.{Image}
@@ -59,3 +60,9 @@ StaysSound old new = IsSoundState old → HasCleanDisk new → IsSoundState new 
 abbrev pub OnCrash : State → State → List Change → Type 0
 OnCrash old new batch = HasCleanDisk new → IfSome (told_in old)
     (λ t. (db : Trees) → new.may_leave db → StandsFor db t ⊎ StandsFor db (after_batch batch t))
+
+-- Where the store is clean, it was so before, and each thing that a crash may leave after a call on
+-- a shut connection is one that it could leave before. So what is true of it, as after the fault
+-- that shut the connection, stays true.
+abbrev pub LeavesNoMore : State → State → Type 0
+LeavesNoMore old new = old.is_open ≡ false → HasCleanDisk new → HasCleanDisk old × ((db : Trees) → new.may_leave db → old.may_leave db)

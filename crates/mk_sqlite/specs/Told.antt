@@ -3,6 +3,7 @@
 --     record_in row, query_in row, cursor_in row   what a row of the file says, where it has a form
 --     next_in which rows                           the next number of a kind
 --     tables_of db                                 the tables, where the database stands for some
+--     AreTablesOf db t                             each row has a form, and these are the tables
 -- What follows serves code alone:
 --     IsTold stage trees t                         the same of the trees of a known schema, part by
 --                                                  part
@@ -134,6 +135,11 @@ tables_at stage db =
 -- row has a form. A table that isn't there has no rows.
 unfoldable pub tables_of : Database → Option Tables
 tables_of db = option_and_then (λ stage. if are_ordered stage db.trees then tables_at stage db.trees else None) (stage_of db.schema)
+
+-- The database stands for these tables where its schema is one that the makings leave and its rows
+-- stand in order, as those of a tree always do. So each row has a form.
+abbrev pub AreTablesOf : Database → Tables → Type 0
+AreTablesOf db t = (stage : Stage) → stage_of db.schema ≡ Some stage → are_ordered stage db.trees ≡ true → tables_of db ≡ Some t
 
 -- ---- the same, part by part
 

@@ -1,13 +1,16 @@
 // Loads and commits, each as one transaction.
-ghost use Rattle.std.specs.Prelude.{◌≡◌, ◌≤◌, false, [], All, Some, IsTrue, IsOk, IfOk, IfSome};
+ghost use Rattle.std.specs.Prelude.{◌≡◌, ◌≤◌, pos, false, [], All, Some, IsTrue, IsOk, IfOk, IfSome};
+ghost use Rattle.sqlite_trees.specs.declared.store.Shape.TheVariants.{Table};
+ghost use Rattle.sqlite_trees.specs.View.{IsShaped};
 ghost use Rattle.sqlite.specs.State.{HasCleanDisk, Survives};
 ghost use Rattle.sqlite.specs.Held.{state};
-ghost use Rattle.mk_outside.specs.declared.tables.Tables.{Tables as AllTables};
 ghost use Rattle.mk_outside.specs.declared.tables.Change.TheVariants.{PutRecord, PutQuery, DropQuery, PutCursor};
 ghost use Rattle.mk_outside.specs.Tables.{after_change, after_batch, CanKeep};
 ghost use Rattle.mk_outside.specs.Told.{committed};
-ghost use Rattle.mk_sqlite.specs.Steps.{IsAt, IsWhole, Inside, Changes, Moves, Leaves, Ends, with_two, with_all};
-ghost use Rattle.mk_sqlite.specs.Keeps.{IsSoundState, told_in, StaysSound, OnCrash};
+ghost use Rattle.mk_sqlite.specs.Layout.{all_tables};
+ghost use Rattle.mk_sqlite.specs.Told.{record_in, query_in, cursor_in, next_in, AreRead, AreTablesOf, IsTold};
+ghost use Rattle.mk_sqlite.specs.Steps.{HasTables, AreShaped, Inside, Changes, Moves, Leaves, Loads, Ends, with_two, with_all};
+ghost use Rattle.mk_sqlite.specs.Keeps.{IsSoundState, told_in, StaysSound, OnCrash, LeavesNoMore};
 
 use crate::fails::fail_of;
 use crate::places::stored_place;
@@ -23,7 +26,7 @@ fn make_first<S: Alter>(transaction: &mut Transaction<'_, S>) -> Result<(), Keep
     ensures same_reference { transaction.new.conn.ghost_name ≡ transaction.old.conn.ghost_name }
     ensures survives { Survives (state S.Store transaction.old.conn.now) (state S.Store transaction.new.conn.now) (λ _. ⊥) }
     ensures inside { Inside (state S.Store transaction.old.conn.now) (state S.Store transaction.new.conn.now) result
-        (λ _. Moves (λ stage. stage) with_two (state S.Store transaction.old.conn.now).now (state S.Store transaction.new.conn.now).now) }
+        (λ _. IsTrue (state S.Store transaction.old.conn.now).is_open × Moves (λ stage. stage) with_two (state S.Store transaction.old.conn.now).now (state S.Store transaction.new.conn.now).now) }
 {
     make_records(transaction)?;
     make_queries(transaction)
@@ -34,7 +37,7 @@ fn make_others<S: Alter>(transaction: &mut Transaction<'_, S>) -> Result<(), Kee
     ensures same_reference { transaction.new.conn.ghost_name ≡ transaction.old.conn.ghost_name }
     ensures survives { Survives (state S.Store transaction.old.conn.now) (state S.Store transaction.new.conn.now) (λ _. ⊥) }
     ensures inside { Inside (state S.Store transaction.old.conn.now) (state S.Store transaction.new.conn.now) result
-        (λ _. Moves with_two with_all (state S.Store transaction.old.conn.now).now (state S.Store transaction.new.conn.now).now) }
+        (λ _. IsTrue (state S.Store transaction.old.conn.now).is_open × Moves with_two with_all (state S.Store transaction.old.conn.now).now (state S.Store transaction.new.conn.now).now) }
 {
     make_cursors(transaction)?;
     make_nexts(transaction)
@@ -45,7 +48,7 @@ fn make_tables<S: Alter>(transaction: &mut Transaction<'_, S>) -> Result<(), Kee
     ensures same_reference { transaction.new.conn.ghost_name ≡ transaction.old.conn.ghost_name }
     ensures survives { Survives (state S.Store transaction.old.conn.now) (state S.Store transaction.new.conn.now) (λ _. ⊥) }
     ensures inside { Inside (state S.Store transaction.old.conn.now) (state S.Store transaction.new.conn.now) result
-        (λ _. Leaves (state S.Store transaction.old.conn.now).now (state S.Store transaction.new.conn.now).now (λ t. t)) }
+        (λ _. IsTrue (state S.Store transaction.old.conn.now).is_open × Moves (λ stage. stage) with_all (state S.Store transaction.old.conn.now).now (state S.Store transaction.new.conn.now).now) }
 {
     make_first(transaction)?;
     make_others(transaction)
@@ -59,7 +62,7 @@ fn select_rows<S: Alter>(
     ensures same_reference { transaction.new.conn.ghost_name ≡ transaction.old.conn.ghost_name }
     ensures survives { Survives (state S.Store transaction.old.conn.now) (state S.Store transaction.new.conn.now) (λ _. ⊥) }
     ensures inside { Inside (state S.Store transaction.old.conn.now) (state S.Store transaction.new.conn.now) result
-        (λ it. (t : AllTables) → IsWhole (state S.Store transaction.old.conn.now).now t → (it.0 ≡ t.records) × (it.1 ≡ t.queries) × (it.2 ≡ t.cursors) × IsWhole (state S.Store transaction.new.conn.now).now t) }
+        (λ it. HasTables all_tables (state S.Store transaction.old.conn.now).now → (IsShaped Table ((state S.Store transaction.old.conn.now).now.trees 0) → AreRead record_in ((state S.Store transaction.old.conn.now).now.trees 0) it.0) × (IsShaped Table ((state S.Store transaction.old.conn.now).now.trees 1) → AreRead query_in ((state S.Store transaction.old.conn.now).now.trees 1) it.1) × (IsShaped Table ((state S.Store transaction.old.conn.now).now.trees 3) → AreRead cursor_in ((state S.Store transaction.old.conn.now).now.trees 3) it.2) × ((state S.Store transaction.new.conn.now).now ≡ (state S.Store transaction.old.conn.now).now)) }
 {
     let records = select_records(alloc, transaction)?;
     let queries = select_queries(alloc, transaction)?;
@@ -72,7 +75,7 @@ fn select_nexts<S: Alter>(transaction: &mut Transaction<'_, S>) -> Result<(u32, 
     ensures same_reference { transaction.new.conn.ghost_name ≡ transaction.old.conn.ghost_name }
     ensures survives { Survives (state S.Store transaction.old.conn.now) (state S.Store transaction.new.conn.now) (λ _. ⊥) }
     ensures inside { Inside (state S.Store transaction.old.conn.now) (state S.Store transaction.new.conn.now) result
-        (λ it. (t : AllTables) → IsWhole (state S.Store transaction.old.conn.now).now t → (it.0 ≡ t.next_record) × (it.1 ≡ t.next_cursor) × IsWhole (state S.Store transaction.new.conn.now).now t) }
+        (λ it. HasTables all_tables (state S.Store transaction.old.conn.now).now → (IsShaped Table ((state S.Store transaction.old.conn.now).now.trees 4) → next_in (pos 1) ((state S.Store transaction.old.conn.now).now.trees 4) ≡ Some it.0) × (IsShaped Table ((state S.Store transaction.old.conn.now).now.trees 4) → next_in (pos 2) ((state S.Store transaction.old.conn.now).now.trees 4) ≡ Some it.1) × ((state S.Store transaction.new.conn.now).now ≡ (state S.Store transaction.old.conn.now).now)) }
 {
     let next_record = select_next_record(transaction)?;
     let next_cursor = select_next_cursor(transaction)?;
@@ -86,7 +89,7 @@ fn select_tables<S: Alter>(
     ensures same_reference { transaction.new.conn.ghost_name ≡ transaction.old.conn.ghost_name }
     ensures survives { Survives (state S.Store transaction.old.conn.now) (state S.Store transaction.new.conn.now) (λ _. ⊥) }
     ensures inside { Inside (state S.Store transaction.old.conn.now) (state S.Store transaction.new.conn.now) result
-        (λ it. (t : AllTables) → IsWhole (state S.Store transaction.old.conn.now).now t → (it ≡ t) × IsWhole (state S.Store transaction.new.conn.now).now t) }
+        (λ it. HasTables all_tables (state S.Store transaction.old.conn.now).now → (AreShaped all_tables (state S.Store transaction.old.conn.now).now.trees → IsTold all_tables (state S.Store transaction.old.conn.now).now.trees it) × ((state S.Store transaction.new.conn.now).now ≡ (state S.Store transaction.old.conn.now).now)) }
 {
     let (records, queries, cursors) = select_rows(alloc, transaction)?;
     let (next_record, next_cursor) = select_nexts(transaction)?;
@@ -107,7 +110,7 @@ fn load_inside<S: Alter>(
     ensures same_reference { transaction.new.conn.ghost_name ≡ transaction.old.conn.ghost_name }
     ensures survives { Survives (state S.Store transaction.old.conn.now) (state S.Store transaction.new.conn.now) (λ _. ⊥) }
     ensures inside { Inside (state S.Store transaction.old.conn.now) (state S.Store transaction.new.conn.now) result
-        (λ it. Leaves (state S.Store transaction.old.conn.now).now (state S.Store transaction.new.conn.now).now (λ t. t) × ((stage : _) (t : AllTables) → IsAt stage (state S.Store transaction.old.conn.now).now t → it ≡ t)) }
+        (λ it. Leaves (state S.Store transaction.old.conn.now).now (state S.Store transaction.new.conn.now).now (λ t. t) × (IsTrue (state S.Store transaction.old.conn.now).is_open × Loads (state S.Store transaction.old.conn.now).now it)) }
 {
     make_tables(transaction)?;
     select_tables(alloc, transaction)
@@ -250,7 +253,7 @@ fn commit_inside<S: Alter>(
     ensures same_reference { transaction.new.conn.ghost_name ≡ transaction.old.conn.ghost_name }
     ensures survives { Survives (state S.Store transaction.old.conn.now) (state S.Store transaction.new.conn.now) (λ _. ⊥) }
     ensures inside { Inside (state S.Store transaction.old.conn.now) (state S.Store transaction.new.conn.now) result
-        (λ _. Leaves (state S.Store transaction.old.conn.now).now (state S.Store transaction.new.conn.now).now (after_batch batch.now)) }
+        (λ _. Leaves (state S.Store transaction.old.conn.now).now (state S.Store transaction.new.conn.now).now (after_batch batch.now) × IsTrue (state S.Store transaction.old.conn.now).is_open) }
 {
     make_tables(transaction)?;
     make_all(alloc, transaction, batch)
@@ -287,6 +290,8 @@ pub fn load<S: Alter>(alloc: Global, connection: &mut Connection<S>) -> Result<T
     ensures gives { IsSoundState (state S.Store connection.new) → IfSome (told_in (state S.Store connection.old)) (λ t. IfOk result (λ loaded. loaded ≡ t)) }
     ensures stays { StaysSound (state S.Store connection.old) (state S.Store connection.new) }
     ensures crash { OnCrash (state S.Store connection.old) (state S.Store connection.new) [] }
+    ensures after_fault { LeavesNoMore (state S.Store connection.old) (state S.Store connection.new) }
+    ensures formed { IsSoundState (state S.Store connection.new) → IfOk result (AreTablesOf (state S.Store connection.old).committed) }
 {
     // No connection of a keeper is in a transaction here, but no clause of its type says so.
     if !connection.is_autocommit() {
@@ -310,6 +315,7 @@ pub fn commit<S: Alter>(
     ensures told { IsSoundState (state S.Store connection.new) → IfSome (told_in (state S.Store connection.old)) (λ t. told_in (state S.Store connection.new) ≡ Some (committed batch.now t result)) }
     ensures stays { StaysSound (state S.Store connection.old) (state S.Store connection.new) }
     ensures crash { OnCrash (state S.Store connection.old) (state S.Store connection.new) batch.now }
+    ensures after_fault { LeavesNoMore (state S.Store connection.old) (state S.Store connection.new) }
 {
     // No connection of a keeper is in a transaction here, but no clause of its type says so.
     if !connection.is_autocommit() {

@@ -13,10 +13,10 @@ ghost use Rattle.mk_outside.specs.Told.{committed, is_failed_keep};
 ghost use Rattle.mk_sqlite.specs.Told.{tables_of};
 ghost use Rattle.mk_sqlite.specs.Keeps.{FilesStandFor};
 ghost use Rattle.mk_sqlite.specs.Laws.{told_is_sound};
-ghost use Rattle.mk_sqlite.specs.Keeper.{kept_tables, IsKeptSound, handed_back, StaysKept, CrashLeaves};
+ghost use Rattle.mk_sqlite.specs.Keeper.{kept_tables, IsKeptSound, handed_back, StaysKept, CrashLeaves, FaultLeaves, AreKeptTables};
 
 use crate::changes;
-use crate::fails::fail_of;
+use crate::opening::opened_at;
 use mk_outside::{Change, KeepFail, Keeper, Tables};
 use sqlite::{Alter, Connection, File, FileFrom, FileStore, Start};
 use std::alloc::Global;
@@ -30,7 +30,8 @@ pub struct SqlKeeper<S: Alter = FileStore<File>> {
 
 impl SqlKeeper {
     /// Opens the file, or makes it, without checksums of the library's own. `start` stands for what
-    /// the file and its log hold. Where that fails the keeper is shut, and each call answers why.
+    /// the file and its log hold. Where that fails the keeper is shut, and each call answers why. A
+    /// file of one byte that isn't 0 is no store, and stays as it is.
     pub fn at<B: Start>(rt: &HostRuntime, path: &str, start: B) -> SqlKeeper<FileStore<FileFrom<B>>>
         ensures faults { result.faults ≡ 0 }
         ensures opened { IfOk result.opened (λ c. HasCleanDisk (file_state c) → IsOpened c) }
@@ -40,11 +41,10 @@ impl SqlKeeper {
         ensures fresh { IfOk result.opened IsNew }
         ensures plain { IfOk result.opened (λ c. HasCleanDisk (file_state c) → IsBlankAs false (image_at B.Start) → (view c.store).has_sums ≡ false) }
     {
-        let opened = match Connection::open_from(rt, path, false, start) {
-            Ok(connection) => Ok(connection),
-            Err((error, _left)) => Err(fail_of(error)),
-        };
-        SqlKeeper { opened, faults: 0 }
+        SqlKeeper {
+            opened: opened_at(rt, path, start),
+            faults: 0,
+        }
     }
 }
 
@@ -67,11 +67,18 @@ impl<S: Alter> SqlKeeper<S> {
     pub fn back(self) -> Option<Connection<S>>
         ensures { result ≡ handed_back self.opened }
     {
-        let SqlKeeper { opened, faults: _ } = self;
-        match opened {
+        match self.into_opened() {
             Ok(connection) => Some(connection),
             Err(_) => None,
         }
+    }
+
+    // The connection, or why there is none.
+    pub(crate) fn into_opened(self) -> Result<Connection<S>, KeepFail>
+        ensures { result ≡ self.opened }
+    {
+        let SqlKeeper { opened, faults: _ } = self;
+        opened
     }
 
     // The answer, which counts as a fault where it is a failure.
@@ -105,6 +112,8 @@ impl<S: Alter> Keeper for SqlKeeper<S> {
         ensures stays_shut { IfErr self.old.opened (λ fail. self.new.opened ≡ Err fail) }
         ensures stays { StaysKept S.Store self.old.opened self.new.opened }
         ensures crash { CrashLeaves S.Store self.old.opened self.new.opened [] }
+        ensures after_fault { FaultLeaves S.Store self.old.opened self.new.opened }
+        ensures formed { IsKeptSound S.Store self.new.opened → IfOk result (AreKeptTables S.Store self.old.opened) }
     {
         let answer = match &mut self.opened {
             Ok(connection) => changes::load(alloc, connection),
@@ -122,6 +131,7 @@ impl<S: Alter> Keeper for SqlKeeper<S> {
         ensures stays_shut { IfErr self.old.opened (λ fail. self.new.opened ≡ Err fail) }
         ensures stays { StaysKept S.Store self.old.opened self.new.opened }
         ensures crash { CrashLeaves S.Store self.old.opened self.new.opened batch.now }
+        ensures after_fault { FaultLeaves S.Store self.old.opened self.new.opened }
     {
         let answer = match &mut self.opened {
             Ok(connection) => changes::commit(alloc, connection, batch),

@@ -13,10 +13,13 @@
 mod changes;
 mod fails;
 mod keeper;
+mod laws;
+mod opening;
 mod places;
 mod restart;
 mod statements;
 mod stored;
 
 pub use keeper::SqlKeeper;
-pub use restart::again;
+pub use laws::files_are_found_again;
+pub use restart::{Rest, again};

@@ -1,6 +1,8 @@
 // The statements, each with a function of its own. What each does to the told tables is its clause
 // `inside`.
-ghost use Rattle.std.specs.Prelude.{◌≡◌, ◌≤◌, ◌<◌, ◌+◌, ℕ, max, [], Ok, Some, IsTrue, IfOk, slice_index};
+ghost use Rattle.std.specs.Prelude.{◌≡◌, ◌≤◌, ◌<◌, ◌+◌, ℕ, pos, max, [], Ok, Some, IsTrue, IfOk, slice_index};
+ghost use Rattle.sqlite_trees.specs.declared.store.Shape.TheVariants.{Table};
+ghost use Rattle.sqlite_trees.specs.View.{IsShaped};
 ghost use Rattle.sqlite.specs.State.{Survives, Executes, Shown};
 ghost use Rattle.sqlite.specs.Held.{state};
 ghost use Rattle.sqlite.specs.Values.{bound};
@@ -8,8 +10,9 @@ ghost use Rattle.std.specs.Prelude.{List};
 ghost use Rattle.mk_outside.specs.declared.tables.Tables.{Tables};
 ghost use Rattle.mk_outside.specs.Rows.{put, without};
 ghost use Rattle.mk_outside.specs.Tables.{record_number, query_number, cursor_number, without_name};
-ghost use Rattle.mk_sqlite.specs.Told.{spelt_place};
-ghost use Rattle.mk_sqlite.specs.Steps.{IsWhole, Inside, Changes, Moves, with_one, with_two, with_three, with_all};
+ghost use Rattle.mk_sqlite.specs.Layout.{all_tables};
+ghost use Rattle.mk_sqlite.specs.Told.{spelt_place, record_in, query_in, cursor_in, next_in, AreRead};
+ghost use Rattle.mk_sqlite.specs.Steps.{HasTables, Inside, Changes, Moves, with_one, with_two, with_three, with_all};
 
 use crate::fails::fail_of;
 use crate::stored::{cursors_of, next_of, queries_of, records_of};
@@ -27,7 +30,7 @@ fn send<S: Alter>(
     ensures same_reference { transaction.new.conn.ghost_name ≡ transaction.old.conn.ghost_name }
     ensures survives { Survives (state S.Store transaction.old.conn.now) (state S.Store transaction.new.conn.now) (λ _. ⊥) }
     ensures inside { Inside (state S.Store transaction.old.conn.now) (state S.Store transaction.new.conn.now) result
-        (λ _. (count : ℕ) × Executes text.now (bound params.now) (state S.Store transaction.old.conn.now) (state S.Store transaction.new.conn.now) (Ok count)) }
+        (λ _. (count : ℕ) × Executes text.now (bound params.now) (state S.Store transaction.old.conn.now) (state S.Store transaction.new.conn.now) (Ok count) × IsTrue (state S.Store transaction.old.conn.now).is_open) }
 {
     match transaction.execute(text, params) {
         Ok(_) => Ok(()),
@@ -58,7 +61,7 @@ pub fn make_records<S: Alter>(transaction: &mut Transaction<'_, S>) -> Result<()
     ensures same_reference { transaction.new.conn.ghost_name ≡ transaction.old.conn.ghost_name }
     ensures survives { Survives (state S.Store transaction.old.conn.now) (state S.Store transaction.new.conn.now) (λ _. ⊥) }
     ensures inside { Inside (state S.Store transaction.old.conn.now) (state S.Store transaction.new.conn.now) result
-        (λ _. Moves (λ stage. stage) with_one (state S.Store transaction.old.conn.now).now (state S.Store transaction.new.conn.now).now) }
+        (λ _. IsTrue (state S.Store transaction.old.conn.now).is_open × Moves (λ stage. stage) with_one (state S.Store transaction.old.conn.now).now (state S.Store transaction.new.conn.now).now) }
 {
     send(
         transaction,
@@ -71,7 +74,7 @@ pub fn make_queries<S: Alter>(transaction: &mut Transaction<'_, S>) -> Result<()
     ensures same_reference { transaction.new.conn.ghost_name ≡ transaction.old.conn.ghost_name }
     ensures survives { Survives (state S.Store transaction.old.conn.now) (state S.Store transaction.new.conn.now) (λ _. ⊥) }
     ensures inside { Inside (state S.Store transaction.old.conn.now) (state S.Store transaction.new.conn.now) result
-        (λ _. Moves with_one with_two (state S.Store transaction.old.conn.now).now (state S.Store transaction.new.conn.now).now) }
+        (λ _. IsTrue (state S.Store transaction.old.conn.now).is_open × Moves with_one with_two (state S.Store transaction.old.conn.now).now (state S.Store transaction.new.conn.now).now) }
 {
     send(
         transaction,
@@ -84,7 +87,7 @@ pub fn make_cursors<S: Alter>(transaction: &mut Transaction<'_, S>) -> Result<()
     ensures same_reference { transaction.new.conn.ghost_name ≡ transaction.old.conn.ghost_name }
     ensures survives { Survives (state S.Store transaction.old.conn.now) (state S.Store transaction.new.conn.now) (λ _. ⊥) }
     ensures inside { Inside (state S.Store transaction.old.conn.now) (state S.Store transaction.new.conn.now) result
-        (λ _. Moves with_two with_three (state S.Store transaction.old.conn.now).now (state S.Store transaction.new.conn.now).now) }
+        (λ _. IsTrue (state S.Store transaction.old.conn.now).is_open × Moves with_two with_three (state S.Store transaction.old.conn.now).now (state S.Store transaction.new.conn.now).now) }
 {
     send(
         transaction,
@@ -97,7 +100,7 @@ pub fn make_nexts<S: Alter>(transaction: &mut Transaction<'_, S>) -> Result<(), 
     ensures same_reference { transaction.new.conn.ghost_name ≡ transaction.old.conn.ghost_name }
     ensures survives { Survives (state S.Store transaction.old.conn.now) (state S.Store transaction.new.conn.now) (λ _. ⊥) }
     ensures inside { Inside (state S.Store transaction.old.conn.now) (state S.Store transaction.new.conn.now) result
-        (λ _. Moves with_three with_all (state S.Store transaction.old.conn.now).now (state S.Store transaction.new.conn.now).now) }
+        (λ _. IsTrue (state S.Store transaction.old.conn.now).is_open × Moves with_three with_all (state S.Store transaction.old.conn.now).now (state S.Store transaction.new.conn.now).now) }
 {
     send(
         transaction,
@@ -259,7 +262,7 @@ pub fn select_records<S: Alter>(
     ensures same_reference { transaction.new.conn.ghost_name ≡ transaction.old.conn.ghost_name }
     ensures survives { Survives (state S.Store transaction.old.conn.now) (state S.Store transaction.new.conn.now) (λ _. ⊥) }
     ensures inside { Inside (state S.Store transaction.old.conn.now) (state S.Store transaction.new.conn.now) result
-        (λ it. (t : Tables) → IsWhole (state S.Store transaction.old.conn.now).now t → (it ≡ t.records) × IsWhole (state S.Store transaction.new.conn.now).now t) }
+        (λ it. HasTables all_tables (state S.Store transaction.old.conn.now).now → (IsShaped Table ((state S.Store transaction.old.conn.now).now.trees 0) → AreRead record_in ((state S.Store transaction.old.conn.now).now.trees 0) it) × ((state S.Store transaction.new.conn.now).now ≡ (state S.Store transaction.old.conn.now).now)) }
 {
     let rows = show(
         transaction,
@@ -276,7 +279,7 @@ pub fn select_queries<S: Alter>(
     ensures same_reference { transaction.new.conn.ghost_name ≡ transaction.old.conn.ghost_name }
     ensures survives { Survives (state S.Store transaction.old.conn.now) (state S.Store transaction.new.conn.now) (λ _. ⊥) }
     ensures inside { Inside (state S.Store transaction.old.conn.now) (state S.Store transaction.new.conn.now) result
-        (λ it. (t : Tables) → IsWhole (state S.Store transaction.old.conn.now).now t → (it ≡ t.queries) × IsWhole (state S.Store transaction.new.conn.now).now t) }
+        (λ it. HasTables all_tables (state S.Store transaction.old.conn.now).now → (IsShaped Table ((state S.Store transaction.old.conn.now).now.trees 1) → AreRead query_in ((state S.Store transaction.old.conn.now).now.trees 1) it) × ((state S.Store transaction.new.conn.now).now ≡ (state S.Store transaction.old.conn.now).now)) }
 {
     let rows = show(
         transaction,
@@ -293,7 +296,7 @@ pub fn select_cursors<S: Alter>(
     ensures same_reference { transaction.new.conn.ghost_name ≡ transaction.old.conn.ghost_name }
     ensures survives { Survives (state S.Store transaction.old.conn.now) (state S.Store transaction.new.conn.now) (λ _. ⊥) }
     ensures inside { Inside (state S.Store transaction.old.conn.now) (state S.Store transaction.new.conn.now) result
-        (λ it. (t : Tables) → IsWhole (state S.Store transaction.old.conn.now).now t → (it ≡ t.cursors) × IsWhole (state S.Store transaction.new.conn.now).now t) }
+        (λ it. HasTables all_tables (state S.Store transaction.old.conn.now).now → (IsShaped Table ((state S.Store transaction.old.conn.now).now.trees 3) → AreRead cursor_in ((state S.Store transaction.old.conn.now).now.trees 3) it) × ((state S.Store transaction.new.conn.now).now ≡ (state S.Store transaction.old.conn.now).now)) }
 {
     let rows = show(
         transaction,
@@ -307,7 +310,7 @@ pub fn select_next_record<S: Alter>(transaction: &mut Transaction<'_, S>) -> Res
     ensures same_reference { transaction.new.conn.ghost_name ≡ transaction.old.conn.ghost_name }
     ensures survives { Survives (state S.Store transaction.old.conn.now) (state S.Store transaction.new.conn.now) (λ _. ⊥) }
     ensures inside { Inside (state S.Store transaction.old.conn.now) (state S.Store transaction.new.conn.now) result
-        (λ it. (t : Tables) → IsWhole (state S.Store transaction.old.conn.now).now t → (it ≡ t.next_record) × IsWhole (state S.Store transaction.new.conn.now).now t) }
+        (λ it. HasTables all_tables (state S.Store transaction.old.conn.now).now → (IsShaped Table ((state S.Store transaction.old.conn.now).now.trees 4) → next_in (pos 1) ((state S.Store transaction.old.conn.now).now.trees 4) ≡ Some it) × ((state S.Store transaction.new.conn.now).now ≡ (state S.Store transaction.old.conn.now).now)) }
 {
     let rows = show(
         transaction,
@@ -321,7 +324,7 @@ pub fn select_next_cursor<S: Alter>(transaction: &mut Transaction<'_, S>) -> Res
     ensures same_reference { transaction.new.conn.ghost_name ≡ transaction.old.conn.ghost_name }
     ensures survives { Survives (state S.Store transaction.old.conn.now) (state S.Store transaction.new.conn.now) (λ _. ⊥) }
     ensures inside { Inside (state S.Store transaction.old.conn.now) (state S.Store transaction.new.conn.now) result
-        (λ it. (t : Tables) → IsWhole (state S.Store transaction.old.conn.now).now t → (it ≡ t.next_cursor) × IsWhole (state S.Store transaction.new.conn.now).now t) }
+        (λ it. HasTables all_tables (state S.Store transaction.old.conn.now).now → (IsShaped Table ((state S.Store transaction.old.conn.now).now.trees 4) → next_in (pos 2) ((state S.Store transaction.old.conn.now).now.trees 4) ≡ Some it) × ((state S.Store transaction.new.conn.now).now ≡ (state S.Store transaction.old.conn.now).now)) }
 {
     let rows = show(
         transaction,

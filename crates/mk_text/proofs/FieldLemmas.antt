@@ -1,5 +1,5 @@
 -- The computed number of a field is the one that its columns hold.
-use Rattle.std.proofs.Common.{◌≡◌, ℕ, ◌+◌, ◌-◌, ◌<◌, ◌≤◌, ◌⊎◌, inl, inr, Bool, true, false, cond, leb, eqb, ◌&&◌, List, [], ◌∷◌, ◌++◌, length, get_or, Option, Some, None, refl, sym, ap, subst, ◌∙◌, arith}
+use Rattle.std.proofs.Common.{◌≡◌, ℕ, ◌+◌, ◌-◌, ◌<◌, ◌≤◌, ◌⊎◌, inl, inr, Bool, true, false, cond, leb, eqb, ◌&&◌, List, [], ◌∷◌, ◌++◌, length, get_or, take, ◌*◌, Option, Some, None, refl, sym, ap, subst, ◌∙◌, arith}
 use Rattle.std.specs.Prelude.{ℤ, pos, neg_ℤ}
 use Rattle.std.specs.Option.{option_map}
 use Rattle.std.specs.List.{list_all}
@@ -12,7 +12,7 @@ use Rattle.std.proofs.lemmas.List.{get_or-append_right, get_or_at, length-append
 use Rattle.mk_text.specs.Lines.{EndsWith}
 use Rattle.mk_text.specs.Columns.{columns, is_space, are_blank, trimmed}
 use Rattle.mk_text.specs.Fields.{Sign, NoSign, Plus, Minus, sign_text, signed, IsField, digits_number, signed_in, field_in, field_of, FieldsAreRead}
-use Rattle.mk_text.proofs.DigitLemmas.{digit_at}
+use Rattle.mk_text.proofs.DigitLemmas.{digit_at, is_digit_range, value_more}
 use Rattle.mk_text.proofs.TrimLemmas.{trimmed_is_between, trimmed_between, trimmed_blank}
 
 -- ---- what the computation finds
@@ -212,3 +212,33 @@ field_end cells z (inr h) end =
     let last = (last_is core 13 (subst P is end)).1 in
     let digit = digit_at h.digits (length h.digits - 1) h.are_digits (omega (arith, h.some_digits)) in
     absurd (omega (arith, digit.0, last_digit h.sign h.digits h.some_digits, last))
+
+-- ---- small numbers after blanks
+
+-- the value of one digit, and of two
+one_digit : (d : ℕ) → is_ascii_digit d ≡ true → digits_value 10 (d ∷ []) + 48 ≡ d
+one_digit d is = omega (arith, value_more (d ∷ []) 0 0 (rw is refl) (omega arith) refl, is_digit_range d is)
+
+two_digits : (d e : ℕ) → is_ascii_digit d ≡ true → is_ascii_digit e ≡ true → digits_value 10 (d ∷ e ∷ []) + 528 ≡ 10 * d + e
+two_digits d e first second =
+    let all : list_all is_ascii_digit (d ∷ e ∷ []) ≡ true = rw (first, second) refl in
+    let front : digits_value 10 (d ∷ []) ≡ digits_value 10 (take 1 (d ∷ e ∷ [])) = refl in
+    omega (arith, value_more (d ∷ e ∷ []) 1 (digits_value 10 (d ∷ [])) all (omega arith) front, one_digit d first, is_digit_range d first, is_digit_range e second)
+
+pub small_one : (d n : ℕ) → is_ascii_digit d ≡ true → n + 48 ≡ d → field_in (32 ∷ 32 ∷ d ∷ []) ≡ Some (pos n)
+small_one d n is value =
+    number_given (32 ∷ 32 ∷ []) [] NoSign (d ∷ []) refl refl (omega arith) (omega arith) (rw is refl)
+    ∙ ap (λ k. Some (pos k)) (omega (arith, one_digit d is, value))
+
+pub small_two : (d e m n : ℕ) → is_ascii_digit d ≡ true → is_ascii_digit e ≡ true → m + 48 ≡ d → n + 48 ≡ e → field_in (32 ∷ d ∷ e ∷ []) ≡ Some (pos (10 * m + n))
+small_two d e m n first second tens ones =
+    number_given (32 ∷ []) [] NoSign (d ∷ e ∷ []) refl refl (omega arith) (omega arith) (rw (first, second) refl)
+    ∙ ap (λ k. Some (pos k)) (omega (arith, two_digits d e first second, tens, ones))
+
+-- three columns by their bytes
+pub three_cells : (cells : List ℕ) → length cells ≡ 3 → cells ≡ get_or cells 0 0 ∷ get_or cells 1 0 ∷ get_or cells 2 0 ∷ []
+three_cells [] size = absurd (omega (arith, size))
+three_cells (a ∷ []) size = absurd (omega (arith, size))
+three_cells (a ∷ b ∷ []) size = absurd (omega (arith, size))
+three_cells (a ∷ b ∷ c ∷ []) size = refl
+three_cells (a ∷ b ∷ c ∷ d ∷ cells) size = absurd (omega (arith, size))

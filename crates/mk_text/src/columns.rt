@@ -35,7 +35,8 @@ pub fn trimmed_column(line: &[u8], from: usize, to: usize) -> &[u8]
     without_outer_blanks(column(line, from, to))
 }
 
-fn without_outer_blanks(cells: &[u8]) -> &[u8]
+/// The cells without their outer blanks.
+pub fn without_outer_blanks(cells: &[u8]) -> &[u8]
     ensures { result.now ≡ trimmed cells.now }
 {
     let mut start = 0;

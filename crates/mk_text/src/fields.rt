@@ -1,12 +1,12 @@
 // Numeric fields.
-ghost use Rattle.std.specs.Prelude.{◌≡◌, ◌≤◌, ◌<◌, ◌^◌, ℤ, neg_ℤ, pos, IfSome, IfNone};
+ghost use Rattle.std.specs.Prelude.{◌≡◌, ◌≤◌, ◌<◌, ◌+◌, ◌*◌, ◌^◌, ℤ, neg_ℤ, pos, true, [], ◌∷◌, IfSome, IfNone};
 ghost use Rattle.std.specs.Option.{option_map};
 ghost use Rattle.std.specs.List.{list_all};
 ghost use Rattle.std.specs.Char.{is_ascii_digit};
 ghost use Rattle.mk_text.specs.Columns.{columns};
-ghost use Rattle.mk_text.specs.Fields.{IsField, field_of, signed_in, digits_number};
+ghost use Rattle.mk_text.specs.Fields.{IsField, field_in, field_of, signed_in, digits_number};
 
-use crate::columns::trimmed_column;
+use crate::columns::{column, without_outer_blanks};
 
 /// The number of the columns `from` to `to`, or None where they are no numeric field.
 #[tactic(auto, unfolding(crate::specs::Fields::field_of))]
@@ -17,7 +17,51 @@ pub fn field(line: &[u8], from: usize, to: usize) -> Option<i32>
     ensures none { IfNone result ((n : ℤ) → IsField (columns line.now from to) n → ⊥) }
     ensures value { result ≡ field_of line.now from to }
 {
-    signed(trimmed_column(line, from, to))
+    number_in(column(line, from, to))
+}
+
+// The number of some columns.
+fn number_in(cells: &[u8]) -> Option<i32>
+    ensures { result ≡ field_in cells.now }
+{
+    match small_number(cells) {
+        Some(number) => Some(number as i32),
+        None => signed(without_outer_blanks(cells)),
+    }
+}
+
+// The number of three columns that are one or two digits after blanks, as most fields of a table are,
+// and None of any others.
+fn small_number(cells: &[u8]) -> Option<u32>
+    ensures { IfSome result (λ n. (field_in cells.now ≡ Some (pos n)) × (n < 100)) }
+{
+    match cells {
+        [first, second, last] => number_of_three(*first, *second, *last),
+        _ => None,
+    }
+}
+
+fn number_of_three(first: u8, second: u8, last: u8) -> Option<u32>
+    ensures { IfSome result (λ n. (field_in (first ∷ second ∷ last ∷ []) ≡ Some (pos n)) × (n < 100)) }
+{
+    if first != b' ' {
+        return None;
+    }
+    let ones = digit(last)?;
+    if second == b' ' {
+        return Some(ones);
+    }
+    Some(10 * digit(second)? + ones)
+}
+
+fn digit(byte: u8) -> Option<u32>
+    ensures { IfSome result (λ n. (is_ascii_digit byte ≡ true) × (n + 48 ≡ byte) × (n < 10)) }
+{
+    if byte.is_ascii_digit() {
+        Some(u32::from(byte - b'0'))
+    } else {
+        None
+    }
 }
 
 // The number of an optional sign and digits, and 0 of nothing.

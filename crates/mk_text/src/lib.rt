@@ -8,7 +8,7 @@
 //! which a demand fails in `specs/Items.antt`, and what is kept of lines in `specs/KeptLines.antt`;
 //! the laws are in `laws`. Lemmas for the crates above stand in `proofs/ForCallers.antt`.
 //!
-//! Which columns hold what isn't known here: see `mk_ctab`.
+//! Which columns hold what isn't known here: see `mk_tables`.
 #![tactic(auto)]
 
 mod columns;

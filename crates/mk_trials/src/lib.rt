@@ -6,7 +6,7 @@
 //! and checks/codes. A drawn query is read and compiled as one of a file (`drawn_queries`).
 //!
 //! The tests are those of mk_fixtures, mk_counts, mk_walk, mk_match, mk_logic, mk_choice, mk_expand,
-//! mk_open_codes, mk_open, mk_fronts, mk_expansions, mk_search, mk_rtable and mk_drill, since a crate
+//! mk_open_codes, mk_fronts, mk_expansions, mk_search, mk_rtable and mk_drill, since a crate
 //! with tests is proved twice.
 #![tactic(auto)]
 

@@ -2,7 +2,8 @@
 // codes.
 use mk_fixtures::query_of_link_and_site;
 use mk_model::{Graph, Kind, Memory};
-use mk_open::{alone_code, choices_of, front_code, open_graph, root_places, root_slots};
+use mk_expand::open_graph;
+use mk_open_codes::{alone_code, choices_of, front_code, root_places, root_slots};
 use std::alloc::Global;
 use std::test::Fail;
 

@@ -15,8 +15,8 @@ use Rattle.mk_form.proofs.Fronts.{front_is_live}
 use Rattle.mk_text.specs.Columns.{columns}
 use Rattle.mk_text.specs.Fields.{field_of, digits_number}
 use Rattle.mk_text.specs.Lines.{words_of}
-use Rattle.mk_ctab.specs.declared.raw.RawTable.{RawTable}
-use Rattle.mk_ctab.specs.TableLines.{Line, is_v3000}
+use Rattle.mk_tables.specs.declared.raw.RawTable.{RawTable}
+use Rattle.mk_tables.specs.TableLines.{Line, is_v3000}
 use Rattle.mk_v3000.specs.declared.word_lines.PartCounts.{PartCounts}
 use Rattle.mk_v3000.specs.declared.word_lines.AtomLine.{AtomLine}
 use Rattle.mk_v3000.specs.declared.word_lines.BondLine.{BondLine}

@@ -12,8 +12,8 @@ use Rattle.mk_text.specs.Columns.{columns, trimmed}
 use Rattle.mk_text.specs.KeptLines.{without_crs}
 use Rattle.mk_text.specs.Lines.{EndsWith, words_of}
 use Rattle.mk_text.proofs.ForCallers.{both, columns_left, crs_behind, ends_not}
-use Rattle.mk_ctab.specs.declared.raw.RawTable.{RawTable}
-use Rattle.mk_ctab.specs.TableLines.{Line, word_of, is_v3000}
+use Rattle.mk_tables.specs.declared.raw.RawTable.{RawTable}
+use Rattle.mk_tables.specs.TableLines.{Line, word_of, is_v3000}
 use Rattle.mk_v3000.specs.KeptV3000.{KeptLinesAreTheTable}
 use Rattle.mk_v3000.specs.LogicalLines.{Word, is_logical, is_blank_or_cr, without_last, text_behind, ends_with_dash, piece_of, goes_on, closes, joined_text, words_in, IsLogicalLine}
 use Rattle.mk_v3000.specs.V3000Table.{IsV3000Table, is_end_line}

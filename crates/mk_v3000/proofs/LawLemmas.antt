@@ -3,11 +3,11 @@ use Rattle.std.proofs.Common.{ℕ, Result, Ok, Err, List}
 use Rattle.mk_form.specs.Exact.{Never}
 use Rattle.mk_form.specs.Fronts.{IsNamedFrom}
 use Rattle.mk_form.proofs.Stops.{one_part_from, bad_from_is_no_part, one_bad_line_from}
-use Rattle.mk_ctab.specs.declared.fault.TableFault.{TableFault}
-use Rattle.mk_ctab.specs.declared.fault.TableFault.TheVariants.{Bad, V3000, Memory}
-use Rattle.mk_ctab.specs.declared.raw.RawTable.{RawTable}
-use Rattle.mk_ctab.specs.TableFaults.{IfV3000}
-use Rattle.mk_ctab.specs.TableLines.{Line, is_v3000}
+use Rattle.mk_tables.specs.declared.fault.TableFault.{TableFault}
+use Rattle.mk_tables.specs.declared.fault.TableFault.TheVariants.{Bad, V3000, Memory}
+use Rattle.mk_tables.specs.declared.raw.RawTable.{RawTable}
+use Rattle.mk_tables.specs.TableFaults.{IfV3000}
+use Rattle.mk_tables.specs.TableLines.{Line, is_v3000}
 use Rattle.mk_v3000.specs.V3000Form.{OneTable, BadWhereNoTable, OneBadLine, v3000_form}
 use Rattle.mk_v3000.proofs.LiveLemmas.{exact-v3000}
 

@@ -17,8 +17,8 @@ use Rattle.mk_form.proofs.Lines.{passes}
 use Rattle.mk_form.proofs.ToEnd.{each-shorter}
 use Rattle.mk_text.specs.Columns.{columns}
 use Rattle.mk_text.proofs.ForCallers.{both}
-use Rattle.mk_ctab.specs.declared.raw.RawTable.{RawTable}
-use Rattle.mk_ctab.specs.TableLines.{Line, is_v3000}
+use Rattle.mk_tables.specs.declared.raw.RawTable.{RawTable}
+use Rattle.mk_tables.specs.TableLines.{Line, is_v3000}
 use Rattle.mk_v3000.specs.declared.walk.Walk.{Walk}
 use Rattle.mk_v3000.specs.LogicalLines.{Word, is_logical, text_behind, ends_with_dash, goes_on, closes, words_in, IsLogicalLine}
 use Rattle.mk_v3000.specs.V3000Form.{v3000_form}

@@ -9,12 +9,12 @@ use Rattle.mk_form.specs.Sequence.{sequence}
 use Rattle.mk_form.specs.ToEnd.{EachIs}
 use Rattle.mk_form.proofs.Joined.{exact-joined}
 use Rattle.mk_text.specs.Lines.{words_of}
-use Rattle.mk_ctab.specs.declared.fault.TableFault.{TableFault}
-use Rattle.mk_ctab.specs.declared.fault.TableFault.TheVariants.{Bad, V3000, Memory}
-use Rattle.mk_ctab.specs.declared.raw.RawTable.{RawTable}
-use Rattle.mk_ctab.specs.TableLines.{Line, is_v3000}
-use Rattle.mk_ctab.specs.TableReading.{Fails}
-use Rattle.mk_ctab.proofs.ForCallers.{fails_first, block_read}
+use Rattle.mk_tables.specs.declared.fault.TableFault.{TableFault}
+use Rattle.mk_tables.specs.declared.fault.TableFault.TheVariants.{Bad, V3000, Memory}
+use Rattle.mk_tables.specs.declared.raw.RawTable.{RawTable}
+use Rattle.mk_tables.specs.TableLines.{Line, is_v3000}
+use Rattle.mk_tables.specs.TableReading.{Fails}
+use Rattle.mk_tables.proofs.ForCallers.{fails_first, block_read}
 use Rattle.mk_v3000.specs.declared.walk.Walk.{Walk}
 use Rattle.mk_v3000.specs.LogicalLines.{is_logical, text_behind, ends_with_dash, piece_of, goes_on, closes, joined_text, words_in}
 use Rattle.mk_v3000.specs.Walk.{first_walk, step, is_done}

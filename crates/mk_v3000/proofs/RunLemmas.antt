@@ -10,10 +10,10 @@ use Rattle.mk_form.specs.ToEnd.{EachIs}
 use Rattle.mk_text.specs.Options.{◌>>=◌, when}
 use Rattle.mk_text.proofs.ForCallers.{both, both_read, test_passed}
 use Rattle.mk_props.specs.declared.property.Property.{Property}
-use Rattle.mk_ctab.specs.declared.raw.RawAtom.{RawAtom}
-use Rattle.mk_ctab.specs.declared.raw.RawBond.{RawBond}
-use Rattle.mk_ctab.specs.declared.raw.RawTable.{RawTable}
-use Rattle.mk_ctab.specs.TableLines.{Line}
+use Rattle.mk_tables.specs.declared.raw.RawAtom.{RawAtom}
+use Rattle.mk_tables.specs.declared.raw.RawBond.{RawBond}
+use Rattle.mk_tables.specs.declared.raw.RawTable.{RawTable}
+use Rattle.mk_tables.specs.TableLines.{Line}
 use Rattle.mk_v3000.specs.declared.word_lines.PartCounts.{PartCounts}
 use Rattle.mk_v3000.specs.declared.word_lines.AtomLine.{AtomLine}
 use Rattle.mk_v3000.specs.declared.word_lines.BondLine.{BondLine}

@@ -5,8 +5,8 @@ use Rattle.mk_form.specs.ToEnd.{EachIs}
 use Rattle.mk_form.proofs.Lines.{passes, does_pass}
 use Rattle.mk_text.specs.Options.{◌>>=◌, when}
 use Rattle.mk_text.proofs.ForCallers.{both_read, test_passed}
-use Rattle.mk_ctab.specs.declared.raw.RawTable.{RawTable}
-use Rattle.mk_ctab.specs.TableLines.{Line, is_v3000}
+use Rattle.mk_tables.specs.declared.raw.RawTable.{RawTable}
+use Rattle.mk_tables.specs.TableLines.{Line, is_v3000}
 use Rattle.mk_v3000.specs.declared.word_lines.PartCounts.{PartCounts}
 use Rattle.mk_v3000.specs.declared.word_lines.AtomLine.{AtomLine}
 use Rattle.mk_v3000.specs.declared.word_lines.BondLine.{BondLine}

@@ -15,8 +15,8 @@ use Rattle.mk_form.proofs.Lines.{exact-give, exact-line_where}
 use Rattle.mk_form.proofs.Readings.{same_behind}
 use Rattle.mk_form.proofs.Seen.{exact-seen_as}
 use Rattle.mk_form.proofs.Sequence.{exact-sequence}
-use Rattle.mk_ctab.specs.declared.raw.RawTable.{RawTable}
-use Rattle.mk_ctab.specs.TableLines.{Line, is_v3000}
+use Rattle.mk_tables.specs.declared.raw.RawTable.{RawTable}
+use Rattle.mk_tables.specs.TableLines.{Line, is_v3000}
 use Rattle.mk_v3000.specs.declared.walk.Walk.{Walk}
 use Rattle.mk_v3000.specs.LogicalLines.{goes_on, closes, words_in}
 use Rattle.mk_v3000.specs.V3000Table.{is_end_line}

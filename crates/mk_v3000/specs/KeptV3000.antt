@@ -2,8 +2,8 @@
 --     KeptLinesAreTheTable     the law
 use Rattle.std.specs.Prelude.{List, map}
 use Rattle.mk_text.specs.KeptLines.{without_crs}
-use Rattle.mk_ctab.specs.declared.raw.RawTable.{RawTable}
-use Rattle.mk_ctab.specs.TableLines.{Line}
+use Rattle.mk_tables.specs.declared.raw.RawTable.{RawTable}
+use Rattle.mk_tables.specs.TableLines.{Line}
 use Rattle.mk_v3000.specs.V3000Table.{IsV3000Table}
 
 -- the lines of a V3000 table are, without the CR bytes at their ends, a V3000 table with the same

@@ -8,7 +8,7 @@ use Rattle.std.specs.Prelude.{◌≡◌, ℕ, ◌-◌, ◌==◌, ◌&&◌, ◌||
 use Rattle.std.specs.List.{starts_with, suffix_len, flat_map}
 use Rattle.mk_form.specs.Joined.{Joined}
 use Rattle.mk_text.specs.Lines.{words_of}
-use Rattle.mk_ctab.specs.TableLines.{Line}
+use Rattle.mk_tables.specs.TableLines.{Line}
 
 -- a word is its bytes, of which none is a blank
 abbrev pub Word : Type 0

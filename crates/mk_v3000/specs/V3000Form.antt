@@ -7,8 +7,8 @@
 use Rattle.std.specs.Prelude.{◌≡◌, ◌↔◌, ℕ, ◌≤◌, List, length}
 use Rattle.mk_form.specs.Exact.{Part, Exact, Anything, Never}
 use Rattle.mk_form.specs.Fronts.{IsPartFrom, IsBadLineFromWhere}
-use Rattle.mk_ctab.specs.declared.raw.RawTable.{RawTable}
-use Rattle.mk_ctab.specs.TableLines.{Line, is_v3000}
+use Rattle.mk_tables.specs.declared.raw.RawTable.{RawTable}
+use Rattle.mk_tables.specs.TableLines.{Line, is_v3000}
 use Rattle.mk_v3000.specs.V3000Table.{IsV3000Table, IsV3000Front}
 use Rattle.mk_v3000.specs.Walking.{v3000_at}
 

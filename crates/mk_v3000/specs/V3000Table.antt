@@ -6,8 +6,8 @@ use Rattle.std.specs.List.{starts_with}
 use Rattle.mk_form.specs.Fronts.{IsFront}
 use Rattle.mk_form.specs.Rows.{Series}
 use Rattle.mk_form.specs.ToEnd.{EachIs}
-use Rattle.mk_ctab.specs.declared.raw.RawTable.{RawTable}
-use Rattle.mk_ctab.specs.TableLines.{Line, is_v3000}
+use Rattle.mk_tables.specs.declared.raw.RawTable.{RawTable}
+use Rattle.mk_tables.specs.TableLines.{Line, is_v3000}
 use Rattle.mk_v3000.specs.declared.word_lines.AtomLine.{AtomLine}
 use Rattle.mk_v3000.specs.declared.word_lines.BondLine.{BondLine}
 use Rattle.mk_v3000.specs.LogicalLines.{Word, is_logical, goes_on, IsLogicalLine}

@@ -8,9 +8,9 @@ use Rattle.mk_props.specs.declared.property.Pair.{Pair}
 use Rattle.mk_props.specs.declared.property.Property.{Property}
 use Rattle.mk_props.specs.declared.property.Property.TheVariants as kinds
 use Rattle.mk_text.specs.Options.{◌>>=◌, when}
-use Rattle.mk_ctab.specs.declared.raw.RawAtom.{RawAtom}
-use Rattle.mk_ctab.specs.declared.raw.RawBond.{RawBond}
-use Rattle.mk_ctab.specs.declared.raw.RawTable.{RawTable}
+use Rattle.mk_tables.specs.declared.raw.RawAtom.{RawAtom}
+use Rattle.mk_tables.specs.declared.raw.RawBond.{RawBond}
+use Rattle.mk_tables.specs.declared.raw.RawTable.{RawTable}
 use Rattle.mk_v3000.specs.declared.word_lines.PartCounts.{PartCounts}
 use Rattle.mk_v3000.specs.declared.word_lines.AtomLine.{AtomLine}
 use Rattle.mk_v3000.specs.declared.word_lines.BondLine.{BondLine}

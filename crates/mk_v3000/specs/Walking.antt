@@ -14,8 +14,8 @@ use Rattle.mk_form.specs.Reading.{Reading}
 use Rattle.mk_form.specs.Seen.{seen_as}
 use Rattle.mk_form.specs.Sequence.{sequence}
 use Rattle.mk_text.specs.Lines.{words_of}
-use Rattle.mk_ctab.specs.declared.raw.RawTable.{RawTable}
-use Rattle.mk_ctab.specs.TableLines.{Line, is_v3000}
+use Rattle.mk_tables.specs.declared.raw.RawTable.{RawTable}
+use Rattle.mk_tables.specs.TableLines.{Line, is_v3000}
 use Rattle.mk_v3000.specs.declared.walk.Walk.{Walk}
 use Rattle.mk_v3000.specs.LogicalLines.{goes_on, closes, joined_text, words_in}
 use Rattle.mk_v3000.specs.V3000Table.{is_end_line}

@@ -20,7 +20,7 @@ mod walk;
 mod word_lines;
 
 pub use laws::{kept_lines_are_the_v3000_table, v3000_is_exact};
-pub use mk_ctab::{RawTable, TableFault};
+pub use mk_tables::{RawTable, TableFault};
 pub use mk_text::Memory;
 pub use reading::read_v3000;
 pub use v3000::v3000_from;

@@ -3,11 +3,11 @@ ghost use Rattle.std.specs.Prelude.{◌≡◌, ◌<◌, ◌≤◌, ◌+◌, drop
 ghost use Rattle.std.specs.List.{suffix_len};
 ghost use Rattle.mk_text.specs.LineStart.{IsLineStart};
 ghost use Rattle.mk_text.specs.Lines.{lines_of};
-ghost use Rattle.mk_ctab.specs.TableWalk.{AnswersAt, TakesTo};
+ghost use Rattle.mk_tables.specs.TableWalk.{AnswersAt, TakesTo};
 ghost use Rattle.mk_v3000.specs.LogicalLines.{is_logical, is_blank_or_cr, without_last, text_behind, ends_with_dash, piece_of};
 ghost use Rattle.mk_v3000.specs.Walking.{texts};
 
-use mk_ctab::TableFault;
+use mk_tables::TableFault;
 use mk_text::{Bytes, LineStart, Listed, line_from};
 use std::alloc::Global;
 

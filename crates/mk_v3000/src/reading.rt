@@ -3,14 +3,14 @@ ghost use Rattle.std.specs.Prelude.{◌≡◌, ◌≤◌, length, drop, IfOk};
 ghost use Rattle.mk_text.specs.Lines.{lines_of};
 ghost use Rattle.mk_text.specs.LineStart.{BeginLines};
 ghost use Rattle.mk_text.specs.Spans.{parts};
-ghost use Rattle.mk_ctab.specs.TableFacts.{IsRawTable};
-ghost use Rattle.mk_ctab.specs.TableFaults.{IfBad, IfV3000};
-ghost use Rattle.mk_ctab.specs.TableReading.{Answers};
+ghost use Rattle.mk_tables.specs.TableFacts.{IsRawTable};
+ghost use Rattle.mk_tables.specs.TableFaults.{IfBad, IfV3000};
+ghost use Rattle.mk_tables.specs.TableReading.{Answers};
 ghost use Rattle.mk_v3000.specs.V3000Form.{IsV3000TableFrom, IsBadV3000From};
 ghost use Rattle.mk_v3000.specs.Walking.{v3000_at};
 
 use crate::v3000::v3000_from;
-use mk_ctab::{RawTable, TableFault};
+use mk_tables::{RawTable, TableFault};
 use mk_text::{Span, start_of_line};
 use std::alloc::Global;
 

@@ -3,16 +3,16 @@ ghost use Rattle.std.specs.Prelude.{◌≡◌, ◌<◌, ◌≤◌, drop, length,
 ghost use Rattle.mk_form.specs.Lines.{line_where};
 ghost use Rattle.mk_text.specs.LineStart.{IsLineStart};
 ghost use Rattle.mk_text.specs.Lines.{lines_of};
-ghost use Rattle.mk_ctab.specs.TableLines.{is_v3000};
-ghost use Rattle.mk_ctab.specs.TableWalk.{AnswersAt, AnswersPast};
+ghost use Rattle.mk_tables.specs.TableLines.{is_v3000};
+ghost use Rattle.mk_tables.specs.TableWalk.{AnswersAt, AnswersPast};
 ghost use Rattle.mk_v3000.specs.V3000Table.{is_end_line};
 ghost use Rattle.mk_v3000.specs.Walk.{first_walk, IsFew};
 ghost use Rattle.mk_v3000.specs.Walking.{one_step, walk_part, end_part, v3000_at};
 
 use crate::logical_lines::{logical_line_from, one_line_from};
 use crate::walk::{Walk, first_walk, is_done, take};
-use mk_ctab::{RawTable, TableFault};
 use mk_props::LineFault;
+use mk_tables::{RawTable, TableFault};
 use mk_text::{LineStart, line_from, trimmed_column};
 use std::alloc::Global;
 

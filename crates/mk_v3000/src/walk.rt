@@ -12,8 +12,8 @@ use crate::indexes::Indexes;
 use crate::word_lines::{
     AtomLine, BondLine, PartCounts, is_pair, read_atom, read_bond, read_counts,
 };
-use mk_ctab::{Properties, RawAtom, RawBond, RawTable};
 use mk_props::{LineFault, Pair, Pairs, Property};
+use mk_tables::{Properties, RawAtom, RawBond, RawTable};
 use mk_text::{Listed, Memory};
 use std::alloc::Global;
 

@@ -12,8 +12,8 @@ use Rattle.mk_model.specs.Molecules.{Molecule}
 use Rattle.mk_model.specs.Queries.{QueryView}
 use Rattle.mk_model.specs.QueryFits.{QueryFits}
 use Rattle.mk_marks.proofs.ForCallers.{one_list_of_mol_bonds}
-use Rattle.mk_ctab.specs.declared.raw.RawTable.{RawTable}
-use Rattle.mk_ctab.specs.KeptTables.{KeepsItsText}
+use Rattle.mk_tables.specs.declared.raw.RawTable.{RawTable}
+use Rattle.mk_tables.specs.KeptTables.{KeepsItsText}
 use Rattle.mk_sdfile.specs.declared.raw_record.RawRecord.{RawRecord}
 use Rattle.mk_sdfile.specs.Sdfile.{IsSdfile}
 use Rattle.mk_sdfile.proofs.SdfileTextLemmas.{text_is_its_record}

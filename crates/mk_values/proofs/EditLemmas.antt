@@ -13,7 +13,7 @@ use Rattle.mk_outside.specs.declared.tables.Change.{Change}
 use Rattle.mk_outside.specs.declared.tables.Change.TheVariants.{DropRecord, PutRecord}
 use Rattle.mk_outside.specs.declared.tables.RecordRow.{RecordRow}
 use Rattle.mk_outside.specs.Tables.{after_batch}
-use Rattle.mk_ctab.specs.TableFacts.{IsRawTable}
+use Rattle.mk_tables.specs.TableFacts.{IsRawTable}
 use Rattle.mk_sdfile.specs.declared.raw_record.RawRecord.{RawRecord}
 use Rattle.mk_sdfile.specs.Sdfile.{IsSdfile}
 use Rattle.mk_sdfile.proofs.SdfileLemmas.{one}

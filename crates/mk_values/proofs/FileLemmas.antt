@@ -10,8 +10,8 @@ use Rattle.std.proofs.lemmas.List.Elements.{All-head}
 use Rattle.mk_text.specs.Lines.{lines_of}
 use Rattle.mk_form.proofs.Stops.{bad_line_is_stop, stop_is_named, text_or_bad}
 use Rattle.mk_model.specs.Molecules.{Molecule}
-use Rattle.mk_ctab.specs.TableFacts.{IsRawTable}
-use Rattle.mk_ctab.specs.TableLines.{Line}
+use Rattle.mk_tables.specs.TableFacts.{IsRawTable}
+use Rattle.mk_tables.specs.TableLines.{Line}
 use Rattle.mk_sdfile.specs.declared.raw_record.RawRecord.{RawRecord}
 use Rattle.mk_sdfile.specs.Sdfile.{IsBadSdfileLine, IsSdfile, IsNamedV3000}
 use Rattle.mk_sdfile.proofs.SdfileFactLemmas.{keeps_by}

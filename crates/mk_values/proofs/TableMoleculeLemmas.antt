@@ -25,9 +25,9 @@ use Rattle.mk_model.specs.Edges.{IsBetween, IsSimple, degree}
 use Rattle.mk_model.specs.Molecules.{HasMarks, IsElement, IsMolecule, Molecule, edges}
 use Rattle.mk_marks.proofs.ForCallers.{mol_bonds_have_marks}
 use Rattle.mk_valence.specs.Hydrogens.{added_hydrogens, bond_orders_sum, marked_valence, radical_share, up_to_valence}
-use Rattle.mk_ctab.specs.declared.raw.RawAtom.{RawAtom}
-use Rattle.mk_ctab.specs.declared.raw.RawBond.{RawBond}
-use Rattle.mk_ctab.specs.declared.raw.RawTable.{RawTable}
+use Rattle.mk_tables.specs.declared.raw.RawAtom.{RawAtom}
+use Rattle.mk_tables.specs.declared.raw.RawBond.{RawBond}
+use Rattle.mk_tables.specs.declared.raw.RawTable.{RawTable}
 use Rattle.mk_demands.specs.Bonds.{HasTwoEnds, IsEdgeFront, IsNewBond, JoinSame, raw_edge, edges_of}
 use Rattle.mk_demands.proofs.BondLemmas.{is_graph}
 use Rattle.mk_demands.proofs.EdgeLemmas.{IsBetween-edge_of}

@@ -9,7 +9,7 @@
 --     DrillsHaveLines                  each start and each count have a line of the drill
 use Rattle.std.specs.Prelude.{◌≤◌, ◌⊎◌, ℕ, List, length}
 use Rattle.mk_model.specs.Molecules.{IsMolecule, Molecule}
-use Rattle.mk_ctab.specs.declared.raw.RawTable.{RawTable}
+use Rattle.mk_tables.specs.declared.raw.RawTable.{RawTable}
 use Rattle.mk_mol.specs.Filled.{IsFilled}
 use Rattle.mk_mol.specs.FirstFault.{IsFirstMoleculeFault, MeetsAllChecks}
 use Rattle.mk_outside.specs.declared.tables.Change.{Change}

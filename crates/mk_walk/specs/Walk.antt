@@ -1,6 +1,5 @@
 -- What a walk through the lists of atoms keeps. This file serves the code alone.
 --     place_of images depth above        the list from which on the walk has still to look
---     SameFrom P here there              the same lists that have P remain from either place on
 --     IsWalk graph mol images levels depth      the first images may be those of a hit, and the
 --                                               levels say where they stand
 --     lists_from most n place            how many lists of n numbers aren't below the place

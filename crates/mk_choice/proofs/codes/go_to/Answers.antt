@@ -1,7 +1,13 @@
 use Rattle.std.proofs.Common.{refl}
-use Rattle.mk_choice.proofs.SeekLemmas.{ready_none}
+use Rattle.mk_choice.proofs.SeekLemmas.{ready_dead, ready_none}
 use Rattle.mk_choice.proofs.TurnLemmas.{ready_over, ready_place}
 use Rattle.mk_choice.proofs.codes.go_to.Goals as goal
+
+pub returns-then-is_dead-clause-ready : goal.returns-then-is_dead-clause-ready
+returns-then-is_dead-clause-ready c = λ kept room within is.
+    let none = c.requires.none in
+    let f = c.args.frames.now in
+    ready_dead c.args.query.now c.args.most.now f c.past-frames.result c.requires.frames c.args.place.now kept room within is none.0 none.2 (c.if-is_dead.ensures refl) c.past-frames.ensures
 
 pub returns-then-begins_all-clause-ready : goal.returns-then-begins_all-clause-ready
 returns-then-begins_all-clause-ready c = λ kept room within is.

@@ -26,6 +26,17 @@ returns-in-Ended-clause-comes g c =
     (subst (λ (s : Stop). IsListing c.args.library.now.records query [] c.args.limit c.args.budget c.args.saved.now.next_cursor l.keys s c.in_ok-listed.listed.place c.in_ok-listed.listed.text)
     c.in-Ended.is l.listing) refl
 
+pub returns-in-Ended-clause-begins : goal.returns-in-Ended-clause-begins
+returns-in-Ended-clause-begins g c = record {
+  query = c.in-Some.query.now;
+  named = rw c.as_bytes.ensures.value at c.in-Some.ensures.some;
+  stops = c.in_ok-listed.listed.stop;
+  next = c.in_ok-listed.listed.place;
+  begins = rw c.next_cursor-number.ensures at c.in_ok-listed.ensures.begins;
+  saved = λ on. absurd (on c.in-Ended.is);
+  unsaved = λ _ d other at is. cc;
+}
+
 pub returns-in_ok-pending-in-More-clause-comes : goal.returns-in_ok-pending-in-More-clause-comes
 returns-in_ok-pending-in-More-clause-comes g c =
     let query = c.in-Some.query.now in
@@ -47,6 +58,7 @@ returns-in_ok-pending-in-More-clause-begins g c =
       next = c.in_ok-listed.listed.place;
       begins = rw c.next_cursor-number.ensures at c.in_ok-listed.ensures.begins;
       saved = λ _. rw (c.in_ok-pending-in-More.ensures, c.next_cursor-number.ensures, name) refl;
+      unsaved = λ ended. absurd (goes_on c.in_ok-listed.listed.stop c.in-More.is ended);
     }
 
 pub returns-in_ok-pending-in-More-clause-fits : goal.returns-in_ok-pending-in-More-clause-fits

@@ -1,5 +1,5 @@
 use Rattle.std.proofs.Common.{ℕ, List, subst}
-use Rattle.mk_open_codes.specs.OpenGraphs.{IsOpenGraph}
+use Rattle.mk_expand.specs.OpenGraphs.{IsOpenGraph}
 use Rattle.mk_fronts.proofs.fronts.need_of_all.Goals as goal
 
 pub returns : goal.returns

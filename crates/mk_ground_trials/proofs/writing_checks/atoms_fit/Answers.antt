@@ -1,5 +1,5 @@
 use Rattle.std.proofs.Common.{refl}
-use Rattle.mk_ctab.specs.declared.raw.RawAtom.{RawAtom}
+use Rattle.mk_tables.specs.declared.raw.RawAtom.{RawAtom}
 use Rattle.mk_spelling.specs.TableSpelling.{AtomFits, IsSymbol}
 use Rattle.mk_spelling.proofs.GraphicLemmas.{all_taken, one_more}
 use Rattle.mk_ground_trials.proofs.writing_checks.atoms_fit.Goals as goal

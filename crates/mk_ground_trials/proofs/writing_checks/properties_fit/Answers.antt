@@ -1,5 +1,5 @@
 use Rattle.std.proofs.Common.{refl}
-use Rattle.mk_ctab.specs.Table.{IsKept}
+use Rattle.mk_tables.specs.Table.{IsKept}
 use Rattle.mk_spelling.specs.TableSpelling.{PropertyFits, SymbolsFit, SymbolsEnd, RangeFits}
 use Rattle.mk_spelling.proofs.GraphicLemmas.{one_more}
 use Rattle.mk_ground_trials.proofs.writing_checks.properties_fit.Goals as goal

@@ -1,5 +1,5 @@
 use Rattle.std.proofs.Common.{◌≡◌, ◌+◌, ◌∙◌, ◌<◌, ◌^◌, length, subst}
-use Rattle.mk_ctab.specs.TableFacts.{IsRawTable}
+use Rattle.mk_tables.specs.TableFacts.{IsRawTable}
 use Rattle.mk_library.specs.FirstRefusal.{IsFirstFailing}
 use Rattle.mk_library.proofs.StepsLemmas.{of_next, part-fails, part-more}
 use Rattle.mk_library.proofs.molecules.molecules_of.Goals as goal

@@ -1,5 +1,6 @@
 use Rattle.mk_model.proofs.NodesLemmas.{ahead_adds_up}
+use Rattle.mk_model.specs.Keys.{IsAmong}
 use Rattle.mk_model.proofs.code_laws.ahead_adds_up.Goals as goal
 
 pub returns : goal.returns
-returns c = ahead_adds_up
+returns c = λ molecules. ahead_adds_up (IsAmong molecules)

@@ -1,5 +1,5 @@
 use Rattle.std.proofs.Common.{◌≡◌, ◌∙◌, sym, arith, subst}
-use Rattle.mk_ctab.specs.declared.raw.RawAtom.{RawAtom}
+use Rattle.mk_tables.specs.declared.raw.RawAtom.{RawAtom}
 use Rattle.mk_mol.specs.Checks.{IsKnownAtom}
 use Rattle.mk_mol.specs.FirstFault.{known_atoms}
 use Rattle.mk_text.proofs.ForCallers.{all_of}

@@ -2,7 +2,7 @@ use Rattle.std.proofs.Common.{◌≡◌, ◌<◌, ap, length, get_or, refl, subs
 use Rattle.std.proofs.lemmas.List.Elements.{All-push}
 use Rattle.std.proofs.lemmas.Option.{slice_get_read}
 use Rattle.mk_elements.specs.Symbols.{NamesElement}
-use Rattle.mk_ctab.specs.declared.raw.RawAtom.{RawAtom}
+use Rattle.mk_tables.specs.declared.raw.RawAtom.{RawAtom}
 use Rattle.mk_demands.specs.Values.{HasKnownValues, NamesAtoms}
 use Rattle.mk_text.proofs.ForCallers.{all_of}
 use Rattle.mk_mol.specs.Checks.{IsKnownAtom, IsElementSymbol}

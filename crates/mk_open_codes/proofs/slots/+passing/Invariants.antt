@@ -1,6 +1,6 @@
 use Rattle.std.proofs.Common.{◌+◌, ◌-◌, ◌*◌, ◌≤◌, length, take}
 use Rattle.mk_model.specs.Queries.{slots_of}
-use Rattle.mk_open_codes.specs.Opening.{PassesBy}
+use Rattle.mk_open_codes.specs.Passing.{PassesBy}
 use Rattle.mk_open_codes.proofs.slots.+passing.Given as goal
 
 abbrev pub decreases-behind_template : goal.decreases-behind_template

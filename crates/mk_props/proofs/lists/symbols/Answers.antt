@@ -1,8 +1,7 @@
-use Rattle.std.proofs.Common.{◌≡◌, ℕ, List, Option, Some, sym, ap}
+use Rattle.std.proofs.Common.{◌≡◌, ℕ, List, Option, Some, sym, ap, ◌∙◌}
 use Rattle.mk_props.specs.Lists.{symbol_of}
 use Rattle.mk_text.specs.Options.{entries_of}
 use Rattle.mk_text.proofs.ForCallers.{entries_more}
-use Rattle.mk_props.proofs.SymbolBytesLemmas.{symbol_short}
 use Rattle.mk_props.proofs.lists.symbols.Goals as goal
 
 abbrev entry : List ℕ → ℕ → Option (List ℕ)
@@ -11,8 +10,5 @@ entry line i = Some (symbol_of line i)
 pub loop-i-preserved : goal.loop-i-preserved
 loop-i-preserved c =
     let each = entry c.args.line.now in
-    let is : each c.loop-i.i ≡ Some c.trimmed_column.result.now = ap Some (sym c.trimmed_column.ensures) in
-    rw c.in_ok-push.ensures.ok (entries_more each c.loop-i.symbols c.in-Some.count c.loop-i.i c.trimmed_column.result.now (entries_of each c.in-Some.count 0) c.loop-i-test.true is c.loop-i.invariant)
-
-pub push-requires : goal.push-requires
-push-requires c = record { short = rw c.trimmed_column.ensures (symbol_short c.args.line.now c.loop-i.i) }
+    let is : each c.loop-i.i ≡ Some c.of.result = ap Some (sym (c.of.ensures ∙ c.in_ok-from_slice.ensures.items ∙ c.trimmed_column-symbol.ensures)) in
+    rw c.in_ok-push.ensures.ok (entries_more each c.loop-i.symbols c.in-Some.count c.loop-i.i c.of.result (entries_of each c.in-Some.count 0) c.loop-i-test.true is c.loop-i.invariant)

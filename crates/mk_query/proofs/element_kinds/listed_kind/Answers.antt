@@ -1,7 +1,7 @@
 use Rattle.std.proofs.Common.{subst, sym}
 use Rattle.std.specs.Prelude.{All, IfOk, pos}
 use Rattle.mk_props.specs.declared.property.Property.{Property}
-use Rattle.mk_ctab.specs.declared.raw.RawList.{RawList}
+use Rattle.mk_tables.specs.declared.raw.RawList.{RawList}
 use Rattle.mk_demands.specs.Numbers.{IsWithin}
 use Rattle.mk_query.specs.KindMarks.{AreKnownAt, AreKnownIn, IsKindBy, IsKindIn}
 use Rattle.mk_query.specs.Drawn.{by_numbers}

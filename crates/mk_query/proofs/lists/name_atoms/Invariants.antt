@@ -1,5 +1,5 @@
 use Rattle.std.proofs.Common.{take, All}
-use Rattle.mk_ctab.specs.declared.raw.RawList.{RawList}
+use Rattle.mk_tables.specs.declared.raw.RawList.{RawList}
 use Rattle.mk_demands.specs.Numbers.{IsAtom}
 use Rattle.mk_query.proofs.lists.name_atoms.Given as goal
 

@@ -1,7 +1,7 @@
 use Rattle.std.proofs.Common.{rules, ◌≡◌, ◌<◌, ◌≤◌, ◌+◌, ◌∙◌, [], ◌∷◌, ◌++◌, List, ap, subst, sym, arith, length, take, set, true, false}
 use Rattle.std.proofs.lemmas.Bool.{eqb-false, eqb-true}
 use Rattle.std.proofs.lemmas.List.{length-replicate, length-set, take_all, take_more}
-use Rattle.mk_ctab.specs.declared.raw.RawTable.{RawTable}
+use Rattle.mk_tables.specs.declared.raw.RawTable.{RawTable}
 use Rattle.mk_rgfile.specs.declared.raw_query.RawGroup.{RawGroup}
 use Rattle.mk_query.specs.Marks.{AreServed}
 use Rattle.mk_query.proofs.LabelLemmas.{served-mark, served-none, served-skip}

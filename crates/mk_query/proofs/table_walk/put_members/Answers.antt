@@ -1,6 +1,6 @@
 use Rattle.std.proofs.Common.{◌++◌, ◌∷◌, [], List, subst, take, arith}
 use Rattle.std.proofs.lemmas.List.{take_all}
-use Rattle.mk_ctab.specs.declared.raw.RawTable.{RawTable}
+use Rattle.mk_tables.specs.declared.raw.RawTable.{RawTable}
 use Rattle.mk_query.specs.TableWalk.{IsWalked}
 use Rattle.mk_query.proofs.TableWalkLemmas.{next_among, take_split, take_next}
 use Rattle.mk_query.proofs.table_walk.put_members.Goals as goal

@@ -1,5 +1,5 @@
 use Rattle.mk_text.specs.Lines.{lines_of}
-use Rattle.mk_ctab.proofs.ForCallers.{text_by, bad_by, unnamed_by, v3000_by, named_by}
+use Rattle.mk_tables.proofs.ForCallers.{text_by, bad_by, unnamed_by, v3000_by, named_by}
 use Rattle.mk_rgfile.proofs.QueryFileLemmas.{exact-query_file}
 use Rattle.mk_rgfile.proofs.QueryFactLemmas.{keeps_by, fits_by}
 use Rattle.mk_rgfile.proofs.QueryReadingLemmas.{are_lines}

@@ -39,11 +39,6 @@ mark_aromatic-requires-clause-three c =
     let size : c.args.atoms ≡ length c.args.near.now = sym (ap length c.requires.rows ∙ length-rows_of c.args.atoms c.args.bonds.now) in
     omega (arith, size, c.in_ok-three.ensures.len, c.deref_mut-3.ensures.len, c.in_ok-three.three.ok)
 
-pub mark_aromatic-requires-clause-spots : goal.mark_aromatic-requires-clause-spots
-mark_aromatic-requires-clause-spots c =
-    let size : c.args.atoms ≡ length c.args.near.now = sym (ap length c.requires.rows ∙ length-rows_of c.args.atoms c.args.bonds.now) in
-    omega (arith, size, c.in_ok-spots.ensures.len, c.deref_mut-6.ensures.len, c.in_ok-spots.spots.ok)
-
 pub returns : goal.returns
 returns c =
     let are : AreWithoutBridges c.args.bonds.now c.args.rings.now c.deref.result.now =

@@ -1,19 +1,22 @@
 use Rattle.std.proofs.Common.{◌-◌, ℕ, List, arith, refl, subst, sym}
 use Rattle.mk_marks.specs.SixRings.{CanClose, set_of}
 use Rattle.mk_rings.proofs.ReachLemmas.{MaySkip-less, stamped_out}
-use Rattle.mk_rings.proofs.SearchLemmas.{none_closes, on_from_new, path_longer, path_rest}
+use Rattle.mk_rings.proofs.SearchLemmas.{none_closes, on_from, on_from_new, path_longer, path_rest}
 use Rattle.mk_rings.proofs.six_rings.+search.Goals as goal
-
-pub can_close-returns-then-is_stamped_out-clause-open : goal.can_close-returns-then-is_stamped_out-clause-open
-can_close-returns-then-is_stamped_out-clause-open t c = λ skip no can.
-    stamped_out c.args.bonds.now (set_of c.args.marks.now) c.args.start c.args.two.now c.args.three.now c.args.stamp
-    c.args.label c.args.left c.args.at _ skip (c.is_stamped_out.ensures c.if-is_stamped_out.true) can
 
 pub can_close-returns-clause-open : goal.can_close-returns-clause-open
 can_close-returns-clause-open t c = λ skip no can.
     none_closes c.args.bonds.now (set_of c.args.marks.now) c.args.start _ c.args.at c.args.label c.args.left
     c.numbers_of-numbers.result.now c.loop-i.i c.numbers_of-numbers.ensures c.loop-i-test.false
     (c.loop-i.invariant skip) can
+
+pub closes_over-returns-then-is_stamped_out-clause-open : goal.closes_over-returns-then-is_stamped_out-clause-open
+closes_over-returns-then-is_stamped_out-clause-open t c = λ skip no by.
+    let less = MaySkip-less c.args.bonds.now (set_of c.args.marks.now) c.args.start c.args.two.now c.args.three.now c.args.stamp c.args.label c.args.left c.if-left-eq0.false skip in
+    stamped_out c.args.bonds.now (set_of c.args.marks.now) c.args.start c.args.two.now c.args.three.now c.args.stamp
+    (3 - c.args.label) (c.args.left - 1) c.args.over.to _ less (c.is_stamped_out.ensures c.if-is_stamped_out.true)
+    (on_from c.args.bonds.now (set_of c.args.marks.now) c.args.start _ c.args.at c.args.label
+    c.args.over.bond c.args.over.to c.requires.joined c.args.left c.if-left-eq0.false by)
 
 pub closes_over-returns-clause-open : goal.closes_over-returns-clause-open
 closes_over-returns-clause-open t c = λ skip no by.

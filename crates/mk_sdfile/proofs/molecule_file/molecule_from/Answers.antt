@@ -1,6 +1,6 @@
 use Rattle.std.proofs.Common.{subst}
 use Rattle.mk_text.specs.Lines.{lines_of}
-use Rattle.mk_ctab.specs.TableWalk.{AnswersAt}
+use Rattle.mk_tables.specs.TableWalk.{AnswersAt}
 use Rattle.mk_sdfile.proofs.MoleculeFileLemmas.{molecule_takes, molecule_stops, v3000_same}
 use Rattle.mk_sdfile.proofs.molecule_file.molecule_from.Goals as goal
 

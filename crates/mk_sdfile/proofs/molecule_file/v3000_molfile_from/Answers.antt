@@ -2,7 +2,7 @@ use Rattle.std.proofs.Common.{refl}
 use Rattle.std.proofs.lemmas.Result.{err_from_is_err_and}
 use Rattle.mk_form.specs.Rows.{any_lines}
 use Rattle.mk_text.specs.Lines.{lines_of}
-use Rattle.mk_ctab.proofs.ForCallers.{block_read, block_fails}
+use Rattle.mk_tables.proofs.ForCallers.{block_read, block_fails}
 use Rattle.mk_v3000.specs.V3000Form.{v3000_form}
 use Rattle.mk_sdfile.proofs.molecule_file.v3000_molfile_from.Goals as goal
 

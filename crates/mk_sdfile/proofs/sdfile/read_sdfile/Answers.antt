@@ -1,5 +1,5 @@
 use Rattle.mk_text.specs.Lines.{lines_of}
-use Rattle.mk_ctab.proofs.ForCallers.{text_by, bad_by, unnamed_by, v3000_by, named_by}
+use Rattle.mk_tables.proofs.ForCallers.{text_by, bad_by, unnamed_by, v3000_by, named_by}
 use Rattle.mk_sdfile.proofs.SdfileFactLemmas.{keeps_by, fewer_by, never_named}
 use Rattle.mk_sdfile.proofs.SdfileLemmas.{exact-sdfile}
 use Rattle.mk_sdfile.proofs.sdfile.read_sdfile.Goals as goal

@@ -1,7 +1,7 @@
 use Rattle.std.proofs.Common.{[], List, drop, sym, ap, ◌∙◌}
 use Rattle.mk_form.specs.Reading.{Reading, Took}
 use Rattle.mk_text.specs.Lines.{lines_of}
-use Rattle.mk_ctab.specs.TableLines.{Line}
+use Rattle.mk_tables.specs.TableLines.{Line}
 use Rattle.mk_sdfile.specs.declared.raw_record.RawRecord.{RawRecord}
 use Rattle.mk_sdfile.specs.SdfileReading.{farther_fault}
 use Rattle.mk_sdfile.specs.SdfileSteps.{TakesBlock}

@@ -1,9 +1,9 @@
 use Rattle.std.proofs.Common.{◌++◌, List, codes, sym, ap}
 use Rattle.std.specs.List.{flat_map}
 use Rattle.mk_props.specs.declared.property.Property.{Property}
-use Rattle.mk_ctab.specs.declared.raw.RawAtom.{RawAtom}
-use Rattle.mk_ctab.specs.declared.raw.RawBond.{RawBond}
-use Rattle.mk_ctab.specs.declared.raw.RawList.{RawList}
+use Rattle.mk_tables.specs.declared.raw.RawAtom.{RawAtom}
+use Rattle.mk_tables.specs.declared.raw.RawBond.{RawBond}
+use Rattle.mk_tables.specs.declared.raw.RawList.{RawList}
 use Rattle.mk_text.specs.Lines.{ended}
 use Rattle.mk_spelling.specs.TableSpelling.{counts_line, atom_line, bond_line, numbers_line, property_line, table_spelling}
 use Rattle.mk_spelling.proofs.AppendLemmas.{as_text, as_last, table_last, spelling_parts}

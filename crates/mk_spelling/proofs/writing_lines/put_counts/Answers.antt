@@ -1,8 +1,8 @@
 use Rattle.std.proofs.Common.{◌++◌, List, codes, ap}
 use Rattle.mk_spelling.specs.TableSpelling.{count_text, counts_line}
-use Rattle.mk_ctab.specs.declared.raw.RawAtom.{RawAtom}
-use Rattle.mk_ctab.specs.declared.raw.RawBond.{RawBond}
-use Rattle.mk_ctab.specs.declared.raw.RawList.{RawList}
+use Rattle.mk_tables.specs.declared.raw.RawAtom.{RawAtom}
+use Rattle.mk_tables.specs.declared.raw.RawBond.{RawBond}
+use Rattle.mk_tables.specs.declared.raw.RawList.{RawList}
 use Rattle.mk_spelling.proofs.AppendLemmas.{four_texts, as_text, ended_last}
 use Rattle.mk_spelling.proofs.writing_lines.put_counts.Goals as goal
 

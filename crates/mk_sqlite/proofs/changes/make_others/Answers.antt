@@ -1,4 +1,6 @@
 use Rattle.sqlite.specs.Held.{state}
+use Rattle.mk_sqlite.specs.Steps.{with_two, with_three, with_all}
+use Rattle.mk_sqlite.proofs.MovesLemmas.{moves_then}
 use Rattle.mk_sqlite.proofs.InsideLemmas.{inside_stopped, inside_both}
 use Rattle.mk_sqlite.proofs.changes.make_others.Goals as goal
 
@@ -7,6 +9,8 @@ returns-in_err-make_cursors-clause-inside g c = inside_stopped _ _ _ _ _ _ c.fro
 
 pub returns-clause-inside : goal.returns-clause-inside
 returns-clause-inside g c =
-    inside_both (state g.S.Store c.args.transaction.now.conn.now) (state g.S.Store c.make_cursors.new.transaction.conn.now) (state g.S.Store c.make_nexts.new.transaction.conn.now)
-    c.make_nexts.result _ _ _ c.make_nexts.ensures.survives.clean
-    (λ one _ two stage t at. two stage t (one stage t at)) c.in_ok-make_cursors.ensures.inside c.make_nexts.ensures.inside
+    let old = state g.S.Store c.args.transaction.now.conn.now in
+    let mid = state g.S.Store c.make_cursors.new.transaction.conn.now in
+    let last = state g.S.Store c.make_nexts.new.transaction.conn.now in
+    inside_both old mid last c.make_nexts.result _ _ _ c.make_nexts.ensures.survives.clean
+    (λ one _ two. (one.0, moves_then with_two with_three with_all old.now mid.now last.now one.1 two.1)) c.in_ok-make_cursors.ensures.inside c.make_nexts.ensures.inside

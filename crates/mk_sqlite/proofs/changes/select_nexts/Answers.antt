@@ -1,3 +1,9 @@
+use Rattle.std.proofs.Common.{◌≡◌, pos, Some}
+use Rattle.sqlite_trees.specs.declared.store.Shape.TheVariants.{Table}
+use Rattle.sqlite_trees.specs.View.{IsShaped}
+use Rattle.sqlite.specs.Effect.{Database}
+use Rattle.mk_sqlite.specs.Told.{next_in}
+use Rattle.mk_sqlite.proofs.MovesLemmas.{read_still}
 use Rattle.sqlite.specs.Held.{state}
 use Rattle.mk_sqlite.proofs.InsideLemmas.{inside_stopped, both_stopped, went_both}
 use Rattle.mk_sqlite.proofs.changes.select_nexts.Goals as goal
@@ -12,6 +18,9 @@ returns-in_err-next_cursor-clause-inside g c =
 
 pub returns-clause-inside : goal.returns-clause-inside
 returns-clause-inside g c =
-    went_both (state g.S.Store c.args.transaction.now.conn.now) (state g.S.Store c.select_next_record.new.transaction.conn.now) (state g.S.Store c.select_next_cursor.new.transaction.conn.now) _ _
-    _ c.select_next_cursor.ensures.survives.clean
-    (λ one more t at. let r = one t at in let m = more t r.1 in (r.0, m.0, m.1)) c.in_ok-next_record.ensures.inside c.in_ok-next_cursor.ensures.inside
+    let old = state g.S.Store c.args.transaction.now.conn.now in
+    let mid = state g.S.Store c.select_next_record.new.transaction.conn.now in
+    let last = state g.S.Store c.select_next_cursor.new.transaction.conn.now in
+    let cursors = λ (db : Database). IsShaped Table (db.trees 4) → next_in (pos 2) (db.trees 4) ≡ Some c.in_ok-next_cursor.next_cursor in
+    went_both old mid last _ _ _ c.select_next_cursor.ensures.survives.clean
+    (λ one more at. let r = one at in let m = read_still old.now mid.now last.now cursors r.1 more at in (r.0, m.0, m.1)) c.in_ok-next_record.ensures.inside c.in_ok-next_cursor.ensures.inside

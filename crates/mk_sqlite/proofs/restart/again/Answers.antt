@@ -1,6 +1,5 @@
 use Rattle.std.proofs.Common.{◌∙◌, sym}
-use Rattle.mk_sqlite.proofs.AgainLemmas.{was_opened}
 use Rattle.mk_sqlite.proofs.restart.again.Goals as goal
 
-pub returns-in-Some : goal.returns-in-Some
-returns-in-Some g c = record { sound = c.reopened.ensures.sound; tells = rw (was_opened c.args.keeper.opened c.in-Some.connection (sym c.back.ensures ∙ c.in-Some.is)) c.reopened.ensures.tells }
+pub returns-in-Ok-clause-tells : goal.returns-in-Ok-clause-tells
+returns-in-Ok-clause-tells g c = rw (sym c.into_opened.ensures ∙ c.in-Ok.is) c.reopened.ensures.tells

@@ -10,7 +10,7 @@ returns-in-Ok-clause-inside g c clean inside =
     let new = state g.S.Store c.execute.new.self.conn.now in
     let ran = c.in-Ok.ensures.runs clean inside in
     let step = executed_inside c.args.text.now (bound c.args.params.now) old new c.in-Ok.field-0 ran in
-    (executed_keeps c.args.text.now (bound c.args.params.now) old new (Ok c.in-Ok.field-0) ran, (step.0, (c.in-Ok.field-0, step.1)))
+    (executed_keeps c.args.text.now (bound c.args.params.now) old new (Ok c.in-Ok.field-0) ran, (step.0, (c.in-Ok.field-0, step.1, ran.1.was_open)))
 
 pub returns-in-Err-clause-inside : goal.returns-in-Err-clause-inside
 returns-in-Err-clause-inside g c clean inside = (

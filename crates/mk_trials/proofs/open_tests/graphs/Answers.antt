@@ -2,8 +2,8 @@ use Rattle.std.proofs.Common.{◌∷◌, [], refl, arith}
 use Rattle.mk_model.specs.Labels.{joint_members}
 use Rattle.mk_model.proofs.FitsOnLiterals.{query, root}
 use Rattle.mk_model.proofs.OnLiterals.{group, plain_group, single}
-use Rattle.mk_open_codes.specs.OpenCodes.{IsOpenCode}
-use Rattle.mk_open_codes.specs.OpenCodes.OpenChoice.{fills, no_more, repeats, undecided}
+use Rattle.mk_expand.specs.OpenCodes.{IsOpenCode}
+use Rattle.mk_expand.specs.OpenCodes.OpenChoice.{fills, no_more, repeats, undecided}
 use Rattle.mk_trials.proofs.open_tests.graphs.Goals as goal
 
 -- the codes are open codes of this query

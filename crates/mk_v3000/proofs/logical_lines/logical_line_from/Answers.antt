@@ -1,6 +1,6 @@
 use Rattle.std.proofs.Common.{arith, sym, ap, ◌∙◌}
 use Rattle.mk_text.specs.Lines.{lines_of}
-use Rattle.mk_ctab.specs.TableLines.{Line}
+use Rattle.mk_tables.specs.TableLines.{Line}
 use Rattle.mk_v3000.specs.LogicalLines.{is_logical, text_behind, ends_with_dash, piece_of}
 use Rattle.mk_v3000.proofs.KeptLemmas.{logical_length}
 use Rattle.mk_v3000.proofs.ReaderLemmas.{texts_more}

@@ -1,7 +1,7 @@
 use Rattle.std.proofs.Common.{ℕ}
 use Rattle.mk_text.specs.Lines.{lines_of}
 use Rattle.mk_text.proofs.ForCallers.{line_there}
-use Rattle.mk_ctab.proofs.ForCallers.{part_by, bad_from_by, named_from_by}
+use Rattle.mk_tables.proofs.ForCallers.{part_by, bad_from_by, named_from_by}
 use Rattle.mk_v3000.proofs.FactLemmas.{keeps_by, few_by}
 use Rattle.mk_v3000.proofs.LawLemmas.{never_named}
 use Rattle.mk_v3000.proofs.LiveLemmas.{exact-v3000}

@@ -2,8 +2,8 @@ use Rattle.std.proofs.lemmas.Result.{err_from_is_err_and}
 use Rattle.std.proofs.Common.{drop}
 use Rattle.mk_form.specs.Lines.{line_where}
 use Rattle.mk_text.specs.Lines.{lines_of}
-use Rattle.mk_ctab.specs.TableLines.{is_v3000}
-use Rattle.mk_ctab.proofs.ForCallers.{block_fails}
+use Rattle.mk_tables.specs.TableLines.{is_v3000}
+use Rattle.mk_tables.proofs.ForCallers.{block_fails}
 use Rattle.mk_v3000.specs.Walk.{first_walk}
 use Rattle.mk_v3000.specs.Walking.{walk_part, end_part, behind_counts}
 use Rattle.mk_v3000.proofs.ReaderLemmas.{v3000_is, body_left, table_read, table_fails}

@@ -5,21 +5,18 @@ use Rattle.mk_choice.specs.Frames.{numbers_of, open_of}
 use Rattle.mk_choice.proofs.MoveLemmas.{allowed_valid, counts_within, open_none, settled_dead, settled_open, settled_same, valid_allowed}
 use Rattle.mk_choice.proofs.frames.Frames.settle.Goals as goal
 
-pub cant_complete-requires-clause-counts : goal.cant_complete-requires-clause-counts
-cant_complete-requires-clause-counts c = counts_within c.args.query.now c.args.most.now c.args.self.now c.requires.frames 512 c.requires.frames.within
-
 -- ---- where none can be completed
 
-pub returns-then-cant_complete-clause-on : goal.returns-then-cant_complete-clause-on
-returns-then-cant_complete-clause-on c = rw c.requires.passed (below_more (numbers_of c.args.self.now) 4294967296 [])
+pub returns-then-is_dead-clause-on : goal.returns-then-is_dead-clause-on
+returns-then-is_dead-clause-on c = rw c.requires.passed (below_more (numbers_of c.args.self.now) 4294967296 [])
 
-pub returns-then-cant_complete-clause-moved : goal.returns-then-cant_complete-clause-moved
-returns-then-cant_complete-clause-moved c = λ _.
+pub returns-then-is_dead-clause-moved : goal.returns-then-is_dead-clause-moved
+returns-then-is_dead-clause-moved c = λ _.
     let f = c.args.self.now in
     let is = c.requires.frames.stands in
     rw c.requires.passed
     (settled_dead c.args.query.now c.args.most.now (numbers_of f) (take f.depth f.slots) (open_of f) f.counts f.ahead is 4294967295
-    (c.if-cant_complete.ensures refl c.args.most.now (open_of f) is.bounds is.known is.is_ahead))
+    (c.if-is_dead.ensures refl))
 
 -- ---- where slots are open
 

@@ -1,5 +1,0 @@
-use Rattle.mk_open_codes.proofs.LooseLemmas.{LooseLeft}
-use Rattle.mk_open_codes.proofs.loose.loose_of.Given as goal
-
-abbrev pub invariant-loop-bond : goal.invariant-loop-bond
-invariant-loop-bond l = LooseLeft l.layout.template l.layout.pieces l.bond-index l.loose.items

@@ -1,7 +1,0 @@
-use Rattle.std.proofs.Common.{◌≡◌, ◌++◌, ◌+◌, length, replicate}
-use Rattle.mk_model.specs.Expansions.{hydrogen}
-use Rattle.mk_open_codes.specs.OpenGraphs.{loosened}
-use Rattle.mk_open_codes.proofs.parts.put_hydrogens.Given as goal
-
-abbrev pub invariant-loop-j : goal.invariant-loop-j
-invariant-loop-j l = l.out.items ≡ l.initial.out.items ++ loosened l.template l.pieces (length l.initial.out.items + 1) (replicate l._j (hydrogen))

@@ -1,0 +1,5 @@
+pub mod CuttingLemmas
+pub mod SpeakingLemmas
+pub mod TalkingLemmas
+pub mod HoldingLemmas
+pub mod LawLemmas

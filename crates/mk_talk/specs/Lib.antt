@@ -1,0 +1,9 @@
+pub mod Events
+pub mod Frames
+pub mod Lines
+pub mod Cutting
+pub mod Answers
+pub mod Speaks
+pub mod Speaking
+pub mod Laws
+pub mod Told
