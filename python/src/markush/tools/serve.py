@@ -1,0 +1,81 @@
+"""Open a bench to search at: one page in the browser, over a library.
+
+With --store FILE claims, searches and verdicts are kept beside the store, in FILE-bench. COMPOUNDS are SDfiles or lists of
+SMILES, which are loaded into a library that goes with the server. The page is at 127.0.0.1 alone, and the link that is
+printed lets in whoever has it; end the server by Ctrl-C.
+"""
+from __future__ import annotations
+
+import argparse
+import os
+import signal
+import sys
+from pathlib import Path
+from typing import Any
+from urllib.parse import quote
+
+from .common import HITS, Fault, go_on_with_rdkit
+
+
+def add_words(parser: argparse.ArgumentParser) -> None:
+    """The words of the tool."""
+    parser.add_argument("compounds", nargs="*", metavar="COMPOUNDS", help="SDfiles or lists of SMILES, packed by gzip or xz or not")
+    parser.add_argument("--store", metavar="FILE", help="the store; it is made where it isn't there")
+    parser.add_argument("--port", type=int, default=0, metavar="N", help="the port at 127.0.0.1; one that is free where none is named")
+    parser.add_argument("--host", action="append", default=[], metavar="NAME:PORT", help="a further host by which a tunnel reaches the page")
+    parser.add_argument("--no-browser", action="store_true", help="print the link, and open no browser")
+
+
+def run(args: argparse.Namespace) -> int:
+    """Serve until it is ended."""
+    if args.store is not None and args.compounds:
+        raise Fault("the page is over a store or over COMPOUNDS; load these into the store at the page")
+    if not 0 <= args.port <= 65535:
+        raise Fault("a port is a number from 0 to 65535")
+    for host in args.host:
+        name, colon, port = host.rpartition(":")
+        if not (name and colon and port.isdigit()) or "/" in host:
+            raise Fault(f"--host {host}: a host is written as NAME:PORT, as localhost:9000")
+    try:
+        go_on_with_rdkit(args.words)
+    except Fault as fault:
+        print(f"markush-tools serve: {fault}; lists of SMILES aren't drawn without it", file=sys.stderr)
+    from ..serve.opening import Serving
+
+    # requests are answered soon, also while the driver's thread takes hits up
+    sys.setswitchinterval(0.0005)
+    signal.signal(signal.SIGTERM, _interrupt)
+    bodies = [(path, Path(path).read_bytes()) for path in args.compounds]
+    store = None if args.store is None else Path(os.path.abspath(args.store))
+    with Serving(store, args.port, args.host) as serving:
+        print(f"Open {serving.link}", flush=True)
+        print("Whoever has this link may do all that the page does. Ctrl-C ends the server.", flush=True)
+        driver = serving.bench.driver
+        try:
+            driver.opened.wait()
+            if driver.fault:
+                raise Fault(driver.fault)
+            _load(serving.bench, bodies)
+            if not args.no_browser:
+                serving.open_browser()
+            while driver._thread.is_alive():
+                driver._thread.join(timeout=0.5)
+            if driver.fault:
+                raise Fault(driver.fault)
+        except KeyboardInterrupt:
+            print("\nThe server is stopped.", file=sys.stderr)
+    return HITS
+
+
+def _load(bench: Any, bodies: Any) -> None:
+    import json
+    import time
+
+    while bodies and not bench.is_ready and not bench.driver.fault:
+        time.sleep(0.02)
+    for path, body in bodies:
+        bench.load(body, quote(json.dumps({"how": "add", "name": os.path.basename(path)})))
+
+
+def _interrupt(*_: object) -> None:
+    raise KeyboardInterrupt

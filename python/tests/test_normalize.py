@@ -1,0 +1,216 @@
+"""Records drawn as claims draw them: each mend by a pair before and after, and RDKit's process with its limits."""
+import sys
+from pathlib import Path
+from typing import List, Optional
+
+import pytest
+from rdkit import Chem
+from rdkit.Chem import rdDepictor
+
+from markush import Claim, Library
+from markush.errors import MarkushError, Refused
+from markush.normalize import normalize, normalize_file
+from markush.records import RecordText, read_records
+
+TOP = Path(__file__).resolve().parents[2]
+
+
+def record(smiles: str, name: str = "drawn", type_4: bool = False, as_it_is: bool = True) -> RecordText:
+    """A record of a SMILES: with bonds of type 4 where aromatic, or with the bonds and charges as the SMILES says them."""
+    params = Chem.SmilesParserParams()
+    params.sanitize, params.removeHs = not as_it_is, False
+    mol = Chem.MolFromSmiles(smiles, params)
+    mol.UpdatePropertyCache(False)
+    rdDepictor.Compute2DCoords(mol)
+    mol.SetProp("_Name", name)
+    return RecordText(1, (Chem.MolToMolBlock(mol, kekulize=not type_4) + "> <ID>\n7\n\n$$$$\n").encode(), 1)
+
+
+def one(made):
+    assert len(made) == 1
+    return made[0]
+
+
+def table(raw: bytes):
+    """The symbols, charges and bonds of a record."""
+    mol = Chem.MolFromMolBlock(raw.decode(), sanitize=False, removeHs=False)
+    atoms = [(atom.GetSymbol(), atom.GetFormalCharge()) for atom in mol.GetAtoms()]
+    return atoms, sorted((*sorted((bond.GetBeginAtomIdx(), bond.GetEndAtomIdx())), int(bond.GetBondTypeAsDouble() * 2)) for bond in mol.GetBonds())
+
+
+CELECOXIB = "Cc1ccc(cc1)-c1cc(nn1-c1ccc(cc1)S(N)(=O)=O)C(F)(F)F"
+NITRAZEPAM = "O=C1CN=C(C2=CC=CC=C2)C2=C(N1)C=CC(=C2)N(=O)=O"
+
+# name, the record, what is asked, the SMILES after it, words of what was changed
+PAIRS = [
+    ("celecoxib by type 4", record(CELECOXIB, type_4=True, as_it_is=False), {}, CELECOXIB, "aromatic bonds of the atoms 8, 9, 10, 11, 12"),
+    ("nitrazepam by N(=O)=O", record(NITRAZEPAM), {}, NITRAZEPAM.replace("N(=O)=O", "[N+](=O)[O-]"), "a nitro group or N-oxide is drawn with charges: N19 +1"),
+    ("an azide", record("CCN=N#N"), {}, "CCN=[N+]=[N-]", "an azide or diazo group is drawn with charges: N4 +1, N5 -1"),
+    ("an N-oxide by a double bond", record("CN(C)(C)=O"), {}, "C[N+](C)(C)[O-]", "N-oxide is drawn with charges"),
+    ("sodium valproate", record("CCCC(CCC)C(=O)[O-].[Na+]"), {"largest": True, "neutral": True}, "CCCC(CCC)C(=O)O", "left out beside the largest part: [Na+]"),
+    ("disodium succinate", record("[Na+].[O-]C(=O)CCC(=O)[O-].[Na+]"), {"largest": True, "neutral": True}, "OC(=O)CCC(=O)O", "the anions O2, O9"),
+    ("a hydrochloride", record("CCN(CC)CC.Cl"), {"largest": True}, "CCN(CC)CC", "left out beside the largest part: Cl"),
+    ("2-hydroxypyridine", record("OC1=CC=CC=N1"), {"tautomer": "canonical"}, "O=c1cccc[nH]1", "the tautomer O=c1cccc[nH]1 is drawn"),
+    ("4-hydroxyquinazoline", record("OC1=NC=NC2=C1C=CC=C2"), {"tautomer": "canonical"}, "O=c1[nH]cnc2ccccc12", "is drawn in place of"),
+    ("2-hydroxybenzimidazole", record("OC1=NC2=C(N1)C=CC=C2"), {"tautomer": "canonical"}, "O=c1[nH]c2ccccc2[nH]1", "is drawn in place of"),
+    ("a lactim", record("OC1=NCCC1"), {"tautomer": "canonical"}, "O=C1CCCN1", "is drawn in place of"),
+]
+
+
+@pytest.mark.parametrize("name, before, asked, after, words", PAIRS, ids=[name for name, *_ in PAIRS])
+def test_a_pair_before_and_after(name: str, before: RecordText, asked: dict, after: str, words: str) -> None:
+    made = one(list(normalize([before], **asked)))
+    mol = Chem.MolFromMolBlock(made.raw.decode())
+    assert Chem.MolToSmiles(mol) == Chem.CanonSmiles(after)
+    assert any(words in change for change in made.changes) and made.fault is None
+    assert made.raw.startswith(b"drawn\n") and made.raw.endswith(b"> <ID>\n7\n\n$$$$\n")
+    assert 3 not in [kind for *_, kind in table(made.raw)[1]]
+    assert list(normalize([RecordText(1, made.raw, 1)], **asked))[0].changes == ()
+
+
+def test_atoms_keep_their_order_and_places() -> None:
+    before = PAIRS[1][1]
+    made = one(list(normalize([before])))
+    lines, after = before.text.split("\n"), made.raw.decode().split("\n")
+    assert [line[:34] for line in lines[4:25]] == [line[:34] for line in after[4:25]]
+
+
+def test_what_needs_no_mend_keeps_its_bytes() -> None:
+    for path in sorted(TOP.glob("examples/*/compounds.sdf")):
+        found = list(read_records(path))
+        made = list(normalize(found))
+        assert [it.raw for it in made] == [it.raw for it in found] and not any(it.changes or it.fault for it in made)
+
+
+def test_bonds_of_type_4_in_rings_of_six_stay() -> None:
+    before = record("Cc1ccccc1", type_4=True, as_it_is=False)
+    assert b"  4  0" in before.raw and one(list(normalize([before]))).raw == before.raw
+
+
+def test_a_nitro_group_and_an_acid_are_no_acid_to_mend() -> None:
+    before = record("O=[N+]([O-])c1ccccc1C(=O)O", as_it_is=False)
+    assert one(list(normalize([before], neutral=True))).changes == ()
+
+
+def test_a_dative_bond_is_drawn_single() -> None:
+    raw = record("CN(C)(C)O").raw.replace(b"  2  5  1  0", b"  2  5  9  0")
+    made = one(list(normalize([RecordText(1, raw, 1)])))
+    assert made.changes == ("the dative bond N2-O5 is drawn single, with the charges + and -",)
+    assert Chem.MolToSmiles(Chem.MolFromMolBlock(made.raw.decode())) == Chem.CanonSmiles("C[N+](C)(C)[O-]")
+
+
+def test_all_tautomers_are_records_with_their_parents_number() -> None:
+    records = [record("CCO", "ethanol"), RecordText(2, record("CC1=CC=NN1", "5-methylpyrazole").raw, 40)]
+    made = list(normalize(records, tautomer="all"))
+    assert [it.parent for it in made][:2] == [1, 2] and len(made) > 2 and {it.parent for it in made[1:]} == {2}
+    forms = {Chem.MolToSmiles(Chem.MolFromMolBlock(it.raw.decode())) for it in made[1:]}
+    assert {Chem.CanonSmiles("CC1=CC=NN1"), Chem.CanonSmiles("CC1=NNC=C1")} <= forms
+    assert all(RecordText(1, it.raw, 1).data == {"PARENT": str(it.parent), "ID": "7"} for it in made)
+    assert all(it.raw.startswith(b"5-methylpyrazole\n") for it in made[1:]) and "1 further tautomer is drawn: " in made[1].changes[0]
+
+
+# what a compound is called, as its file draws it, and a claim of the form that its name says
+TAUTOMERS = [
+    ("2-pyridone", "OC1=CC=CC=N1", "O=C1[NH]C=CC=C1"),
+    ("quinazolin-4(3H)-one", "OC1=NC=NC2=C1C=CC=C2", "O=C1[NH]C=NC2=C1C=CC=C2"),
+    ("1,3-dihydrobenzimidazol-2-one", "OC1=NC2=C(N1)C=CC=C2", "O=C1[NH]C2=C([NH]1)C=CC=C2"),
+    ("2-pyrrolidone", "OC1=NCCC1", "O=C1[NH]CCC1"),
+    ("5-methyl-1H-pyrazole", "CC1=NNC=C1", "CC1=CC=N[NH]1"),
+]
+
+
+@pytest.mark.parametrize("which, found", [(None, []), ("canonical", [1, 2, 3, 4]), ("all", [1, 2, 3, 4, 5])])
+def test_five_tautomers_drawn_otherwise_than_their_claims(program: Path, tmp_path: Path, which: Optional[str], found: List[int]) -> None:
+    """RDKit's canonical form is the claim's for four of five; of all forms one is the claim's."""
+    records = [RecordText(n, record(drawn, name).raw, 1) for n, (name, drawn, _) in enumerate(TAUTOMERS, 1)]
+    made = list(normalize(records, tautomer=which))
+    (tmp_path / "made.sdf").write_bytes(b"".join(it.raw for it in made))
+    with Library(program=program) as lib:
+        lib.load(tmp_path / "made.sdf")
+        hit = [
+            {made[it.record - 1].parent for it in lib.search(Claim.from_list(f"root {claim}"), per="record")} for _, _, claim in TAUTOMERS
+        ]
+    assert [n for n, parents in enumerate(hit, 1) if n in parents] == found
+    if which == "all":
+        with Library(program=program) as lib:
+            lib.load(tmp_path / "made.sdf")
+            assert {(it.name, it.data["PARENT"]) for it in lib} == {(name, str(n)) for n, (name, *_) in enumerate(TAUTOMERS, 1)}
+
+
+def test_where_there_are_more_tautomers_than_rdkit_looks_at_this_is_told() -> None:
+    before = record("CC(=O)" + "CC(=O)" * 6 + "CC1=NC(O)=NC2=C1N=C(O)N2")
+    for which, count in (("canonical", 1), ("all", 200)):
+        made = list(normalize([before], tautomer=which))
+        assert made[0].changes[0] == "there are more tautomers than the 200 that RDKit looked at" and len(made) == count
+
+
+def test_what_rdkit_cannot_read_is_handed_on_as_it_is() -> None:
+    bad = record("CC(C)(C)(C)C", "five bonds")
+    cut = RecordText(2, b"cut\n\n\n  1  0\n$$$$\n", 9)
+    unread = RecordText(3, b"CC(C none\n", 3, "RDKit doesn't read the SMILES CC(C")
+    made = list(normalize([bad, cut, unread]))
+    assert [it.raw for it in made] == [bad.raw, cut.raw, unread.raw]
+    assert "RDKit refuses the structure" in made[0].fault and "M  END" in made[1].fault and "CC(C" in made[2].fault
+
+
+def test_a_file_is_normalized_into_another(tmp_path: Path) -> None:
+    (tmp_path / "in.sdf").write_bytes(b"".join(before.raw for _, before, asked, *_ in PAIRS[:4]) + record("CC(C)(C)(C)C", "bad").raw)
+    summary, told = normalize_file(tmp_path / "in.sdf", tmp_path / "out.sdf")
+    assert (summary.read, summary.written, summary.changed) == (5, 5, 4) and [it[:2] for it in summary.unread] == [(5, "bad")]
+    assert [it.number for it in read_records(tmp_path / "out.sdf")] == [1, 2, 3, 4, 5] and len(told) == 5
+
+
+# what stands in for RDKit's process: it fails on the second record that it is asked
+STAND_IN = """import json, os, signal, sys
+for line in sys.stdin:
+    if "second" in json.loads(line)["block"]:
+        {deed}
+    print(json.dumps({{"blocks": [], "changes": []}}), flush=True)
+"""
+
+
+@pytest.mark.parametrize("deed, words", [("os.kill(os.getpid(), signal.SIGPROF)", "took more than 20 seconds"), ("os._exit(9)", "ended with the status 9")])
+def test_a_process_that_ends_over_a_record_is_started_again(tmp_path: Path, deed: str, words: str) -> None:
+    (tmp_path / "stand_in.py").write_text(STAND_IN.format(deed=deed))
+    records = [RecordText(n, record("C", name).raw, 1) for n, name in enumerate(("first", "second", "third"), 1)]
+    made = list(normalize(records, command=[sys.executable, str(tmp_path / "stand_in.py")]))
+    assert [it.raw for it in made] == [it.raw for it in records]
+    assert [it.fault is None for it in made] == [True, False, True] and words in made[1].fault
+
+
+def test_processor_time_ends_rdkits_process(tmp_path: Path) -> None:
+    from markush import normalizing
+
+    busy = Path(normalizing.__file__).read_text().replace("def normalized(", "def _normalized(").replace(
+        "def main(", "def normalized(block, rules, chem):\n    while True:\n        pass\n\n\ndef main(", 1
+    )
+    (tmp_path / "busy.py").write_text(busy)
+    made = one(list(normalize([record("CCO")], seconds=0.5, command=[sys.executable, str(tmp_path / "busy.py"), "0.5", "0"])))
+    assert made.fault == "RDKit took more than 0.5 seconds"
+
+
+def test_memory_has_a_limit() -> None:
+    import resource
+
+    held = resource.getrlimit(resource.RLIMIT_AS)
+    made = one(list(normalize([record("CCO")], megabytes=4096)))
+    assert made.fault is None and resource.getrlimit(resource.RLIMIT_AS) == held
+
+
+def test_memory_beyond_the_limit_is_a_records_fault(tmp_path: Path) -> None:
+    from markush import normalizing
+
+    greedy = Path(normalizing.__file__).read_text().replace("def normalized(", "def _normalized(").replace(
+        "def main(", "def normalized(block, rules, chem):\n    return [], [str(len(bytearray(1 << 40)))]\n\n\ndef main(", 1
+    )
+    (tmp_path / "greedy.py").write_text(greedy)
+    command = [sys.executable, str(tmp_path / "greedy.py"), "20", "4096"]
+    made = list(normalize([record("CCO"), record("CCC")], command=command))
+    assert [it.fault for it in made] == ["RDKit needs more than 4096 megabytes"] * 2 and made[0].raw == record("CCO").raw
+
+
+def test_words_that_are_not_understood() -> None:
+    with pytest.raises(Refused, match="canonical or all"):
+        list(normalize([], tautomer="most"))
+    with pytest.raises(MarkushError, match="is no answer"):
+        list(normalize([record("C")], command=["/bin/echo", "nothing"]))

@@ -1,0 +1,330 @@
+"""The bench behind the page: what it answers, and what it keeps over a restart."""
+from __future__ import annotations
+
+import contextlib
+import gzip
+import http.client
+import json
+import lzma
+import re
+import sqlite3
+import time
+from pathlib import Path
+from typing import Any, Dict, Iterator, Optional
+from urllib.parse import quote
+
+import pytest
+
+from markush.serve.driver import Place
+from markush.serve.gate import TOKEN_HEADER
+from markush.serve.opening import Serving
+
+TOP = Path(__file__).resolve().parents[2]
+ACIDS = TOP / "examples" / "phenoxy_acids"
+LIST = "title acids\nroot OC(=O)[CH2]Oc1ccc([R1])cc1\nR1 *Cl chlorine\nR1 *[CH3]\n"
+
+
+class Client:
+    """A page, as far as it asks."""
+
+    def __init__(self, serving: Serving) -> None:
+        self.serving = serving
+
+    def raw(self, path: str, body: bytes = b"", **headers: str) -> "tuple[int, bytes]":
+        link = http.client.HTTPConnection("127.0.0.1", self.serving.server.port, timeout=60)
+        try:
+            link.request("POST", f"/api/{path}", body, {TOKEN_HEADER: self.serving.server.gate.token, **headers})
+            answer = link.getresponse()
+            return answer.status, answer.read()
+        finally:
+            link.close()
+
+    def ask(self, path: str, **words: Any) -> Any:
+        status, data = self.raw(path, json.dumps(words).encode())
+        assert status == 200, (path, status)
+        found = json.loads(data)
+        end = time.monotonic() + 120
+        while isinstance(found, dict) and "ticket" in found and len(found) == 1:
+            status, data = self.raw("ticket", json.dumps(found).encode())
+            try:
+                told = json.loads(data)
+            except ValueError:
+                return data
+            if not told.get("waits"):
+                return told.get("found", told)
+            assert time.monotonic() < end
+            time.sleep(0.02)
+        return found
+
+    def export(self, **words: Any) -> bytes:
+        status, data = self.raw("export", json.dumps(words).encode())
+        number = json.loads(data)["ticket"]
+        while True:
+            status, data = self.raw("ticket", json.dumps({"ticket": number}).encode())
+            if not data.startswith(b'{"waits":true'):
+                return data
+            time.sleep(0.02)
+
+    def until(self, holds: Any, seconds: float = 120) -> Dict[str, Any]:
+        end = time.monotonic() + seconds
+        while True:
+            state: Dict[str, Any] = self.ask("state")
+            if holds(state):
+                return state
+            assert time.monotonic() < end, state
+            time.sleep(0.02)
+
+    def load(self, body: bytes, name: str, **words: Any) -> Dict[str, Any]:
+        how = quote(json.dumps({"name": name, "how": "add", **words}))
+        status, data = self.raw("load", body, **{"X-Markush-Words": how})
+        assert status == 200
+        number = json.loads(data)["id"]
+        self.until(lambda state: all(job["state"] in ("done", "failed") for job in state["loads"] if job["id"] == number))
+        found: Dict[str, Any] = self.ask("loads", id=number)
+        return found
+
+    def search(self, name: str, version: int = 1) -> Dict[str, Any]:
+        number = self.ask("search", name=name, version=version)["id"]
+        return self.ended(number)
+
+    def ended(self, number: int) -> Dict[str, Any]:
+        def of(state: Dict[str, Any]) -> Dict[str, Any]:
+            found: Dict[str, Any] = next(search for search in state["searches"] if search["id"] == number)
+            return found
+
+        return of(self.until(lambda state: of(state)["state"] not in ("waiting", "running")))
+
+
+def open_bench(program: Path, store: Optional[Path]) -> Serving:
+    serving = Serving(store, program=program)
+    end = time.monotonic() + 60
+    while not serving.bench.is_ready:
+        assert time.monotonic() < end and not serving.bench.driver.fault, serving.bench.driver.fault
+        time.sleep(0.01)
+    return serving
+
+
+@pytest.fixture
+def client(program: Path) -> Iterator[Client]:
+    with open_bench(program, None) as serving:
+        yield Client(serving)
+
+
+@pytest.fixture
+def acids(client: Client) -> Client:
+    """A bench with the 33 acids, and their claim under the name `acids`."""
+    assert client.load((ACIDS / "compounds.sdf").read_bytes(), "compounds.sdf")["kept"] == 33
+    kept = client.ask("claim/keep", name="acids", text=(ACIDS / "claim.rgf").read_text())
+    assert kept == {"name": "acids", "version": 1}
+    return client
+
+
+def test_a_claim_is_read(client: Client) -> None:
+    found = client.ask("claim/read", text=LIST)
+    assert (found["title"], found["codes"]) == ("acids", "3")
+    assert [group["l"] for group in found["groups"]] == [1] and len(found["tables"]) == 3
+
+
+@pytest.mark.parametrize(
+    "text, line, words",
+    [
+        ("root c1ccccc1[R1]\nR1 *Cl\nR1 *Q(\n", 3, "Q"),
+        ("root C[R1]\nrot C\n", 2, "rot"),
+        ("root C[R1]\ninclude /etc/passwd\n", 2, "include"),
+        ("$MDL  REV  1\nnonsense\n", 2, ""),
+        ("", None, "paste a claim"),
+    ],
+)
+def test_a_fault_is_told_at_its_line(client: Client, text: str, line: Optional[int], words: str) -> None:
+    found = client.ask("claim/read", text=text)
+    assert found["line"] == line and words in found["fault"] and "root:" not in found["fault"]
+
+
+def test_what_the_program_refuses_isnt_kept(client: Client) -> None:
+    many = "root C" + "".join(f"C([R{n}])" for n in range(1, 3)) + "\n" + "".join(f"R{n} *{'C' * 300}\n" for n in range(1, 3))
+    found = client.ask("claim/keep", name="large", text=many)
+    assert "fault" in found and not client.ask("state")["claims"]
+
+
+def test_hits_are_those_of_the_example(acids: Client) -> None:
+    told = acids.search("acids")
+    answer = [line.split() for line in (ACIDS / "answer").read_text().splitlines() if line.startswith("hit")]
+    assert told["state"] == "ended" and told["hits"] == len(answer) and (told["done"], told["of"]) == (33, 33)
+    found = acids.ask("hits", id=told["id"], **{"from": 0}, choices=0)
+    assert found["records"] == sorted({int(words[1]) for words in answer})
+    assert sum(sum(held[1::2]) for held in found["hits"]) == len(answer)
+    assert {choice["n"] for choice in found["choices"]} == {" ".join(words[3 : words.index("map")]) for words in answer}
+    cards = acids.ask("cards", id=told["id"], places=[0, 1])["cards"]
+    assert cards[0]["m"]["xy"] and cards[0]["h"][0] and cards[0]["d"]["formula"] == "C8H8O3"
+    assert acids.ask("items", id=told["id"])["items"] == ["formula"]
+    assert acids.ask("values", id=told["id"], item="formula")["values"][0] == "C8H8O3"
+
+
+def test_verdicts_are_kept_by_the_text(acids: Client) -> None:
+    told = acids.search("acids")
+    sha = acids.ask("hits", id=told["id"], **{"from": 0}, choices=0)["shas"][1]
+    assert acids.ask("verdict", id=told["id"], place=1, sha=sha, verdict="relevant", note="=look\nagain") == {}
+    assert "fault" in acids.ask("verdict", id=told["id"], place=0, sha=sha, verdict="relevant", note="")
+    assert "fault" in acids.ask("verdict", id=told["id"], place=1, sha=sha, verdict="perhaps", note="")
+    assert acids.ask("verdicts", id=told["id"])["verdicts"] == [[1, "relevant", "=look\nagain"]]
+    table = acids.export(id=told["id"], kind="csv").decode()
+    assert ",relevant,\"'=look\nagain\"," in table
+    assert "'-" in acids.export(id=told["id"], kind="csv").decode() or "*Cl" in table
+    sdfile = acids.export(id=told["id"], kind="sdf", places=[1]).decode()
+    assert "> <markush verdict>\nrelevant\n" in sdfile and "=look again" in sdfile and sdfile.count("$$$$\n") == 1
+
+
+def test_a_page_and_an_account_are_handed_on(acids: Client) -> None:
+    told = acids.search("acids")
+    page = acids.export(id=told["id"], kind="page").decode()
+    assert "acids, version 1" in page and "2,4-D" in page and 'id="account"' in page
+    held = json.loads(acids.export(id=told["id"], kind="json"))
+    assert held["account"]["hits"] == len(held["hits"]) == 11
+    assert acids.export(id=told["id"], kind="claim").decode() == (ACIDS / "claim.rgf").read_text()
+
+
+def test_why_not(acids: Client) -> None:
+    found = acids.ask("why", name="acids", version=1, record="4-fluorophenoxyacetic acid")
+    assert found["kind"] in ("group", "several") and found["picture"]["xy"] and found["words"]
+    assert acids.ask("why", name="acids", version=1, record="1")["kind"] == "hit"
+    assert "no record" in acids.ask("why", name="acids", version=1, record="nothing")["fault"]
+
+
+def test_one_smiles_against_the_claims(acids: Client) -> None:
+    acids.ask("claim/keep", name="others", text="root c1ccccc1[R1]\nR1 *Br\n")
+    rows = acids.ask("covers", smiles="OC(=O)COc1ccc(Cl)cc1Cl 2,4-D")["rows"]
+    assert [(row["name"], row["hit"]) for row in rows] == [("acids", True), ("others", False)]
+    assert all(row["words"] for row in rows)
+    assert "fault" in acids.ask("covers", smiles="C(")
+
+
+def test_two_versions_side_by_side(client: Client) -> None:
+    client.load((ACIDS / "compounds.sdf").read_bytes(), "compounds.sdf")
+    client.ask("claim/keep", name="a", text=LIST)
+    assert client.ask("claim/keep", name="a", text=LIST)["version"] == 1
+    assert client.ask("claim/keep", name="a", text=LIST.replace("*Cl chlorine", "*F"))["version"] == 2
+    assert "fault" in client.ask("compare", name="a", before=1, after=2)
+    client.search("a", 1)
+    client.search("a", 2)
+    found = client.ask("compare", name="a", before=1, after=2)
+    assert found["gained"] and found["lost"] and all(row[2] for row in found["gained"] + found["lost"])
+
+
+def test_what_is_refused_is_named(client: Client) -> None:
+    job = client.load((TOP / "examples" / "vendor" / "vendor.sdf").read_bytes(), "vendor.sdf")
+    assert (job["kept"], job["refused"]) == (5, 4) and len(job["words"]) == 4
+    job = client.load(b"CCO ethanol\nC( broken\n", "two.smi")
+    assert (job["kept"], job["refused"]) == (1, 1) and "line 2" in job["words"][0]
+
+
+def test_packed_files(client: Client) -> None:
+    data = (ACIDS / "compounds.sdf").read_bytes()
+    assert client.load(gzip.compress(data), "a.sdf.gz")["kept"] == 33
+    assert client.load(lzma.compress(data), "a.sdf.xz")["kept"] == 33
+    assert "twice" in client.load(gzip.compress(gzip.compress(data)), "a.sdf.gz.gz")["fault"]
+
+
+def test_update_remove_and_replace(client: Client) -> None:
+    def record(number: int, symbol: str) -> str:
+        return f"r{number}\n\n\n  1  0  0     0  0            999 V2000\n    0.0000    0.0000    0.0000 {symbol:3} 0  0\nM  END\n> <ID>\n{number}\n\n$$$$\n"
+
+    client.load("".join(record(number, "C") for number in (1, 2, 3)).encode(), "a.sdf")
+    job = client.load((record(1, "C") + record(2, "N") + record(4, "O")).encode(), "b.sdf", how="update", key="ID", missing="remove")
+    assert (job["kept"], job["replaced"], job["same"], job["missing"], job["fault"]) == (1, 1, 1, 1, "")
+    rows = client.ask("compounds", **{"from": 0}, text="")["rows"]
+    assert [(number, name) for number, name, _ in rows] == [(1, "r1"), (2, "r2"), (4, "r4")]
+    assert client.load(record(9, "S").encode(), "c.sdf", how="replace", number=4)["replaced"] == 1
+    assert client.ask("remove", numbers=[1]) == {"removed": 1}
+    assert client.ask("compounds", **{"from": 0}, text="R9")["rows"][0][0] == 4
+    assert client.ask("compound", number=2)["data"] == {"ID": "2"}
+
+
+def test_a_restart_finds_all(program: Path, tmp_path: Path) -> None:
+    store = tmp_path / "acids.db"
+    with open_bench(program, store) as serving:
+        client = Client(serving)
+        client.load((ACIDS / "compounds.sdf").read_bytes(), "compounds.sdf")
+        client.ask("claim/keep", name="acids", text=(ACIDS / "claim.rgf").read_text())
+        told = client.search("acids")
+        sha = client.ask("hits", id=told["id"], **{"from": 0}, choices=0)["shas"][0]
+        client.ask("verdict", id=told["id"], place=0, sha=sha, verdict="not", note="")
+    assert (tmp_path / "acids.db-bench").stat().st_mode & 0o777 == 0o600
+    with open_bench(program, store) as serving:
+        client = Client(serving)
+        state = client.ask("state")
+        assert state["library"]["records"] == 33 and [claim["name"] for claim in state["claims"]] == ["acids"]
+        again = state["searches"][0]
+        assert (again["hits"], again["state"], again["stale"]) == (told["hits"], "ended", False)
+        assert client.ask("verdicts", id=again["id"])["verdicts"] == [[0, "not", ""]]
+        client.ask("remove", numbers=[2])
+        client.load((ACIDS / "compounds.sdf").read_bytes().split(b"$$$$\n")[2] + b"$$$$\n", "one.sdf")
+        assert client.until(lambda state: state["searches"][0]["stale"])
+        client.ask("search/again", id=again["id"])
+        again = client.ended(again["id"])
+        assert again["changes"] == {"new": 1, "lost": 1, "changed": 0}
+        assert client.ask("search/changes", id=again["id"])["changes"]["lost"] == [[2, "4-chlorophenoxyacetic acid"]]
+
+
+def test_stop_and_go_on(acids: Client) -> None:
+    whole = acids.search("acids")
+    acids.ask("claim/keep", name="b", text=(ACIDS / "claim.rgf").read_text())
+    number = acids.ask("search", name="b", version=1)["id"]
+    acids.ask("search/stop", id=number)
+    assert acids.ended(number)["state"] in ("stopped", "ended")
+    acids.ask("search/on", id=number)
+    assert acids.ended(number)["hits"] == whole["hits"]
+    acids.ask("search/drop", id=number)
+    assert number not in [search["id"] for search in acids.ask("state")["searches"]]
+
+
+def test_the_process_is_ended_and_the_store_opened_again(acids: Client) -> None:
+    assert acids.ask("end") == {}
+    time.sleep(0.2)
+    assert acids.search("acids")["state"] == "ended"
+
+
+def test_requests_are_answered_soon(acids: Client) -> None:
+    acids.ask("search", name="acids", version=1)
+    took = []
+    for _ in range(30):
+        began = time.monotonic()
+        acids.ask("state")
+        took.append(time.monotonic() - began)
+    assert sorted(took)[15] < 0.05
+
+
+def test_no_name_of_the_page_is_given_twice() -> None:
+    here = TOP / "python" / "src" / "markush"
+    names = []
+    for file in ("hits.js", "serve/bench.js"):
+        names += re.findall(r"(?m)^(?:(?:async )?function|const|let) (\w+)", (here / file).read_text())
+    assert len(names) == len(set(names)) > 100
+
+
+def test_the_page_makes_no_markup_of_text() -> None:
+    here = TOP / "python" / "src" / "markush"
+    for file in ("hits.js", "serve/bench.js"):
+        text = (here / file).read_text()
+        assert not re.search(r"innerHTML|outerHTML|insertAdjacentHTML|document\.write|eval\(|new Function|srcdoc|DOMParser|\.on[a-z]+ =", text), file
+    html = (here / "serve" / "bench.html").read_text()
+    assert not re.search(r"<style|\sstyle=|\son[a-z]+=|https?://|<script>", html)
+
+
+def test_the_place_of_a_search_is_read_of_the_log(tmp_path: Path) -> None:
+    path = tmp_path / "store.db"
+    with contextlib.closing(sqlite3.connect(path, isolation_level=None)) as base:
+        base.execute("PRAGMA journal_mode = WAL")
+        base.execute("CREATE TABLE cursors(number INTEGER PRIMARY KEY, name TEXT NOT NULL, place BLOB NOT NULL) STRICT")
+        place = Place(path)
+        assert place.record(1) is None
+        for number, record, rest in ((1, 70_000, [5, 2]), (2, 3, list(range(300))), (1, 99_999, [])):
+            blob = b"".join(each.to_bytes(4, "big") for each in [record, *rest])
+            base.execute("INSERT OR REPLACE INTO cursors VALUES(?, ?, ?)", (number, f"markush.py.0123abcd.{number}", blob))
+            assert place.record(number) == record
+        base.execute("INSERT INTO cursors VALUES(7, 'mine', x'00000009')")
+        assert place.record(7) is None and place.record(2) == 3
+        base.execute("PRAGMA wal_checkpoint(RESTART)")
+        base.execute("UPDATE cursors SET place = x'00000005' WHERE number = 2")
+        assert place.record(2) == 5
+    (tmp_path / "store.db-wal").write_bytes(b"7\x7f\x06" + bytes(5_000))
+    assert Place(path).record(1) is None
