@@ -7,8 +7,8 @@ ghost use Rattle.mk_expand.specs.OpenCodes.{IsOpenCode};
 ghost use Rattle.mk_expand.specs.OpenGraphs.{IsOpenGraph};
 
 use mk_counts::{Asked, Counts, cannot_hold, counts_asked};
-use mk_model::{Graph, Memory, Mol, Query, Screen};
 use mk_expand::open_graph;
+use mk_model::{Graph, Memory, Mol, Query, Screen};
 use mk_screen::{is_covered, need_of};
 use mk_walk::may_hold;
 use std::alloc::Global;

@@ -4,8 +4,8 @@ ghost use Rattle.std.specs.Prelude.{None};
 
 use crate::test_files::{CO, COC, files};
 use mk_outside::{
-    Bytes, CallNumbers, Failed, FileFail, Files, MemFiles, MemSink, Memory, ReadEnd, Source, SureFiles,
-    SureKeeper, SureSource, Tables,
+    Bytes, CallNumbers, Failed, FileFail, Files, MemFiles, MemSink, Memory, ReadEnd, Source,
+    SureFiles, SureKeeper, SureSource, Tables,
 };
 use mk_session::Status;
 use mk_talk::{Event, ToldTalk, hold};
@@ -111,7 +111,11 @@ fn is_held<F: Files>(
 const ROWS: [(&str, &str, &str); 9] = [
     ("nothing", "", ""),
     ("blank lines", "\n   \n\r\n \r\n", ""),
-    ("no command", "lists\n", "answer 18 refused\nrefused 1 command\n"),
+    (
+        "no command",
+        "lists\n",
+        "answer 18 refused\nrefused 1 command\n",
+    ),
     (
         "a last line without LF",
         "list",
@@ -172,7 +176,10 @@ fn is_row(alloc: Global, text: &[u8], answers: &[u8]) -> Result<bool, Fail> {
 #[test]
 fn lines_are_answered_wherever_they_are_cut(rt: HostRuntime) -> Result<(), Fail> {
     for (name, text, answers) in ROWS {
-        assert!(rt; is_row(rt.alloc(), text.as_bytes(), answers.as_bytes())?, "{name}");
+        assert!(rt;
+            is_row(rt.alloc(), text.as_bytes(), answers.as_bytes())?,
+            "{name}"
+        );
     }
     Ok(())
 }
@@ -197,9 +204,20 @@ fn a_long_line_is_no_command(rt: HostRuntime) -> Result<(), Fail> {
 
 // Whether want of memory in a step is said, and the session goes on.
 fn is_memory_said(alloc: Global) -> Result<bool, Fail> {
-    let wanted = behind_ready(alloc, b"answer 0 memory\nanswer 18 refused\nrefused 1 command\n")?;
+    let wanted = behind_ready(
+        alloc,
+        b"answer 0 memory\nanswer 18 refused\nrefused 1 command\n",
+    )?;
     let none = CallNumbers::new(alloc);
-    is_held(alloc, &mut NoRoom {}, b"load m\nlists\n", 7, none, &wanted, Status::Done)
+    is_held(
+        alloc,
+        &mut NoRoom {},
+        b"load m\nlists\n",
+        7,
+        none,
+        &wanted,
+        Status::Done,
+    )
 }
 
 #[test]

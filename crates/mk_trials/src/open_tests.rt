@@ -1,8 +1,8 @@
 // The call that takes memory: C C C R#, whose second carbon stands one to three times, by three open
 // codes.
+use mk_expand::open_graph;
 use mk_fixtures::query_of_link_and_site;
 use mk_model::{Graph, Kind, Memory};
-use mk_expand::open_graph;
 use mk_open_codes::{alone_code, choices_of, front_code, root_places, root_slots};
 use std::alloc::Global;
 use std::test::Fail;
