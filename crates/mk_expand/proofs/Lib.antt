@@ -9,4 +9,5 @@ pub mod SlotLemmas
 pub mod DecidedLemmas
 pub mod WeakerLemmas
 pub mod MadeLemmas
+pub mod BridgeLemmas
 pub mod ForCallers

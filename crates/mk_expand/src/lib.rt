@@ -16,6 +16,7 @@
 //! Which codes are valid isn't known here, nor is any molecule.
 #![tactic(auto)]
 
+mod bridges;
 mod choosing;
 mod expanding;
 mod joining;
@@ -23,6 +24,7 @@ mod laws;
 mod loose;
 mod open_graphs;
 
+pub use bridges::{aromatic_set_stays, no_ring_bond_leads_away, ring_bonds_stay};
 pub use expanding::expand;
 pub use laws::codes_are_open_codes;
 pub use open_graphs::open_graph;

@@ -41,7 +41,7 @@ module _ (template : TemplateView) (ps qs : List Piece) (others : List (List ℕ
     pub held : Contains whole (moved (level_places template qs others) bond)
 
   -- a bond between two places
-  moved_between : (a c kind topology : ℕ) → (1 ≤ a) × (a ≤ room template ps (length template.atoms)) → (1 ≤ c) × (c ≤ room template ps (length template.atoms))
+  pub moved_between : (a c kind topology : ℕ) → (1 ≤ a) × (a ≤ room template ps (length template.atoms)) → (1 ≤ c) × (c ≤ room template ps (length template.atoms))
       → moved (level_places template qs others) (bond_between a c kind topology) ≡ bond_between (image (level_places template qs others) a) (image (level_places template qs others) c) kind topology
   moved_between a c kind topology is_a is_c = elim (cases_lt a c) [
     | inl less ↦
@@ -76,7 +76,7 @@ module _ (template : TemplateView) (ps qs : List Piece) (others : List (List ℕ
 
   -- ---- inside a block
 
-  copy_at : (m w i : ℕ) → IsAtomOf template w → own_places template others w ≡ numbers_to m → width (piece template ps w) ≡ m → 1 ≤ i → i ≤ m
+  pub copy_at : (m w i : ℕ) → IsAtomOf template w → own_places template others w ≡ numbers_to m → width (piece template ps w) ≡ m → 1 ≤ i → i ≤ m
       → IsPlaceOf template ps w i (before template ps w + i) × (image (level_places template qs others) (before template ps w + i) ≡ before template qs w + i)
   copy_at m w i is own wide least most =
       let place : IsPlaceOf template ps w i (before template ps w + i) = record { at = is; least = least; most = omega (arith, most, wide); is = refl } in
@@ -84,7 +84,7 @@ module _ (template : TemplateView) (ps qs : List Piece) (others : List (List ℕ
       let number : image (own_places template others w) i ≡ i = ap (λ (ns : List ℕ). image ns i) own ∙ numbers_image m i least most in
       (place, omega (arith, there, number))
 
-  row_held : (bond : QueryBond) (x y n j : ℕ) → 1 ≤ j → j ≤ n → Contains (copied bond x y n) (bond_between (x + j) (y + j) bond.kind bond.topology)
+  pub row_held : (bond : QueryBond) (x y n j : ℕ) → 1 ≤ j → j ≤ n → Contains (copied bond x y n) (bond_between (x + j) (y + j) bond.kind bond.topology)
   unfolding copied
   row_held bond x y n j least most = in_row (λ i. bond_between (x + i) (y + i) bond.kind bond.topology) n j least most
 
@@ -155,11 +155,11 @@ module _ (template : TemplateView) (ps qs : List Piece) (others : List (List ℕ
 
   -- ---- within slots
 
-  step_held : (bond : QueryBond) (x n j : ℕ) → 1 ≤ j → j ≤ n → Contains (chained bond x n) (record { first = x + j; second = x + j + 1; kind = bond.kind; topology = bond.topology })
+  pub step_held : (bond : QueryBond) (x n j : ℕ) → 1 ≤ j → j ≤ n → Contains (chained bond x n) (record { first = x + j; second = x + j + 1; kind = bond.kind; topology = bond.topology })
   unfolding chained
   step_held bond x n j least most = in_row (λ c. record { first = x + c; second = x + c + 1; kind = bond.kind; topology = bond.topology }) n j least most
 
-  bond_is : (b : QueryBond) (x y kind topology : ℕ) → b.first ≡ x → b.second ≡ y → b.kind ≡ kind → b.topology ≡ topology → record { first = x; second = y; kind = kind; topology = topology } ≡ b
+  pub bond_is : (b : QueryBond) (x y kind topology : ℕ) → b.first ≡ x → b.second ≡ y → b.kind ≡ kind → b.topology ≡ topology → record { first = x; second = y; kind = kind; topology = topology } ≡ b
   bond_is b x y kind topology p q r s =
       ap (λ (z : ℕ). four z y kind topology) (sym p) ∙ ap (λ (z : ℕ). four b.first z kind topology) (sym q) ∙ ap (λ (z : ℕ). four b.first b.second z topology) (sym r)
       ∙ ap (λ (z : ℕ). four b.first b.second b.kind z) (sym s)
