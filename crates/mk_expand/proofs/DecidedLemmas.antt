@@ -3,7 +3,7 @@
 --     opened_is           what a template becomes where its slots have become pieces that fit them
 --     law                 each structural code is an open code, and makes the same
 --     decided_begins, decided_expanded     so the walk of an open code makes the expansion by a code
-use Rattle.std.proofs.Common.{◌≡◌, ◌∙◌, ℕ, zero, suc, ◌+◌, ◌-◌, ◌<◌, ◌≤◌, true, List, [], ◌∷◌, ◌++◌, length, get_or, replicate, refl, sym, ap, subst, arith}
+use Rattle.std.proofs.Common.{◌≡◌, ◌∙◌, ℕ, zero, suc, ◌+◌, ◌-◌, ◌<◌, ◌≤◌, Bool, true, List, [], ◌∷◌, ◌++◌, length, get_or, replicate, refl, sym, ap, subst, arith}
 use Rattle.std.specs.Prelude.{Contains}
 use Rattle.std.proofs.lemmas.List.{append-nil, length-replicate, replicate_more}
 use Rattle.std.proofs.lemmas.List.Elements.{Contains-get_or}
@@ -180,9 +180,9 @@ decided_begins query code is = record {
 }
 
 -- what the walk of an open code makes of the root by a code is the expansion
-pub decided_expanded : (query : QueryView) → QueryFits query → (code rest : List ℕ) (part : Fragment) → IsCode query 0 code → IsOpened query 0 code rest part → IsExpanded query 0 code rest part
+pub decided_expanded : (query : QueryView) → QueryFits query → (code rest : List ℕ) (part : Fragment) (one_ended : Bool) → IsCode query 0 code → IsOpened query 0 code rest part one_ended → IsExpanded query 0 code rest part
 unfolding decided_begins
-decided_expanded query fits code rest part is opened_so =
+decided_expanded query fits code rest part one_ended is opened_so =
     let begins = decided_begins query code is in
     let same = one_open_choice query (slots_of query 0) begins.choice opened_so.choice [] rest begins.made opened_so.made (begins.spelt ∙ sym opened_so.spelt) in
     let same_law = law query 0 is.choice fits (root_small query fits).there is.made in

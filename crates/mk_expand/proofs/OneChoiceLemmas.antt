@@ -3,7 +3,7 @@
 --     one_open_choice     numbers that begin with an open choice at some slots begin with no other
 --     decided_made, decided_spelt      a choice is an open choice that leaves no slot open
 --     open_split          an open choice at some slots and others
-use Rattle.std.proofs.Common.{◌≡◌, ◌∙◌, ℕ, List, [], ◌∷◌, ◌++◌, refl, sym, ap, subst, arith, append_assoc}
+use Rattle.std.proofs.Common.{◌≡◌, ◌∙◌, ◌&&◌, ℕ, Bool, true, false, List, [], ◌∷◌, ◌++◌, refl, sym, ap, subst, arith, append_assoc}
 use Rattle.mk_model.specs.declared.template.Slot.{Slot}
 use Rattle.mk_model.specs.declared.template.Slot.TheVariants.{Link, Site}
 use Rattle.mk_model.specs.Codes.{Choice, IsChoice, spelling}
@@ -15,7 +15,7 @@ use Rattle.mk_model.specs.Pieces.Piece.{Copies, Member, Nothing}
 use Rattle.mk_model.specs.Queries.{QueryView, slots_of}
 use Rattle.mk_expand.specs.OpenCodes.{IsOpenChoice, OpenChoice, decided, open_spelling}
 use Rattle.mk_expand.specs.OpenCodes.OpenChoice.{no_more, undecided, repeats, vacates, fills}
-use Rattle.mk_expand.specs.OpenGraphs.{open_pieces, opened}
+use Rattle.mk_expand.specs.OpenGraphs.{is_one_ended, open_pieces, opened, opens_one_ended}
 
 -- ---- numbers
 
@@ -134,6 +134,16 @@ pub record IsOpenSplit (query : QueryView) (slots others : List Slot) (choice : 
   pub second_made : IsOpenChoice query others second
   pub spelt : open_spelling choice ≡ open_spelling first ++ open_spelling second
   pub pieces : open_pieces query (slots ++ others) choice ≡ open_pieces query slots first ++ open_pieces query others second
+  pub ends : opens_one_ended query (slots ++ others) choice ≡ (opens_one_ended query slots first && opens_one_ended query others second)
+
+-- three facts in one
+pub and_on : (a b c : Bool) → (a && (b && c)) ≡ ((a && b) && c)
+and_on true b c = refl
+and_on false b c = refl
+
+pub and_true : (a : Bool) → a ≡ (a && true)
+and_true true = refl
+and_true false = refl
 
 pub open_split : (query : QueryView) (slots others : List Slot) (choice : OpenChoice) → IsOpenChoice query (slots ++ others) choice → IsOpenSplit query slots others choice
 unfolding open_pieces
@@ -144,6 +154,7 @@ open_split query [] others choice is = record {
   second_made = is;
   spelt = refl;
   pieces = refl;
+  ends = refl;
 }
 open_split query (slot ∷ slots) others (undecided more) is =
     let behind = open_split query slots others more is in
@@ -154,6 +165,7 @@ open_split query (slot ∷ slots) others (undecided more) is =
       second_made = behind.second_made;
       spelt = ap (λ (xs : List ℕ). 0 ∷ xs) behind.spelt;
       pieces = ap (λ (ps : List Piece). Nothing ∷ ps) behind.pieces;
+      ends = ap (λ (b : Bool). is_one_ended slot && b) behind.ends ∙ and_on (is_one_ended slot) _ _;
     }
 open_split query (Link atom most from to ∷ slots) others no_more is = absurd is
 open_split query (Link atom most from to ∷ slots) others (repeats n more) is =
@@ -165,6 +177,7 @@ open_split query (Link atom most from to ∷ slots) others (repeats n more) is =
       second_made = behind.second_made;
       spelt = ap (λ (xs : List ℕ). n ∷ xs) behind.spelt;
       pieces = ap (λ (ps : List Piece). Copies n ∷ ps) behind.pieces;
+      ends = behind.ends;
     }
 open_split query (Link atom most from to ∷ slots) others (vacates n more) is = absurd is
 open_split query (Link atom most from to ∷ slots) others (fills k inside more) is = absurd is
@@ -179,6 +192,7 @@ open_split query (Site atom groups first second ∷ slots) others (vacates n mor
       second_made = behind.second_made;
       spelt = ap (λ (xs : List ℕ). n ∷ xs) behind.spelt;
       pieces = ap (λ (ps : List Piece). left_open query (Site atom groups first second) ∷ ps) behind.pieces;
+      ends = behind.ends;
     }
 open_split query (Site atom groups first second ∷ slots) others (fills k inside more) is =
     let behind = open_split query slots others more is.3 in
@@ -192,4 +206,7 @@ open_split query (Site atom groups first second ∷ slots) others (fills k insid
       pieces =
           (let t = member query (Site atom groups first second) k in
           ap (λ (ps : List Piece). Member (opened (template_of query t) (open_pieces query (slots_of query t) inside)) ∷ ps) behind.pieces);
+      ends =
+          (let here = opens_one_ended query (slots_of query (member query (Site atom groups first second) k)) inside in
+          ap (λ (b : Bool). here && b) behind.ends ∙ and_on here _ _);
     }

@@ -2,7 +2,7 @@
 --     slot_there           a number is there
 --     undecided_chosen     the slot is left open
 --     link_chosen, vacant_chosen, member_begins, member_chosen      it becomes copies, is vacant, or is filled
-use Rattle.std.proofs.Common.{◌≡◌, ◌≢◌, ◌∙◌, ℕ, ◌+◌, ◌<◌, ◌≤◌, List, [], ◌∷◌, ◌++◌, length, get_or, drop, refl, sym, ap, arith, append_assoc}
+use Rattle.std.proofs.Common.{◌≡◌, ◌≢◌, ◌∙◌, ℕ, Bool, true, ◌+◌, ◌<◌, ◌≤◌, List, [], ◌∷◌, ◌++◌, length, get_or, drop, refl, sym, ap, arith, append_assoc}
 use Rattle.std.proofs.lemmas.List.{drop_more, append-nil}
 use Rattle.mk_model.specs.Pieces.Piece.{Copies, Member, Nothing}
 use Rattle.mk_model.specs.declared.template.Slot.{Slot}
@@ -14,8 +14,9 @@ use Rattle.mk_model.specs.Queries.{QueryView, slots_of}
 use Rattle.mk_layout.proofs.SlotLemmas.{goes_on}
 use Rattle.mk_expand.specs.OpenCodes.{OpenChoice, IsOpenChoice, open_spelling}
 use Rattle.mk_expand.specs.OpenCodes.OpenChoice.{no_more, undecided, repeats, vacates, fills}
-use Rattle.mk_expand.specs.OpenGraphs.{open_expansion, open_pieces}
+use Rattle.mk_expand.specs.OpenGraphs.{is_one_ended, open_expansion, open_pieces, opens_one_ended}
 use Rattle.mk_expand.specs.Opening.{AreOpenChosen, IsOpened, OpenBegins}
+use Rattle.mk_expand.proofs.OneChoiceLemmas.{and_true}
 
 -- ---- a link
 
@@ -46,12 +47,12 @@ nothing_more query (vacates n others) is = absurd is
 nothing_more query (fills k inside others) is = absurd is
 
 pub link_chosen : (query : QueryView) (atom most from to : ℕ) (code : List ℕ) (at : ℕ) → OpenBegins query (Link atom most from to ∷ []) (drop at code)
-    → get_or code at 0 ≢ 0 → AreOpenChosen query (Link atom most from to ∷ []) (drop at code) (drop (at + 1) code) (Copies (get_or code at 0) ∷ [])
+    → get_or code at 0 ≢ 0 → AreOpenChosen query (Link atom most from to ∷ []) (drop at code) (drop (at + 1) code) (Copies (get_or code at 0) ∷ []) true
 unfolding open_pieces
 link_chosen query atom most from to code at begins some = by begins.choice begins.made begins.spelt
   where
     by : (choice : OpenChoice) → IsOpenChoice query (Link atom most from to ∷ []) choice → open_spelling choice ++ begins.rest ≡ drop at code
-        → AreOpenChosen query (Link atom most from to ∷ []) (drop at code) (drop (at + 1) code) (Copies (get_or code at 0) ∷ [])
+        → AreOpenChosen query (Link atom most from to ∷ []) (drop at code) (drop (at + 1) code) (Copies (get_or code at 0) ∷ []) true
     by no_more is spelt = absurd is
     by (undecided others) is spelt = absurd (some (goes_on code at 0 (open_spelling others ++ begins.rest) spelt).number_is)
     by (repeats n others) is spelt =
@@ -62,6 +63,7 @@ link_chosen query atom most from to code at begins some = by begins.choice begin
           made = is;
           spelt = ap (λ s. n ∷ (open_spelling others ++ s)) (on.rest_is ∙ ap (λ o. open_spelling o ++ begins.rest) last) ∙ spelt;
           are = ap (λ m. Copies m ∷ []) on.number_is ∙ ap (λ o. Copies n ∷ open_pieces query [] o) (sym last);
+          ends = ap (opens_one_ended query []) (sym last);
         }
     by (vacates n others) is spelt = absurd is
     by (fills k inside others) is spelt = absurd is
@@ -69,7 +71,7 @@ link_chosen query atom most from to code at begins some = by begins.choice begin
 -- ---- a slot that is left open
 
 pub undecided_chosen : (query : QueryView) (slot : Slot) (code : List ℕ) (at : ℕ) → OpenBegins query (slot ∷ []) (drop at code) → get_or code at 0 ≡ 0
-    → AreOpenChosen query (slot ∷ []) (drop at code) (drop (at + 1) code) (Nothing ∷ [])
+    → AreOpenChosen query (slot ∷ []) (drop at code) (drop (at + 1) code) (Nothing ∷ []) (is_one_ended slot)
 unfolding open_pieces
 undecided_chosen query slot code at begins none =
     let there = slot_there query slot code at begins in
@@ -78,6 +80,7 @@ undecided_chosen query slot code at begins none =
       made = tt;
       spelt = ap (λ (n : ℕ). n ∷ drop (at + 1) code) (sym none) ∙ sym (drop_more code at 0 there);
       are = refl;
+      ends = and_true (is_one_ended slot);
     }
 
 -- ---- a site
@@ -85,12 +88,12 @@ undecided_chosen query slot code at begins none =
 module _ (query : QueryView) (atom : ℕ) (groups : List ℕ) (first second : ℕ) (code : List ℕ) (at : ℕ) (begins : OpenBegins query (Site atom groups first second ∷ []) (drop at code)) where
   -- it is left open
   pub vacant_chosen : length (members_at query (Site atom groups first second)) < get_or code at 0
-      → AreOpenChosen query (Site atom groups first second ∷ []) (drop at code) (drop (at + 1) code) (left_open query (Site atom groups first second) ∷ [])
+      → AreOpenChosen query (Site atom groups first second ∷ []) (drop at code) (drop (at + 1) code) (left_open query (Site atom groups first second) ∷ []) true
   unfolding open_pieces
   vacant_chosen above = by begins.choice begins.made begins.spelt
     where
       by : (choice : OpenChoice) → IsOpenChoice query (Site atom groups first second ∷ []) choice → open_spelling choice ++ begins.rest ≡ drop at code
-          → AreOpenChosen query (Site atom groups first second ∷ []) (drop at code) (drop (at + 1) code) (left_open query (Site atom groups first second) ∷ [])
+          → AreOpenChosen query (Site atom groups first second ∷ []) (drop at code) (drop (at + 1) code) (left_open query (Site atom groups first second) ∷ []) true
       by no_more is spelt = absurd is
       by (undecided others) is spelt = absurd (let on = goes_on code at 0 (open_spelling others ++ begins.rest) spelt in omega (arith, on.number_is, above))
       by (repeats n others) is spelt = absurd is
@@ -102,6 +105,7 @@ module _ (query : QueryView) (atom : ℕ) (groups : List ℕ) (first second : �
             made = is;
             spelt = ap (λ s. n ∷ (open_spelling others ++ s)) (on.rest_is ∙ ap (λ o. open_spelling o ++ begins.rest) last) ∙ spelt;
             are = ap (λ o. left_open query (Site atom groups first second) ∷ open_pieces query [] o) (sym last);
+            ends = ap (opens_one_ended query []) (sym last);
           }
       by (fills k inside others) is spelt = absurd (let on = goes_on code at k (open_spelling inside ++ open_spelling others ++ begins.rest) spelt in omega (arith, on.number_is, is.1))
 
@@ -128,11 +132,11 @@ module _ (query : QueryView) (atom : ℕ) (groups : List ℕ) (first second : �
             },
           )
 
-  pub member_chosen : get_or code at 0 ≢ 0 → get_or code at 0 ≤ length (members_at query (Site atom groups first second)) → (next : ℕ) (part : Fragment)
-      → IsOpened query (member query (Site atom groups first second) (get_or code at 0)) (drop (at + 1) code) (drop next code) part
-      → AreOpenChosen query (Site atom groups first second ∷ []) (drop at code) (drop next code) (Member part ∷ [])
+  pub member_chosen : get_or code at 0 ≢ 0 → get_or code at 0 ≤ length (members_at query (Site atom groups first second)) → (next : ℕ) (part : Fragment) (one_ended : Bool)
+      → IsOpened query (member query (Site atom groups first second) (get_or code at 0)) (drop (at + 1) code) (drop next code) part one_ended
+      → AreOpenChosen query (Site atom groups first second ∷ []) (drop at code) (drop next code) (Member part ∷ []) one_ended
   unfolding open_pieces open_expansion
-  member_chosen some_number within next part is =
+  member_chosen some_number within next part one_ended is =
       let there = slot_there query (Site atom groups first second) code at begins in
       let some = (member_begins some_number within).0 in
       record {
@@ -140,4 +144,5 @@ module _ (query : QueryView) (atom : ℕ) (groups : List ℕ) (first second : �
         made = (some, within, is.made, tt);
         spelt = ap (λ s. get_or code at 0 ∷ (s ++ drop next code)) (append-nil (open_spelling is.choice)) ∙ ap (λ s. get_or code at 0 ∷ s) is.spelt ∙ sym (drop_more code at 0 there);
         are = ap (λ p. Member p ∷ []) is.is;
+        ends = is.ends ∙ and_true _;
       }

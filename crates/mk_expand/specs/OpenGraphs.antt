@@ -4,14 +4,16 @@
 --     open_pieces query slots choice     what the slots become
 --     opened template pieces             what the template becomes where its slots have become these
 --                                        pieces
+--     opens_one_ended query slots choice     each slot that an open choice leaves open has one neighbour
 --     loose_ends template pieces p       how many bonds end at place p and lead to nothing
---     weaker_atom, weaker_bond           an atom and a bond with the tests that all completions share
-use Rattle.std.specs.Prelude.{◌≡◌, ◌+◌, ◌-◌, ◌==◌, ◌&&◌, ◌||◌, not, ℕ, ℤ, pos, negsuc, zero, suc, Bool, List, [], ◌∷◌, length, map, replicate, count_by, slice_index_or, if◌then◌else◌}
+--     shared_atom, shared_bond           an atom and a bond with the tests that all completions share
+use Rattle.std.specs.Prelude.{true, false, ◌≡◌, ◌+◌, ◌-◌, ◌==◌, ◌&&◌, ◌||◌, not, ℕ, ℤ, pos, negsuc, zero, suc, Bool, List, [], ◌∷◌, length, map, replicate, count_by, slice_index_or, if◌then◌else◌}
 use Rattle.std.specs.List.{flat_map}
 use Rattle.std.specs.List.Sorted.{IsPermutation}
 use Rattle.mk_model.specs.declared.graph.GraphAtom.{GraphAtom}
 use Rattle.mk_model.specs.declared.template.QueryBond.{QueryBond}
 use Rattle.mk_model.specs.declared.template.Slot.{Slot}
+use Rattle.mk_model.specs.declared.template.Slot.TheVariants.{Link, Site}
 use Rattle.mk_model.specs.Expansions.{anything, hydrogen, is_nothing, joined, left_open, template_of, unmarked}
 use Rattle.mk_model.specs.Graphs.{GraphView, IsGraph}
 use Rattle.mk_model.specs.Labels.{member}
@@ -84,32 +86,51 @@ open_pieces query slots choice = []
 unfoldable pub open_expansion : QueryView → ℕ → OpenChoice → Fragment
 open_expansion query t choice = opened (template_of query t) (open_pieces query (slots_of query t) choice)
 
--- ---- weaker tests
+-- ---- whether a ring may close through an open slot
 
--- ring bonds as drawn are not asked for, since rings may close through an open slot
-abbrev pub weaker_rings : ℤ → ℤ
-weaker_rings (pos n) = pos n
-weaker_rings (negsuc zero) = negsuc zero
-weaker_rings (negsuc (suc n)) = pos 0
+-- the slot has one neighbour: it is a site that names no second one
+abbrev pub is_one_ended : Slot → Bool
+is_one_ended (Link atom most from to) = false
+is_one_ended (Site atom groups first second) = second == 0
 
--- an atom that doesn't ask for ring bonds as drawn
-abbrev pub weaker_atom : GraphAtom → GraphAtom
-weaker_atom atom = record { test = record atom.test { ring_bonds = weaker_rings atom.test.ring_bonds }; free = atom.free }
+-- Each slot that the choice leaves open has one neighbour, inside members too. So whatever comes to
+-- stand there hangs by a bridge, and no ring closes through it.
+abbrev pub opens_one_ended : QueryView → List Slot → OpenChoice → Bool
+opens_one_ended query (slot ∷ slots) (undecided others) = is_one_ended slot && opens_one_ended query slots others
+opens_one_ended query (slot ∷ slots) (repeats n others) = opens_one_ended query slots others
+opens_one_ended query (slot ∷ slots) (vacates n others) = opens_one_ended query slots others
+opens_one_ended query (slot ∷ slots) (fills k inside others) =
+    opens_one_ended query (slots_of query (member query slot k)) inside && opens_one_ended query slots others
+opens_one_ended query slots choice = true
 
--- a single bond may become aromatic through an open slot, and so may a double bond
-abbrev pub weaker_kind : ℕ → ℕ
-weaker_kind kind = if kind == 1 then 6 else (if kind == 2 then 7 else kind)
+-- ---- the tests that all completions share
 
--- a bond that is also met by an aromatic one, where it is single or double
-abbrev pub weaker_bond : QueryBond → QueryBond
-weaker_bond bond = record { first = bond.first; second = bond.second; kind = weaker_kind bond.kind; topology = bond.topology }
+-- Ring bonds as drawn are asked for where no ring closes through an open slot, and else not.
+abbrev pub shared_rings : Bool → ℤ → ℤ
+shared_rings stays (pos n) = pos n
+shared_rings stays (negsuc zero) = negsuc zero
+shared_rings stays (negsuc (suc n)) = if stays then negsuc (suc n) else pos 0
+
+-- an atom that asks for ring bonds as drawn only where they stay
+abbrev pub shared_atom : Bool → GraphAtom → GraphAtom
+shared_atom stays atom = record { test = record atom.test { ring_bonds = shared_rings stays atom.test.ring_bonds }; free = atom.free }
+
+-- where a ring may close through an open slot, a single bond may become aromatic by it, and so may a
+-- double bond
+abbrev pub shared_kind : Bool → ℕ → ℕ
+shared_kind stays kind = if stays then kind else (if kind == 1 then 6 else (if kind == 2 then 7 else kind))
+
+-- a bond that is also met by an aromatic one, where it is single or double and may become aromatic
+abbrev pub shared_bond : Bool → QueryBond → QueryBond
+shared_bond stays bond = record { first = bond.first; second = bond.second; kind = shared_kind stays bond.kind; topology = bond.topology }
 
 -- The graph has the atoms and the bonds that the root becomes by the open choice that the numbers
--- spell, with weaker tests, the bonds in order and with the marks of the graph that they are.
+-- spell, the bonds in order and with the marks of the graph that they are. Tests stay as asked where
+-- each slot that is left open has one neighbour, and are weaker else.
 pub record IsOpenGraph (query : QueryView) (open_code : List ℕ) (graph : GraphView) : Type 0 where
   pub choice : OpenChoice
   pub made : IsOpenChoice query (slots_of query 0) choice
   pub spelt : open_spelling choice ≡ open_code
   pub kept : IsGraph graph
-  pub atoms : graph.atoms ≡ map weaker_atom (open_expansion query 0 choice).atoms
-  pub bonds : IsPermutation (map weaker_bond (open_expansion query 0 choice).bonds) (map unmarked graph.bonds)
+  pub atoms : graph.atoms ≡ map (shared_atom (opens_one_ended query (slots_of query 0) choice)) (open_expansion query 0 choice).atoms
+  pub bonds : IsPermutation (map (shared_bond (opens_one_ended query (slots_of query 0) choice)) (open_expansion query 0 choice).bonds) (map unmarked graph.bonds)

@@ -1,7 +1,5 @@
 -- An embedding of the whole, at the atoms that it shares with a part, is one of the part.
 --     hydrogens_weaker .. meets_weaker     what is asked of a molecule, weakened
---     Draws part graph                     a graph has the atoms and bonds of a fragment
---     DrawsWeaker part graph               a graph has them with weaker tests
 --     hit_shared                           the theorem
 use Rattle.std.proofs.Common.{◌≡◌, ◌≢◌, ◌∙◌, ℕ, ℤ, pos, negsuc, zero, suc, ◌+◌, ◌-◌, ◌<◌, ◌≤◌, inl, inr, Bool, true, false, cond, ◌&&◌, ◌||◌, not, eqb, leb, List, [], ◌∷◌, Some, length, get_or, map, refl, sym, ap, subst, arith, AllPairs, Contains}
 use Rattle.std.specs.Prelude.{count_by, slice_get}
@@ -28,8 +26,10 @@ use Rattle.mk_model.specs.Tests.{accepts, asked_kind, charge_fits, hydrogens_fit
 use Rattle.mk_text.proofs.ForCallers.{both as both_parts, or_left, or_right}
 use Rattle.mk_model.proofs.ForCallers.{at_place}
 use Rattle.mk_pieces.proofs.JoiningLemmas.{in_mapped}
-use Rattle.mk_expand.specs.OpenGraphs.{weaker_atom, weaker_bond, weaker_kind, weaker_rings}
+use Rattle.mk_expand.specs.OpenGraphs.{shared_atom, shared_bond, shared_kind, shared_rings}
 use Rattle.mk_expand.proofs.CountLemmas.{count_mapped, count_same, one_if}
+use Rattle.mk_open_codes.proofs.HungLemmas.{IsHung}
+use Rattle.mk_open_codes.proofs.MarkLemmas.{Draws, DrawsShared, IsBondShared, atoms_count, bond_shared, differ, ends_of, marks_same, of_mapped, rings_same}
 use Rattle.mk_open_codes.proofs.PairLemmas.{Ends, counted_within, with_ends}
 use Rattle.mk_open_codes.proofs.SharedLemmas.{IsShared, moved}
 use Rattle.mk_open_codes.proofs.SpokeLemmas.{meets_at, spoke}
@@ -72,10 +72,15 @@ substitution_weaker (negsuc n) d f d' f' count more no_more fits = by (eqb n 0) 
         let two : leb count (d + f) ≡ true = (let le : count ≤ d + f = omega (arith, high, no_more) in grind (arith, nat_tests)) in
         rw (one, two) refl
 
-rings_weaker : (asked : ℤ) (d d' count : ℕ) → ring_bonds_fit asked d' count ≡ true → ring_bonds_fit (weaker_rings asked) d count ≡ true
-rings_weaker (pos n) d d' count fits = fits
-rings_weaker (negsuc zero) d d' count fits = fits
-rings_weaker (negsuc (suc n)) d d' count fits = refl
+rings_shared : (stays : Bool) (asked : ℤ) (d d' count : ℕ) → (stays ≡ true → d ≡ d') → ring_bonds_fit asked d' count ≡ true → ring_bonds_fit (shared_rings stays asked) d count ≡ true
+rings_shared stays (pos n) d d' count same fits = fits
+rings_shared stays (negsuc zero) d d' count same fits = fits
+rings_shared true (negsuc (suc n)) d d' count same fits = subst (λ (m : ℕ). ring_bonds_fit (negsuc (suc n)) m count ≡ true) (sym (same refl)) fits
+rings_shared false (negsuc (suc n)) d d' count same fits = refl
+
+-- the type that is asked where a ring may close through an open slot
+abbrev weaker_kind : ℕ → ℕ
+weaker_kind k = shared_kind false k
 
 -- a bond that meets a type meets the weaker one, whatever is aromatic in the graphs
 kind_weaker : (k : ℕ) (a c : Bool) (bond : MolBond) → takes_kind (cond (a && (eqb k 1 || eqb k 2)) 4 k) bond ≡ true
@@ -121,22 +126,29 @@ kind_weaker k a c bond takes = elim (cases_eq k 1) [
         by true = is
         by false = is
 
-meets_weaker : (strong weak : GraphBond) (bond : MolBond) → weak.kind ≡ weaker_kind strong.kind → weak.topology ≡ strong.topology → meets strong bond ≡ true → meets weak bond ≡ true
-meets_weaker strong weak bond kinds topologies met =
+-- a bond that meets a test meets the one that all completions share
+meets_shared : (stays : Bool) (strong weak : GraphBond) (bond : MolBond) → weak.kind ≡ shared_kind stays strong.kind → weak.topology ≡ strong.topology → (stays ≡ true → weak.aromatic ≡ strong.aromatic)
+    → meets strong bond ≡ true → meets weak bond ≡ true
+meets_shared stays strong weak bond kinds topologies same met =
     let parts = both_parts (takes_kind (asked_kind strong) bond) (takes_topology strong.topology bond) met in
-    let kind : takes_kind (asked_kind weak) bond ≡ true =
-    subst (λ (n : ℕ). takes_kind (cond (weak.aromatic && (eqb n 1 || eqb n 2)) 4 n) bond ≡ true) (sym kinds) (kind_weaker strong.kind strong.aromatic weak.aromatic bond parts.0) in
+    let kind : takes_kind (asked_kind weak) bond ≡ true = by stays refl parts.0 in
     let topology : takes_topology weak.topology bond ≡ true = ap (λ (t : ℕ). takes_topology t bond) topologies ∙ parts.1 in
     rw (kind, topology) refl
+  where
+    by : (t : Bool) → stays ≡ t → takes_kind (asked_kind strong) bond ≡ true → takes_kind (asked_kind weak) bond ≡ true
+    by true is takes =
+        let kept : weak.kind ≡ strong.kind = kinds ∙ ap (λ (u : Bool). shared_kind u strong.kind) is in
+        ap (λ (n : ℕ). takes_kind (cond (weak.aromatic && (eqb n 1 || eqb n 2)) 4 n) bond) kept
+        ∙ ap (λ (a : Bool). takes_kind (cond (a && (eqb strong.kind 1 || eqb strong.kind 2)) 4 strong.kind) bond) (same is) ∙ takes
+    by false is takes =
+        let weaker : weak.kind ≡ weaker_kind strong.kind = kinds ∙ ap (λ (u : Bool). shared_kind u strong.kind) is in
+        subst (λ (n : ℕ). takes_kind (cond (weak.aromatic && (eqb n 1 || eqb n 2)) 4 n) bond ≡ true) (sym weaker) (kind_weaker strong.kind strong.aromatic weak.aromatic bond takes)
 
 -- ---- bonds of an atom of a graph
 
 -- how many bonds of atom x lead to an atom that passes the test
 abbrev bonds_to : (ℕ → Bool) → ℕ → List GraphBond → ℕ
 bonds_to T x bonds = count_by (λ bond. touches x (graph_edge bond) && T (other_end x (graph_edge bond))) bonds
-
-abbrev ends_of : GraphBond → Ends
-ends_of bond = with_ends bond.first bond.second
 
 abbrev query_ends : QueryBond → Ends
 query_ends bond = with_ends bond.first bond.second
@@ -166,12 +178,6 @@ bonds_to_is T x graph kept =
     lower : (bond : GraphBond) → Contains graph.bonds bond → bond.first < bond.second
     lower bond (k, below, is) = subst (λ (b : GraphBond). b.first < b.second) is (kept.sketch.lower_first k bond below)
 
--- one of a mapped list
-of_mapped : {X Y : Type 0} (f : X → Y) (xs : List X) (y : Y) → Contains (map f xs) y → (x : X) × Contains xs x × (f x ≡ y)
-of_mapped f [] y (k, below, is) = absurd (omega (arith, below))
-of_mapped f (x ∷ xs) y (zero, below, is) = (x, (0, omega arith, refl), is)
-of_mapped f (x ∷ xs) y (suc k, below, is) = (let found = of_mapped f xs y (k, omega (arith, below), is) in (found.0, (suc found.1.0, (let less = found.1.1 in omega arith), found.1.2), found.2))
-
 -- the bonds of a graph differ in their ends
 ends_differ : (graph : GraphView) → IsGraph graph → AllPairs (λ a b. a ≢ b) (map ends_of graph.bonds)
 ends_differ graph kept i j d less within same =
@@ -188,74 +194,17 @@ ends_differ graph kept i j d less within same =
       | inr up ↦ omega (arith, second, up.1)
     ]
 
--- ---- graphs of fragments
+-- ---- the whole and the part
 
--- the graph has the atoms and the bonds of the fragment
-pub record Draws (part : Fragment) (graph : GraphView) : Type 0 where
-  pub kept : IsGraph graph
-  pub atoms : graph.atoms ≡ part.atoms
-  pub each : (bond : GraphBond) → Contains graph.bonds bond → Contains part.bonds (unmarked bond)
-  pub all : (bond : QueryBond) → Contains part.bonds bond → Contains (map unmarked graph.bonds) bond
-
--- the graph has them with weaker tests
-pub record DrawsWeaker (part : Fragment) (graph : GraphView) : Type 0 where
-  pub kept : IsGraph graph
-  pub atoms : graph.atoms ≡ map weaker_atom part.atoms
-  pub bonds : IsPermutation (map weaker_bond part.bonds) (map unmarked graph.bonds)
-
-module _ (small large : Fragment) (places : List ℕ) (shared : IsShared small large places) (part whole : GraphView) (weak : DrawsWeaker small part) (drawn : Draws large whole) where
+module _ (stays : Bool) (small large : Fragment) (places : List ℕ) (shared : IsShared small large places)
+    (hung : stays ≡ true → (home : ℕ → ℕ) × (root : ℕ → ℕ) × IsHung small large places home root)
+    (part whole : GraphView) (weak : DrawsShared stays small part) (drawn : Draws large whole) where
   abbrev e : ℕ → ℕ
   e = image places
 
   -- the place is one of the part's atoms
   abbrev IsPlace : ℕ → Type 0
   IsPlace p = (1 ≤ p) × (p ≤ length small.atoms)
-
-  atoms_count : length part.atoms ≡ length small.atoms
-  atoms_count = ap length weak.atoms ∙ length-map small.atoms weaker_atom
-
-  differ : (p q : ℕ) → (1 ≤ p) × (p ≤ length small.atoms) → (1 ≤ q) × (q ≤ length small.atoms) → image places p ≡ image places q → p ≡ q
-  differ p q is is' same = elim (cases_eq p q) [
-    | inl same_already ↦ same_already
-    | inr other ↦ elim (cases_lt p q) [
-      | inl less ↦ absurd (let up = shared.rise p q is.0 less is'.1 in omega (arith, up, same))
-      | inr more ↦ absurd (let up = shared.rise q p is'.0 (omega arith) is.1 in omega (arith, up, same))
-    ]
-  ]
-
-  -- ---- a bond of the part, and the bond of the whole
-
-  record IsBondShared (bond : GraphBond) : Type 0 where
-    other : GraphBond
-    held : Contains whole.bonds other
-    first : other.first ≡ image places bond.first
-    second : other.second ≡ image places bond.second
-    kind : bond.kind ≡ weaker_kind other.kind
-    topology : bond.topology ≡ other.topology
-    is_first : (1 ≤ bond.first) × (bond.first ≤ length small.atoms)
-    is_second : (1 ≤ bond.second) × (bond.second ≤ length small.atoms)
-
-  bond_shared : (bond : GraphBond) → Contains part.bonds bond → IsBondShared bond
-  bond_shared bond held =
-      let there = Contains-permutation (map unmarked part.bonds) (map weaker_bond small.bonds) (unmarked bond) (IsPermutation-sym (map weaker_bond small.bonds) (map unmarked part.bonds) weak.bonds)
-      (in_mapped unmarked part.bonds bond held) in
-      let from = of_mapped weaker_bond small.bonds (unmarked bond) there in
-      let ends = shared.ends from.0 from.1 in
-      let out = of_mapped unmarked whole.bonds (moved places from.0) (drawn.all (moved places from.0) (shared.bonds from.0 from.1)) in
-      let first : from.0.first ≡ bond.first = ap (λ (b : QueryBond). b.first) from.2 in
-      let second : from.0.second ≡ bond.second = ap (λ (b : QueryBond). b.second) from.2 in
-      let kind : weaker_kind from.0.kind ≡ bond.kind = ap (λ (b : QueryBond). b.kind) from.2 in
-      let topology : from.0.topology ≡ bond.topology = ap (λ (b : QueryBond). b.topology) from.2 in
-      record {
-        other = out.0;
-        held = out.1;
-        first = ap (λ (b : QueryBond). b.first) out.2 ∙ ap e first;
-        second = ap (λ (b : QueryBond). b.second) out.2 ∙ ap e second;
-        kind = sym kind ∙ ap weaker_kind (sym (ap (λ (b : QueryBond). b.kind) out.2));
-        topology = sym topology ∙ sym (ap (λ (b : QueryBond). b.topology) out.2);
-        is_first = (omega (arith, first, ends.first.0), omega (arith, first, ends.first.1));
-        is_second = (omega (arith, second, ends.second.0), omega (arith, second, ends.second.1));
-      }
 
   -- ---- counts
 
@@ -272,7 +221,7 @@ module _ (small large : Fragment) (places : List ℕ) (shared : IsShared small l
         same_place q is_q = elim (cases_eq q x) [
           | inl same ↦ (let here : image places q ≡ image places x = ap (image places) same in grind (arith, nat_tests))
           | inr other ↦ elim (cases_eq (image places q) (image places x)) [
-            | inl same ↦ absurd (other (differ q x is_q is_x same))
+            | inl same ↦ absurd (other (differ stays small large places shared part whole weak drawn q x is_q is_x same))
             | inr apart ↦ grind (arith, nat_tests)
           ]
         ]
@@ -282,7 +231,7 @@ module _ (small large : Fragment) (places : List ℕ) (shared : IsShared small l
     moved_held a held =
         let one = of_mapped moved_ends (map ends_of part.bonds) a held in
         let two = of_mapped ends_of part.bonds one.0 one.1 in
-        let there = bond_shared two.0 two.1 in
+        let there = bond_shared stays small large places shared part whole weak drawn two.0 two.1 in
         let first : (ends_of there.other).first ≡ (moved_ends one.0).first = there.first ∙ ap (λ (b : Ends). e b.first) two.2 in
         let second : (ends_of there.other).second ≡ (moved_ends one.0).second = there.second ∙ ap (λ (b : Ends). e b.second) two.2 in
         let same : ends_of there.other ≡ a = ap (λ (q : ℕ). with_ends q there.other.second) first ∙ ap (with_ends (e one.0.first)) second ∙ one.2 in
@@ -298,11 +247,11 @@ module _ (small large : Fragment) (places : List ℕ) (shared : IsShared small l
         let both : moved_ends (get_or (map ends_of part.bonds) i o) ≡ moved_ends (get_or (map ends_of part.bonds) j o) = sym one ∙ same ∙ two in
         let a = of_mapped ends_of part.bonds (get_or (map ends_of part.bonds) i o) (Contains-get_or (map ends_of part.bonds) i o before) in
         let b = of_mapped ends_of part.bonds (get_or (map ends_of part.bonds) j o) (Contains-get_or (map ends_of part.bonds) j o below) in
-        let is_a = bond_shared a.0 a.1 in
-        let is_b = bond_shared b.0 b.1 in
-        let first : a.0.first ≡ b.0.first = differ a.0.first b.0.first is_a.is_first is_b.is_first
+        let is_a = bond_shared stays small large places shared part whole weak drawn a.0 a.1 in
+        let is_b = bond_shared stays small large places shared part whole weak drawn b.0 b.1 in
+        let first : a.0.first ≡ b.0.first = differ stays small large places shared part whole weak drawn a.0.first b.0.first is_a.is_first is_b.is_first
         (ap (λ (c : Ends). e c.first) a.2 ∙ ap (λ (c : Ends). c.first) both ∙ ap (λ (c : Ends). e c.first) (sym b.2)) in
-        let second : a.0.second ≡ b.0.second = differ a.0.second b.0.second is_a.is_second is_b.is_second
+        let second : a.0.second ≡ b.0.second = differ stays small large places shared part whole weak drawn a.0.second b.0.second is_a.is_second is_b.is_second
         (ap (λ (c : Ends). e c.second) a.2 ∙ ap (λ (c : Ends). c.second) both ∙ ap (λ (c : Ends). e c.second) (sym b.2)) in
         let equal : get_or (map ends_of part.bonds) i o ≡ get_or (map ends_of part.bonds) j o =
         sym a.2 ∙ ap (λ (q : ℕ). with_ends q a.0.second) first ∙ ap (with_ends b.0.first) second ∙ b.2 in
@@ -316,7 +265,7 @@ module _ (small large : Fragment) (places : List ℕ) (shared : IsShared small l
         let same = count_mapped (ends_spoke P (e x)) moved_ends (map ends_of part.bonds) in
         let alike = count_same (ends_spoke T x) (λ a. ends_spoke P (e x) (moved_ends a)) (map ends_of part.bonds) (λ a held.
         (let from = of_mapped ends_of part.bonds a held in
-        let there = bond_shared from.0 from.1 in
+        let there = bond_shared stays small large places shared part whole weak drawn from.0 from.1 in
         ap (ends_spoke T x) (sym from.2) ∙ same_spoke from.0.first from.0.second there.is_first there.is_second ∙ ap (λ (b : Ends). ends_spoke P (e x) (moved_ends b)) from.2)) in
         let within = counted_within (ends_spoke P (e x)) (map moved_ends (map ends_of part.bonds)) (map ends_of whole.bonds) moved_differ moved_held in
         omega (arith, one, two, same, alike, within)
@@ -331,9 +280,9 @@ module _ (small large : Fragment) (places : List ℕ) (shared : IsShared small l
         subst (Contains (map query_ends large.bonds)) from.2 (in_mapped query_ends large.bonds (unmarked from.0) (drawn.each from.0 from.1)))) in
         let large_count = count_mapped (ends_spoke P (e x)) query_ends large.bonds in
         let spokes = shared.spokes P x d is_x.0 is_x.1 in
-        let turned = sum_by-IsPermutation (λ b. one_if (spoke T x b)) (map weaker_bond small.bonds) (map unmarked part.bonds) weak.bonds in
+        let turned = sum_by-IsPermutation (λ b. one_if (spoke T x b)) (map (shared_bond stays) small.bonds) (map unmarked part.bonds) weak.bonds in
         let of_part = count_mapped (spoke T x) unmarked part.bonds in
-        let of_small = count_mapped (spoke T x) weaker_bond small.bonds in
+        let of_small = count_mapped (spoke T x) (shared_bond stays) small.bonds in
         let part_count = count_mapped (ends_spoke T x) ends_of part.bonds in
         let alike = count_same (spoke T x) (spoke (λ q. P (e q)) x) small.bonds (λ b held.
         (let ends = shared.ends b held in
@@ -347,13 +296,13 @@ module _ (small large : Fragment) (places : List ℕ) (shared : IsShared small l
   no_atom = record { test = record { kind = Anything; charge = pos 0; radical = 0; hydrogens = 0; ring_bonds = pos 0; substitution = pos 0; unsaturated = false }; free = 0 }
 
   -- the atom of the part at a place
-  part_at : (x : ℕ) (d : GraphAtom) → (1 ≤ x) × (x ≤ length small.atoms) → slice_get part.atoms (x - 1) ≡ Some (weaker_atom (get_or small.atoms (x - 1) d))
+  part_at : (x : ℕ) (d : GraphAtom) → (1 ≤ x) × (x ≤ length small.atoms) → slice_get part.atoms (x - 1) ≡ Some ((shared_atom stays) (get_or small.atoms (x - 1) d))
   part_at x d is =
       let below : x - 1 < length small.atoms = omega (arith, is.0, is.1) in
-      let below' : x - 1 < length (map weaker_atom small.atoms) = omega (arith, below, length-map small.atoms weaker_atom) in
+      let below' : x - 1 < length (map (shared_atom stays) small.atoms) = omega (arith, below, length-map small.atoms (shared_atom stays)) in
       ap (λ (atoms : List GraphAtom). slice_get atoms (x - 1)) weak.atoms
-      ∙ at_place (map weaker_atom small.atoms) (x - 1) (weaker_atom (get_or small.atoms (x - 1) d)) below'
-      ∙ ap Some (get_or-map weaker_atom small.atoms (x - 1) d (weaker_atom (get_or small.atoms (x - 1) d)) below)
+      ∙ at_place (map (shared_atom stays) small.atoms) (x - 1) ((shared_atom stays) (get_or small.atoms (x - 1) d)) below'
+      ∙ ap Some (get_or-map (shared_atom stays) small.atoms (x - 1) d ((shared_atom stays) (get_or small.atoms (x - 1) d)) below)
 
   -- and that of the whole
   whole_at : (x : ℕ) (d : GraphAtom) → (1 ≤ x) × (x ≤ length small.atoms) → slice_get whole.atoms (image places x - 1) ≡ Some (get_or large.atoms (image places x - 1) d)
@@ -387,7 +336,7 @@ module _ (small large : Fragment) (places : List ℕ) (shared : IsShared small l
         let o_more = lower (λ q. not (is_drawn_hydrogen part.atoms q)) (λ q. not (is_drawn_hydrogen whole.atoms q)) (λ q at. ap not (agree q at)) x is in
         let o_most = upper (λ q. not (is_drawn_hydrogen part.atoms q)) (λ q. not (is_drawn_hydrogen whole.atoms q)) (λ q at. ap not (agree q at)) x is there.asked in
         record {
-          asked = weaker_atom b;
+          asked = shared_atom stays b;
           asked_at = part_at x there.asked is;
           atom = there.atom;
           atom_at = there.atom_at;
@@ -397,8 +346,9 @@ module _ (small large : Fragment) (places : List ℕ) (shared : IsShared small l
           hydrogens = ap (λ (t : AtomTest). hydrogens_fit t.hydrogens (drawn_hydrogens part x) b.free (hydrogens_at mol (image hit (e x)))) test
               ∙ hydrogens_weaker there.asked.test.hydrogens (drawn_hydrogens part x) b.free (drawn_hydrogens whole (e x)) there.asked.free (hydrogens_at mol (image hit (e x))) h_more
               (omega (arith, h_most, free)) there.hydrogens;
-          ring_bonds = ap (λ (t : AtomTest). ring_bonds_fit (weaker_rings t.ring_bonds) (drawn_rings part x) (rings_at mol (image hit (e x)))) test
-              ∙ rings_weaker there.asked.test.ring_bonds (drawn_rings part x) (drawn_rings whole (e x)) (rings_at mol (image hit (e x))) there.ring_bonds;
+          ring_bonds = ap (λ (t : AtomTest). ring_bonds_fit (shared_rings stays t.ring_bonds) (drawn_rings part x) (rings_at mol (image hit (e x)))) test
+              ∙ rings_shared stays there.asked.test.ring_bonds (drawn_rings part x) (drawn_rings whole (e x)) (rings_at mol (image hit (e x)))
+              (λ so. (let hangs = hung so in rings_same stays small large places shared part whole weak drawn so hangs.0 hangs.1 hangs.2 x is)) there.ring_bonds;
           substitution = ap (λ (t : AtomTest). substitution_fits t.substitution (drawn_others part x) b.free (others_at mol (image hit (e x)))) test
               ∙ substitution_weaker there.asked.test.substitution (drawn_others part x) b.free (drawn_others whole (e x)) there.asked.free (others_at mol (image hit (e x))) o_more
               (omega (arith, o_most, free)) there.substitution;
@@ -408,14 +358,19 @@ module _ (small large : Fragment) (places : List ℕ) (shared : IsShared small l
         some_is : (a b : GraphAtom) → Some a ≡ Some b → a ≡ b
         some_is a b same = cc
 
-    lies : (bond : GraphBond) → IsBondShared bond → LiesOn mol bond (image (map (image hit) places) bond.first) (image (map (image hit) places) bond.second)
-    lies bond there =
+    lies : (bond : GraphBond) → Contains part.bonds bond → IsBondShared stays small large places shared part whole weak drawn bond → LiesOn mol bond (image (map (image hit) places) bond.first) (image (map (image hit) places) bond.second)
+    lies bond held there =
         let on : LiesOn mol there.other (image hit there.other.first) (image hit there.other.second) = on_bond there.other there.held in
         let first : image hit there.other.first ≡ image (map (image hit) places) bond.first = ap (image hit) there.first ∙ sym (image_shared bond.first there.is_first) in
         let second : image hit there.other.second ≡ image (map (image hit) places) bond.second = ap (image hit) there.second ∙ sym (image_shared bond.second there.is_second) in
         let moved_on : LiesOn mol there.other (image (map (image hit) places) bond.first) (image (map (image hit) places) bond.second) =
         subst (λ (b : ℕ). LiesOn mol there.other (image (map (image hit) places) bond.first) b) second (subst (λ (a : ℕ). LiesOn mol there.other a (image hit there.other.second)) first on) in
-        record { bond = moved_on.bond; joins = moved_on.joins; meets = meets_weaker there.other bond moved_on.bond there.kind there.topology moved_on.meets }
+        record {
+          bond = moved_on.bond;
+          joins = moved_on.joins;
+          meets = meets_shared stays there.other bond moved_on.bond there.kind there.topology
+              (λ so. (let hangs = hung so in (marks_same stays small large places shared part whole weak drawn so hangs.0 hangs.1 hangs.2 bond held there).1)) moved_on.meets;
+        }
       where
         on_bond : (other : GraphBond) → Contains whole.bonds other → LiesOn mol other (image hit other.first) (image hit other.second)
         on_bond other (k, below, at) = subst (λ (b : GraphBond). LiesOn mol b (image hit b.first) (image hit b.second)) at (is_hit.bonds k other below)
@@ -423,7 +378,7 @@ module _ (small large : Fragment) (places : List ℕ) (shared : IsShared small l
     -- the embedding at the shared atoms is one of the part
     pub hit_shared : IsEmbedding part mol (map (image hit) places)
     hit_shared = record {
-      one_each = length-map places (image hit) ∙ shared.size ∙ sym atoms_count;
+      one_each = length-map places (image hit) ∙ shared.size ∙ sym (atoms_count stays small large places shared part whole weak drawn);
       within = λ i d below.
           let inside : i < length places = omega (arith, below, length-map places (image hit)) in
           let at = place i inside in
@@ -440,9 +395,9 @@ module _ (small large : Fragment) (places : List ℕ) (shared : IsShared small l
           let b : get_or (map (image hit) places) j d ≡ image hit (image places (j + 1)) = get_or-map (image hit) places j 0 d inside ∙ ap (image hit) (sym (next j)) in
           is_hit.distinct (image places (i + 1) - 1) (image places (j + 1) - 1) 0 (omega (arith, up, one.0)) other.1 (sym a ∙ same ∙ b);
       atoms = λ x least most.
-          let is : (1 ≤ x) × (x ≤ length small.atoms) = (least, omega (arith, most, atoms_count)) in
+          let is : (1 ≤ x) × (x ≤ length small.atoms) = (least, omega (arith, most, atoms_count stays small large places shared part whole weak drawn)) in
           subst (FitsAtom part mol x) (sym (image_shared x is)) (fits x is);
-      bonds = λ k d below. lies (get_or part.bonds k d) (bond_shared (get_or part.bonds k d) (Contains-get_or part.bonds k d below));
+      bonds = λ k d below. (let held = Contains-get_or part.bonds k d below in lies (get_or part.bonds k d) held (bond_shared stays small large places shared part whole weak drawn (get_or part.bonds k d) held));
     }
       where
         next : (i : ℕ) → image places (i + 1) ≡ get_or places i 0

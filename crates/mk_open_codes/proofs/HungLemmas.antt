@@ -4,7 +4,7 @@
 --     AllHung           the same of pieces, slot by slot
 --     level_homes, level_roots      the homes and roots of all atoms
 --     level_hung        the theorem
-use Rattle.std.proofs.Common.{◌≡◌, ◌≢◌, ◌∙◌, ◌⊎◌, ℕ, zero, suc, ◌+◌, ◌-◌, ◌<◌, ◌≤◌, inl, inr, Bool, true, false, cond, ◌&&◌, ◌||◌, eqb, List, [], ◌∷◌, length, get_or, map, refl, sym, ap, subst, arith}
+use Rattle.std.proofs.Common.{◌≡◌, ◌≢◌, ◌∙◌, ◌⊎◌, ℕ, zero, suc, ◌+◌, ◌-◌, ◌<◌, ◌≤◌, inl, inr, Bool, true, false, cond, ◌&&◌, ◌||◌, eqb, ltb, List, [], ◌∷◌, length, get_or, map, refl, sym, ap, subst, arith}
 use Rattle.std.specs.Prelude.{Contains}
 use Rattle.std.specs.List.{flat_map}
 use Rattle.std.proofs.lemmas.Bool.{cases_eq}
@@ -214,9 +214,10 @@ module _ (template : TemplateView) (ps qs : List Piece) (others : List (List ℕ
       let there = image_place template ps qs others level own.x own.j p own.place in
       let some = stands own.x own.j p own.place in
       let inner = inner_own (piece template ps own.x) (piece template qs own.x) (own_places template others own.x) (inner_at template ps qs inners own.x)
-      (grows template ps qs others level own.x) (inner_hung own.x) own.j own.place.least own.place.most in
-      (home_there own.x _ _ there some ∙ ap (λ (n : ℕ). before template ps own.x + n) inner.0 ∙ own.place.is,
-      root_there own.x _ _ there some ∙ raised_none (before template qs own.x) _ inner.1)
+      (grows template ps qs others level own.x) (inner_hung own.x) own.j own.place.least own.place.most in (
+        home_there own.x _ _ there some ∙ ap (λ (n : ℕ). before template ps own.x + n) inner.0 ∙ own.place.is,
+        root_there own.x _ _ there some ∙ raised_none (before template qs own.x) _ inner.1,
+      )
 
   -- ---- open slots
 
@@ -235,15 +236,15 @@ module _ (template : TemplateView) (ps qs : List Piece) (others : List (List ℕ
       own a is = test (eqb a x) refl is
         where
           test : (t : Bool) → eqb a x ≡ t → (t || false) ≡ true → a ≡ x
-          test true e h = grind (arith, nat_tests)
-          test false e h = absurd cc
+          test true is' h = grind (arith, nat_tests)
+          test false is' h = absurd cc
 
-      no_second : (s : ℕ) → cond (eqb s 0) 1 2 ≡ 1 → s ≡ 0
+      no_second : (s : ℕ) → ◌≡◌ {A = ℕ} (cond (eqb s 0) 1 2) 1 → s ≡ 0
       no_second s is = test (eqb s 0) refl is
         where
-          test : (t : Bool) → eqb s 0 ≡ t → cond t 1 2 ≡ 1 → s ≡ 0
-          test true e h = grind (arith, nat_tests)
-          test false e h = absurd (omega (arith, h))
+          test : (t : Bool) → eqb s 0 ≡ t → ◌≡◌ {A = ℕ} (cond t 1 2) 1 → s ≡ 0
+          test true is' h = grind (arith, nat_tests)
+          test false is' h = absurd (omega (arith, h))
 
       of_slot : (k : ℕ) (slot : Slot) → taker template x ≡ suc k → get_or template.slots k (Link 0 0 0 0) ≡ slot → k < length template.slots → takes_atom template x slot ≡ true
           → neighbour_count slot ≡ 1 → FitsSlot slot (piece template qs x) → IsOpenAt x
@@ -270,13 +271,13 @@ module _ (template : TemplateView) (ps qs : List Piece) (others : List (List ℕ
           of_slot k (get_or template.slots k (Link 0 0 0 0)) is refl found.within (found.takes (Link 0 0 0 0)) ((hung k found.within).one none' some') fits
 
   -- its neighbour is the one that it names
-  only_neighbour : (x y : ℕ) (open : IsOpenAt x) → AreNeighbours template x y → y ≡ open.only
-  only_neighbour x y open near = by ((named.1.neighbours y).0 near)
+  only_neighbour : (x y : ℕ) (vacant : IsOpenAt x) → AreNeighbours template x y → y ≡ vacant.only
+  only_neighbour x y vacant near = by ((named.1.neighbours y).0 near)
     where
-      named : IsSlotOf template (Site x open.groups open.only 0)
-      named = All-contains (IsSlotOf template) template.slots (Site x open.groups open.only 0) level.kept.slots open.held
+      named : IsSlotOf template (Site x vacant.groups vacant.only 0)
+      named = All-contains (IsSlotOf template) template.slots (Site x vacant.groups vacant.only 0) level.kept.slots vacant.held
 
-      by : (y ≡ open.only) ⊎ ((y ≡ 0) × (0 ≢ 0)) → y ≡ open.only
+      by : (y ≡ vacant.only) ⊎ ((y ≡ 0) × (◌≢◌ {A = ℕ} 0 0)) → y ≡ vacant.only
       by (inl is) = is
       by (inr is) = absurd (is.1 refl)
 
@@ -303,9 +304,9 @@ module _ (template : TemplateView) (ps qs : List Piece) (others : List (List ℕ
       → is_nothing (piece template ps u) ≡ true → is_nothing (piece template qs u) ≡ false → is_nothing (piece template qs v) ≡ false
       → IsBridge (length (opened template ps).atoms) (level_places template qs others) level_home level_root (ending template qs v u) (ending template qs u v)
   open_bridge u v is_u is_v near near' none some some' =
-      let open = open_at u none some in
-      let only : v ≡ open.only = only_neighbour u v open near in
-      let next : beside template ps qs inners u ≡ v = open.beside_is ∙ sym only in
+      let vacant = open_at u none some in
+      let only : v ≡ vacant.only = only_neighbour u v vacant near in
+      let next : beside template ps qs inners u ≡ v = vacant.beside_is ∙ sym only in
       let there = by (is_nothing (piece template ps v)) refl in
       let end = ending_moved template ps qs others level v u is_v is_u.0 there in
       let inside = place_within template ps v _ (ending template ps v u) end.place in
@@ -324,9 +325,9 @@ module _ (template : TemplateView) (ps qs : List Piece) (others : List (List ℕ
     where
       by : (t : Bool) → is_nothing (piece template ps v) ≡ t → is_nothing (piece template ps v) ≡ false
       by true is =
-          absurd (let open = open_at u none some in
-          let open' = open_at v is some' in
-          level.apart (Site u open.groups open.only 0) (Site v open'.groups open'.only 0) open.held open'.held near)
+          absurd (let vacant = open_at u none some in
+          let vacant' = open_at v is some' in
+          level.apart (Site u vacant.groups vacant.only 0) (Site v vacant'.groups vacant'.only 0) vacant.held vacant'.held near)
       by false is = is
 
   -- ---- bonds of the whole
@@ -409,12 +410,15 @@ module _ (template : TemplateView) (ps qs : List Piece) (others : List (List ℕ
                 (place_within template ps bond.second found.j (before template ps bond.second + found.j) v.0) u.1 v.1
                 (part_outer bond (bond_between (before template ps bond.first + found.j) (before template ps bond.second + found.j) bond.kind bond.topology) held row')))
             | inr none ↦
-                (let open = open_at bond.first (ap is_nothing none) (ap is_nothing link.whole) in
-                absurd (subst (FitsSlot (Site bond.first open.groups open.only 0)) link.whole open.fits))
+                (let vacant = open_at bond.first (ap is_nothing none) (ap is_nothing link.whole) in
+                absurd (subst (FitsSlot (Site bond.first vacant.groups vacant.only 0)) link.whole vacant.fits))
           ]
 
   outside_lies : (bond b : QueryBond) → Contains template.bonds bond → IsWithin template bond → is_inside template bond ≡ false → Contains (drawn template qs bond) b → Lies b
-  outside_lies bond b held within outside at = subst Lies (sym found.is) (by (is_nothing (piece template ps u)) (is_nothing (piece template ps v)) refl refl)
+  outside_lies bond b held within outside at =
+      let found = is_spanned (piece template qs bond.first) (piece template qs bond.second) bond (ending template qs bond.first bond.second) (ending template qs bond.second bond.first) b
+      (subst (λ (bs : List QueryBond). Contains bs b) (drawn_outside template qs bond outside) at) in
+      subst Lies (sym found.is) (by (is_nothing (piece template ps bond.first)) (is_nothing (piece template ps bond.second)) refl refl found.one_there found.other_there)
     where
       u : ℕ
       u = bond.first
@@ -422,5 +426,214 @@ module _ (template : TemplateView) (ps qs : List Piece) (others : List (List ℕ
       v : ℕ
       v = bond.second
 
-      found = is_spanned (piece template qs bond.first) (piece template qs bond.second) bond (ending template qs bond.first bond.second) (ending template qs bond.second bond.first) b
-          (subst (λ (bs : List QueryBond). Contains bs b) (drawn_outside template qs bond outside) at)
+      of_both : is_nothing (piece template ps bond.first) ≡ false → is_nothing (piece template ps bond.second) ≡ false
+          → Lies (bond_between (ending template qs bond.first bond.second) (ending template qs bond.second bond.first)
+          (cond (is_hydrogens (piece template qs bond.first) || is_hydrogens (piece template qs bond.second)) 1 bond.kind)
+          (cond (is_hydrogens (piece template qs bond.first) || is_hydrogens (piece template qs bond.second)) 0 bond.topology))
+      of_both some some' =
+          let one = still_stands (piece template ps bond.first) (piece template qs bond.first) (own_places template others bond.first) (grows template ps qs others level bond.first) some in
+          let other = still_stands (piece template ps bond.second) (piece template qs bond.second) (own_places template others bond.second) (grows template ps qs others level bond.second) some' in
+          let end = ending_moved template ps qs others level bond.first bond.second within.first within.second.0 some in
+          let end' = ending_moved template ps qs others level bond.second bond.first within.second within.first.0 some' in
+          let same : (is_hydrogens (piece template ps bond.first) || is_hydrogens (piece template ps bond.second)) ≡ (is_hydrogens (piece template qs bond.first) || is_hydrogens (piece template qs bond.second)) =
+          ap (λ (c : Bool). c || is_hydrogens (piece template ps bond.second)) (sym one.1) ∙ ap (λ (c : Bool). is_hydrogens (piece template qs bond.first) || c) (sym other.1) in
+          let h = is_hydrogens (piece template qs bond.first) || is_hydrogens (piece template qs bond.second) in
+          let part : drawn template ps bond ≡ bond_between (ending template ps bond.first bond.second) (ending template ps bond.second bond.first) (cond h 1 bond.kind) (cond h 0 bond.topology) ∷ [] =
+          drawn_outside template ps bond outside
+          ∙ spanned_is (piece template ps bond.first) (piece template ps bond.second) bond (ending template ps bond.first bond.second) (ending template ps bond.second bond.first) some some'
+          ∙ ap (λ (c : Bool). bond_between (ending template ps bond.first bond.second) (ending template ps bond.second bond.first) (cond c 1 bond.kind) (cond c 0 bond.topology) ∷ []) same in
+          part_between (ending template ps bond.first bond.second) (ending template ps bond.second bond.first) (cond h 1 bond.kind) (cond h 0 bond.topology)
+          (ending template qs bond.first bond.second) (ending template qs bond.second bond.first)
+          (place_within template ps bond.first _ (ending template ps bond.first bond.second) end.place)
+          (place_within template ps bond.second _ (ending template ps bond.second bond.first) end'.place) end.is end'.is
+          (part_outer bond _ held (subst (λ (bs : List QueryBond). Contains bs (bond_between (ending template ps bond.first bond.second) (ending template ps bond.second bond.first) (cond h 1 bond.kind) (cond h 0 bond.topology)))
+          (sym part) (0, omega arith, refl)))
+
+      near : AreNeighbours template bond.first bond.second × AreNeighbours template bond.second bond.first
+      near = neighbours_of bond held
+
+      by : (s t : Bool) → is_nothing (piece template ps bond.first) ≡ s → is_nothing (piece template ps bond.second) ≡ t
+          → is_nothing (piece template qs bond.first) ≡ false → is_nothing (piece template qs bond.second) ≡ false
+          → Lies (bond_between (ending template qs bond.first bond.second) (ending template qs bond.second bond.first)
+          (cond (is_hydrogens (piece template qs bond.first) || is_hydrogens (piece template qs bond.second)) 1 bond.kind)
+          (cond (is_hydrogens (piece template qs bond.first) || is_hydrogens (piece template qs bond.second)) 0 bond.topology))
+      by false false e f g h = of_both e f
+      by true t e f g h =
+          bridge_between (ending template qs bond.first bond.second) (ending template qs bond.second bond.first) _ _
+          (open_bridge bond.first bond.second within.first within.second near.0 near.1 e g h)
+      by false true e f g h =
+          bridge_back (ending template qs bond.second bond.first) (ending template qs bond.first bond.second) _ _
+          (open_bridge bond.second bond.first within.second within.first near.1 near.0 f h g)
+
+  drawn_lies : (bond b : QueryBond) → Contains template.bonds bond → Contains (drawn template qs bond) b → Lies b
+  drawn_lies bond b held at = by (is_inside template bond) refl
+    where
+      within : IsWithin template bond
+      within = All-contains (IsWithin template) template.bonds bond (template_bonds template level.kept) held
+
+      by : (t : Bool) → is_inside template bond ≡ t → Lies b
+      by true inside = inside_lies bond b held within inside at
+      by false outside = outside_lies bond b held within outside at
+
+  -- ---- within slots
+
+  module _ (a : ℕ) (is_a : IsAtomOf template a) where
+    -- within a member that stands in both
+    module _ (part whole : Fragment) (is : piece template ps a ≡ Member part) (is' : piece template qs a ≡ Member whole) (grow : IsShared part whole (own_places template others a))
+        (within : IsHung part whole (own_places template others a) (inner_at template ps qs inners a).home (inner_at template ps qs inners a).root) where
+      some : is_nothing (piece template ps a) ≡ false
+      some = ap is_nothing is
+
+      whole_at : (j : ℕ) → (1 ≤ j) × (j ≤ length whole.atoms) → IsPlaceOf template qs a j (before template qs a + j)
+      whole_at j range = record { at = is_a; least = range.0; most = omega (arith, range.1, ap width is'); is = refl }
+
+      part_at : (j : ℕ) → (1 ≤ j) × (j ≤ length part.atoms) → IsPlaceOf template ps a j (before template ps a + j)
+      part_at j range = record { at = is_a; least = range.0; most = omega (arith, range.1, ap width is); is = refl }
+
+      home_is : (j : ℕ) → (1 ≤ j) × (j ≤ length whole.atoms) → level_home (before template qs a + j) ≡ before template ps a + (inner_at template ps qs inners a).home j
+      home_is j range = home_there a j (before template qs a + j) (whole_at j range) some
+
+      root_is : (j : ℕ) → (1 ≤ j) × (j ≤ length whole.atoms) → level_root (before template qs a + j) ≡ raised (before template qs a) ((inner_at template ps qs inners a).root j)
+      root_is j range = root_there a j (before template qs a + j) (whole_at j range) some
+
+      place_is : (j : ℕ) → (1 ≤ j) × (j ≤ length part.atoms) → image (level_places template qs others) (before template ps a + j) ≡ before template qs a + image (own_places template others a) j
+      place_is j range = image_at template ps qs others level a j (before template ps a + j) (part_at j range)
+
+      bridge_up : (u v : ℕ) → (1 ≤ v) × (v ≤ length whole.atoms)
+          → IsBridge (length part.atoms) (own_places template others a) (inner_at template ps qs inners a).home (inner_at template ps qs inners a).root u v
+          → IsBridge (length (opened template ps).atoms) (level_places template qs others) level_home level_root (before template qs a + u) (before template qs a + v)
+      bridge_up u v range bridge =
+          let home = home_is v range in
+          let root : level_root (before template qs a + v) ≡ before template qs a + v =
+          root_is v range ∙ raised_some (before template qs a) ((inner_at template ps qs inners a).root v) bridge.beyond ∙ ap (λ (n : ℕ). before template qs a + n) bridge.own in
+          let inside = place_within template ps a _ _ (part_at ((inner_at template ps qs inners a).home v) bridge.within) in
+          record {
+            within = (omega (arith, home, inside.0), omega (arith, home, inside.1, opened_size template ps));
+            at = ap (image (level_places template qs others)) home ∙ place_is ((inner_at template ps qs inners a).home v) bridge.within ∙ ap (λ (n : ℕ). before template qs a + n) bridge.at;
+            own = root;
+            beyond = λ none. omega (arith, none, root, range.0);
+          }
+
+      beyond_up : (u v : ℕ) → (1 ≤ u) × (u ≤ length whole.atoms) → (1 ≤ v) × (v ≤ length whole.atoms)
+          → IsBeyond (inner_at template ps qs inners a).home (inner_at template ps qs inners a).root u v → IsBeyond level_home level_root (before template qs a + u) (before template qs a + v)
+      beyond_up u v range range' beyond = record {
+        beyond = λ none. (let root = root_is u range ∙ raised_some (before template qs a) ((inner_at template ps qs inners a).root u) beyond.beyond in
+            beyond.beyond (omega (arith, none, root)));
+        one_root = root_is u range ∙ ap (raised (before template qs a)) beyond.one_root ∙ sym (root_is v range');
+        one_home = home_is u range ∙ ap (λ (n : ℕ). before template ps a + n) beyond.one_home ∙ sym (home_is v range');
+      }
+
+      member_lies : (from : QueryBond) → Contains whole.bonds from → (1 ≤ from.first) × (from.first ≤ length whole.atoms) → (1 ≤ from.second) × (from.second ≤ length whole.atoms)
+          → ((b : QueryBond) → Contains (map (shifted (before template ps a)) part.bonds) b → Contains (opened template ps).bonds b)
+          → LiesSo part (own_places template others a) (inner_at template ps qs inners a).home (inner_at template ps qs inners a).root from → Lies (shifted (before template qs a) from)
+      member_lies from at range range' put (inl found) =
+          let ends = grow.ends found.0 found.1 in
+          let first = place_is found.0.first ends.first ∙ ap (λ (b : QueryBond). before template qs a + b.first) found.2 in
+          let second = place_is found.0.second ends.second ∙ ap (λ (b : QueryBond). before template qs a + b.second) found.2 in
+          inl (
+            shifted (before template ps a) found.0,
+            put (shifted (before template ps a) found.0) (in_mapped (shifted (before template ps a)) part.bonds found.0 found.1),
+            bond_is template ps qs others level (shifted (before template qs a) from) _ _ found.0.kind found.0.topology (sym first) (sym second)
+                (sym (ap (λ (b : QueryBond). b.kind) found.2)) (sym (ap (λ (b : QueryBond). b.topology) found.2)),
+          )
+      member_lies from at range range' put (inr (inl beyond)) = inr (inl (beyond_up from.first from.second range range' beyond))
+      member_lies from at range range' put (inr (inr (inl bridge))) = inr (inr (inl (bridge_up from.first from.second range' bridge)))
+      member_lies from at range range' put (inr (inr (inr bridge))) = inr (inr (inr (bridge_up from.second from.first range bridge)))
+
+    -- beyond a slot that is left open
+    open_lies : (whole : Fragment) → piece template qs a ≡ Member whole → is_nothing (piece template ps a) ≡ true → (u v kind topology : ℕ)
+        → (1 ≤ u) × (u ≤ length whole.atoms) → (1 ≤ v) × (v ≤ length whole.atoms)
+        → IsBeyond level_home level_root (before template qs a + u) (before template qs a + v)
+    open_lies whole is none u v kind topology range range' =
+        let vacant = open_at a none (ap is_nothing is) in
+        let named : IsSlotOf template (Site a vacant.groups vacant.only 0) =
+        All-contains (IsSlotOf template) template.slots (Site a vacant.groups vacant.only 0) level.kept.slots vacant.held in
+        let least : 1 ≤ beside template ps qs inners a = (let some = named.1.some in let same = vacant.beside_is in omega (arith, some, same)) in
+        let place = end_place a (beside template ps qs inners a) is_a least (ap is_nothing is) in
+        let first = place_within template qs a _ _ place in
+        let one : IsPlaceOf template qs a u (before template qs a + u) = record { at = is_a; least = range.0; most = omega (arith, range.1, ap width is); is = refl } in
+        let other : IsPlaceOf template qs a v (before template qs a + v) = record { at = is_a; least = range'.0; most = omega (arith, range'.1, ap width is); is = refl } in
+        let root = root_open a u (before template qs a + u) one none in
+        record {
+          beyond = λ zero_there. omega (arith, zero_there, root, first.0);
+          one_root = root ∙ sym (root_open a v (before template qs a + v) other none);
+          one_home = home_open a u (before template qs a + u) one none ∙ sym (home_open a v (before template qs a + v) other none);
+        }
+
+  -- the ends of a member's bond
+  member_ends : (g : List ℕ) (a f o : ℕ) (whole : Fragment) → FitsSlot (Site a g f o) (Member whole) → (bond : QueryBond) → Contains whole.bonds bond
+      → ((1 ≤ bond.first) × (bond.first ≤ length whole.atoms)) × ((1 ≤ bond.second) × (bond.second ≤ length whole.atoms))
+  member_ends g a f o whole fits bond held =
+      let ends : IsLowerFirst (length whole.atoms) bond = All-contains (IsLowerFirst (length whole.atoms)) whole.bonds bond fits.0.ends held in
+      ((ends.least, omega (arith, ends.less, ends.most)), (omega (arith, ends.least, ends.less), ends.most))
+
+  slot_lies : (slot : Slot) (r q : Piece) (b : QueryBond) → IsAtomOf template (slot_atom slot) → FitsSlot slot q → piece template ps (slot_atom slot) ≡ r → piece template qs (slot_atom slot) ≡ q
+      → GrowsBy r q (own_places template others (slot_atom slot)) → HungBy r q (own_places template others (slot_atom slot)) (inner_at template ps qs inners (slot_atom slot))
+      → (is_nothing r ≡ true → is_nothing q ≡ false → neighbour_count slot ≡ 1)
+      → ((c : QueryBond) → Contains (bonds_within template.bonds (before template ps (slot_atom slot)) slot r) c → Contains (opened template ps).bonds c)
+      → Contains (bonds_within template.bonds (before template qs (slot_atom slot)) slot q) b → Lies b
+  slot_lies (Link a m f o) (Copies n) (Copies n') b at fits is is' grow hung_by one put held =
+      let bond = bond_joining template.bonds a f in
+      let step = chained_is bond (before template qs a) (n' - 1) b held in
+      let below : step.j ≤ n - 1 = omega (arith, step.most, grow.0) in
+      let u = copy_at template ps qs others level n a step.j at grow.1 (ap width is) step.least (omega (arith, step.least, below)) in
+      let v = copy_at template ps qs others level n a (step.j + 1) at grow.1 (ap width is) (omega arith) (omega (arith, step.least, below)) in
+      let next : image (level_places template qs others) (before template ps a + step.j + 1) ≡ before template qs a + step.j + 1 =
+      (let same : before template ps a + step.j + 1 ≡ before template ps a + (step.j + 1) = omega arith in
+      let same' : before template qs a + (step.j + 1) ≡ before template qs a + step.j + 1 = omega arith in
+      ap (image (level_places template qs others)) same ∙ v.1 ∙ same') in
+      inl (
+        record { first = before template ps a + step.j; second = before template ps a + step.j + 1; kind = bond.kind; topology = bond.topology },
+        put _ (step_held template ps qs others level bond (before template ps a) (n - 1) step.j step.least below),
+        bond_is template ps qs others level b _ _ bond.kind bond.topology (step.first ∙ sym u.1) (step.second ∙ sym next) step.kind step.topology,
+      )
+  slot_lies (Link a m f o) (Member part) (Copies n') b at fits is is' grow hung_by one put held = absurd grow
+  slot_lies (Link a m f o) (Hydrogens n) (Copies n') b at fits is is' grow hung_by one put held = absurd grow
+  slot_lies (Link a m f o) Nothing (Copies n') b at fits is is' grow hung_by one put held = absurd (let two = one refl refl in omega (arith, two))
+  slot_lies (Link a m f o) r (Member whole) b at fits is is' grow hung_by one put held = absurd fits
+  slot_lies (Link a m f o) r (Hydrogens n') b at fits is is' grow hung_by one put held = absurd fits
+  slot_lies (Link a m f o) r Nothing b at fits is is' grow hung_by one put held = absurd fits
+  slot_lies (Site a g f o) r (Copies n') b at fits is is' grow hung_by one put held = absurd fits
+  slot_lies (Site a g f o) r (Hydrogens n') b at fits is is' grow hung_by one put held = absurd (omega (arith, held.1))
+  slot_lies (Site a g f o) r Nothing b at fits is is' grow hung_by one put held = absurd (omega (arith, held.1))
+  slot_lies (Site a g f o) (Copies n) (Member whole) b at fits is is' grow hung_by one put held = absurd grow
+  slot_lies (Site a g f o) (Hydrogens n) (Member whole) b at fits is is' grow hung_by one put held = absurd grow
+  slot_lies (Site a g f o) (Member part) (Member whole) b at fits is is' grow hung_by one put held =
+      let found = shifted_of (before template qs a) whole.bonds b held in
+      let ends = member_ends g a f o whole fits found.from found.at in
+      subst Lies found.is (member_lies a at part whole is is' grow hung_by found.from found.at ends.0 ends.1 put (hung_by.bonds found.from found.at))
+  slot_lies (Site a g f o) Nothing (Member whole) b at fits is is' grow hung_by one put held =
+      let found = shifted_of (before template qs a) whole.bonds b held in
+      let ends = member_ends g a f o whole fits found.from found.at in
+      subst Lies found.is (inr (inl (open_lies a at whole is' (ap is_nothing is) found.from.first found.from.second found.from.kind found.from.topology ends.0 ends.1)))
+
+  -- ---- all bonds
+
+  level_bonds : (b : QueryBond) → Contains (joined template qs).bonds b → Lies b
+  unfolding joined
+  level_bonds b held = elim (Contains-append_cases (flat_map (drawn template qs) template.bonds) (all_within template qs template.slots qs) b held) [
+    | inl outer ↦ (let found = one_of (drawn template qs) template.bonds b outer in drawn_lies found.0 b found.1 found.2)
+    | inr inner ↦
+        (let found = all_within_one template qs template.slots qs b inner in
+        let k = found.0 in
+        let slot = get_or template.slots found.0 (Link 0 0 0 0) in
+        let stands_at : StandsAt template slot = slots_stand template level.kept found.0 (Link 0 0 0 0) found.1 in
+        let number = taker_of_slot template level.kept found.0 (Link 0 0 0 0) found.1 in
+        let part_is : piece template ps (slot_atom slot) ≡ get_or ps found.0 (Copies 1) = ap (piece_numbered ps) number in
+        let whole_is : piece template qs (slot_atom slot) ≡ get_or qs found.0 (Copies 1) = ap (piece_numbered qs) number in
+        let places_are : get_or others found.0 (numbers_to 1) ≡ own_places template others (slot_atom slot) = sym (ap (places_numbered others) number) in
+        let inner_is : get_or inners found.0 own_inner ≡ inner_at template ps qs inners (slot_atom slot) = sym (ap (inner_numbered inners) number) in
+        let grow : GrowsBy (get_or ps found.0 (Copies 1)) (get_or qs found.0 (Copies 1)) (own_places template others (slot_atom slot)) =
+        subst (λ (q : Piece). GrowsBy (get_or ps found.0 (Copies 1)) q (own_places template others (slot_atom slot))) whole_is
+        (subst (λ (r : Piece). GrowsBy r (piece template qs (slot_atom slot)) (own_places template others (slot_atom slot))) part_is (grows template ps qs others level (slot_atom slot))) in
+        let there = hung found.0 found.1 in
+        let hung_there : HungBy (get_or ps found.0 (Copies 1)) (get_or qs found.0 (Copies 1)) (own_places template others (slot_atom slot)) (inner_at template ps qs inners (slot_atom slot)) =
+        subst (λ (i : Inner). HungBy (get_or ps found.0 (Copies 1)) (get_or qs found.0 (Copies 1)) (own_places template others (slot_atom slot)) i) inner_is
+        (subst (λ (ns : List ℕ). HungBy (get_or ps found.0 (Copies 1)) (get_or qs found.0 (Copies 1)) ns (get_or inners found.0 own_inner)) places_are there.by) in
+        slot_lies slot (get_or ps found.0 (Copies 1)) (get_or qs found.0 (Copies 1)) b stands_at
+        (fit_at template.slots qs found.0 (Link 0 0 0 0) (Copies 1) found.1 level.fit) part_is whole_is grow hung_there there.one (λ c at. part_inner found.0 c found.1 at) found.2)
+  ]
+
+  -- all else of what the template becomes in the whole hangs on what it becomes in the part
+  pub level_hung : IsHung (opened template ps) (joined template qs) (level_places template qs others) level_home level_root
+  level_hung = record { own = level_own; bonds = level_bonds }

@@ -2,7 +2,7 @@
 --     held          each completing code's expansion holds the open code's graph
 --     no_hit        so where that has no embedding, no completing code has one
 --     covered       and where a completing code has a hit, its need is covered
-use Rattle.std.proofs.Common.{◌≡◌, ◌∙◌, ℕ, ◌+◌, ◌-◌, ◌<◌, List, [], ◌++◌, length, get_or, map, sym, ap, subst, arith}
+use Rattle.std.proofs.Common.{◌≡◌, ◌∙◌, ℕ, ◌+◌, ◌-◌, ◌<◌, Bool, true, List, [], ◌++◌, length, get_or, map, sym, ap, subst, arith}
 use Rattle.std.proofs.lemmas.List.{get_or_default}
 use Rattle.mk_model.specs.Codes.{spelling}
 use Rattle.mk_model.specs.Expansions.{IsExpansion, expansion}
@@ -15,8 +15,10 @@ use Rattle.mk_screen.proofs.LossFreeLemmas.{covers_of_embedding}
 use Rattle.mk_open_codes.specs.Laws.{CompletionsCoverItsNeed, CompletionsHoldTheOpenGraph, IsHeldBy, NoHitNoCompletion}
 use Rattle.mk_expand.specs.OpenCodes.{OpenChoice, open_spelling}
 use Rattle.mk_open_codes.specs.Completions.{Agrees, Completes}
-use Rattle.mk_expand.specs.OpenGraphs.{IsOpenGraph, open_expansion}
-use Rattle.mk_open_codes.proofs.HitLemmas.{Draws, DrawsWeaker, hit_shared}
+use Rattle.mk_expand.specs.OpenGraphs.{IsOpenGraph, open_expansion, opens_one_ended}
+use Rattle.mk_open_codes.proofs.HitLemmas.{hit_shared}
+use Rattle.mk_open_codes.proofs.HungLemmas.{IsHung}
+use Rattle.mk_open_codes.proofs.MarkLemmas.{Draws, DrawsShared}
 use Rattle.mk_open_codes.proofs.OpenChoiceLemmas.{template_shared}
 use Rattle.mk_expand.proofs.OneChoiceLemmas.{one_open_choice}
 use Rattle.mk_open_codes.proofs.SharedLemmas.{IsShared}
@@ -35,12 +37,13 @@ pub held : CompletionsHoldTheOpenGraph
 held query code open_code whole part fits completes is of =
     let there : 0 < length query.templates = place_within query.templates 0 fits.small_root.root fits.small_root.at in
     let found = template_shared query fits 0 there of.choice is.choice is.made (agreed query code open_code whole part completes is of) in
-    let weak : DrawsWeaker (open_expansion query 0 of.choice) part = record { kept = of.kept; atoms = of.atoms; bonds = of.bonds } in
+    let weak : DrawsShared (opens_one_ended query (slots_of query 0) of.choice) (open_expansion query 0 of.choice) part = record { kept = of.kept; atoms = of.atoms; bonds = of.bonds } in
     let drawn : Draws (expansion query 0 is.choice) whole = record { kept = is.kept; atoms = is.atoms; each = is.each; all = is.all } in
-    by (open_expansion query 0 of.choice) (expansion query 0 is.choice) found.0 found.1 weak drawn
+    by (opens_one_ended query (slots_of query 0) of.choice) (open_expansion query 0 of.choice) (expansion query 0 is.choice) found.0 found.1 found.2 weak drawn
   where
-    by : (small large : Fragment) (places : List ℕ) → IsShared small large places → DrawsWeaker small part → Draws large whole → IsHeldBy part whole
-    by small large places shared weak drawn = record {
+    by : (stays : Bool) (small large : Fragment) (places : List ℕ) → IsShared small large places
+        → (stays ≡ true → (home : ℕ → ℕ) × (root : ℕ → ℕ) × IsHung small large places home root) → DrawsShared stays small part → Draws large whole → IsHeldBy part whole
+    by stays small large places shared hung weak drawn = record {
       shared = places;
       rise = λ i j d less below.
           let up = shared.rise (i + 1) (j + 1) (omega arith) (omega (arith, less)) (omega (arith, below, shared.size)) in
@@ -51,7 +54,7 @@ held query code open_code whole part fits completes is of =
           let range = shared.within (i + 1) (omega arith) (omega (arith, below, shared.size)) in
           let one = at i d below in
           (omega (arith, range.0, one), omega (arith, range.1, one, ap length drawn.atoms));
-      images = λ mol hit is_hit. hit_shared small large places shared part whole weak drawn mol hit is_hit;
+      images = λ mol hit is_hit. hit_shared stays small large places shared hung part whole weak drawn mol hit is_hit;
     }
       where
         at : (i d : ℕ) → i < length places → get_or places i d ≡ image places (i + 1)

@@ -7,7 +7,9 @@ pub mod SlotLemmas
 pub mod MovedLemmas
 pub mod LowerLemmas
 pub mod LevelLemmas
+pub mod HungLemmas
 pub mod OpenChoiceLemmas
+pub mod MarkLemmas
 pub mod HitLemmas
 pub mod LawLemmas
 pub mod FrontLemmas

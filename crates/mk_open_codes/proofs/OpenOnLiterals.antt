@@ -10,12 +10,12 @@ use Rattle.mk_model.specs.Codes.Choice.{done, unfilled, filled}
 use Rattle.mk_model.specs.Expansions.{all_within, anything, atoms_of, chained, copied, copies, drawn, expansion, free_ends, joined, pieces_of}
 use Rattle.mk_model.specs.Pieces.{ending, room, taker}
 use Rattle.mk_model.specs.Labels.{joint_members}
-use Rattle.mk_model.specs.Queries.{QueryView}
+use Rattle.mk_model.specs.Queries.{QueryView, slots_of}
 use Rattle.mk_model.specs.Templates.{TemplateView, hang_together}
 use Rattle.mk_expand.specs.OpenCodes.{IsOpenChoice, open_spelling}
 use Rattle.mk_open_codes.specs.Completions.{Agrees}
 use Rattle.mk_expand.specs.OpenCodes.OpenChoice.{fills, no_more, repeats, undecided, vacates}
-use Rattle.mk_expand.specs.OpenGraphs.{bare_atoms_of, loose_ends, open_expansion, open_pieces, opened, weaker_atom, weaker_bond}
+use Rattle.mk_expand.specs.OpenGraphs.{bare_atoms_of, loose_ends, open_expansion, open_pieces, opened, opens_one_ended, shared_atom, shared_bond}
 
 -- the test for an element
 abbrev of : ℕ → AtomTest
@@ -62,12 +62,17 @@ open_row : open_expansion ring 0 (undecided no_more)
 unfolding ring hang_together taker room ending copied drawn chained all_within joined bare_atoms_of loose_ends opened open_pieces open_expansion joint_members
 open_row = refl
 
--- its bonds may be aromatic, and its last carbon may have more ring bonds than are drawn
-asked_of_row : map weaker_bond (open_expansion ring 0 (undecided no_more)).bonds ≡ bond 1 2 7 ∷ bond 2 3 6 ∷ bond 3 4 7 ∷ bond 4 5 6 ∷ []
+-- a ring may close through the site, which has two neighbours
+ring_closes : opens_one_ended ring (slots_of ring 0) (undecided no_more) ≡ false
+unfolding ring
+ring_closes = refl
+
+-- so its bonds may be aromatic, and its last carbon may have more ring bonds than are drawn
+asked_of_row : map (shared_bond false) (open_expansion ring 0 (undecided no_more)).bonds ≡ bond 1 2 7 ∷ bond 2 3 6 ∷ bond 3 4 7 ∷ bond 4 5 6 ∷ []
 unfolding ring hang_together taker room ending copied drawn chained all_within joined bare_atoms_of loose_ends opened open_pieces open_expansion joint_members
 asked_of_row = refl
 
-asked_of_end : weaker_atom (record { test = record anything { kind = Element 6; ring_bonds = negsuc 1 }; free = 1 }) ≡ atom 6 1
+asked_of_end : shared_atom false (record { test = record anything { kind = Element 6; ring_bonds = negsuc 1 }; free = 1 }) ≡ atom 6 1
 asked_of_end = refl
 
 -- the ring, for comparison
@@ -118,6 +123,21 @@ open_end : open_expansion chain 0 (repeats 2 (undecided no_more))
 unfolding chain hang_together taker room ending copied drawn chained all_within joined bare_atoms_of loose_ends opened open_pieces open_expansion joint_members
 open_end = refl
 
+-- a ring may close through the link, and none through the site, which has one neighbour
+chain_closes : (opens_one_ended chain (slots_of chain 0) (undecided (fills 1 no_more no_more)) ≡ false)
+    × (opens_one_ended chain (slots_of chain 0) (repeats 2 (undecided no_more)) ≡ true)
+unfolding chain joint_members
+chain_closes = (refl, refl)
+
+-- so where the site alone is open, bonds and atoms are asked as they are drawn
+asked_of_chain : map (shared_bond true) (open_expansion chain 0 (repeats 2 (undecided no_more))).bonds ≡ bond 1 2 1 ∷ bond 2 4 2 ∷ bond 3 5 2 ∷ bond 2 3 1 ∷ []
+unfolding chain hang_together taker room ending copied drawn chained all_within joined bare_atoms_of loose_ends opened open_pieces open_expansion joint_members
+asked_of_chain = refl
+
+asked_as_drawn : shared_atom true (record { test = record anything { kind = Element 6; ring_bonds = negsuc 1 }; free = 1 })
+    ≡ record { test = record anything { kind = Element 6; ring_bonds = negsuc 1 }; free = 1 }
+asked_as_drawn = refl
+
 -- where both are, the bond between them is nothing
 both_open : open_expansion chain 0 (undecided (undecided no_more)) ≡ record { atoms = atom 7 1 ∷ []; bonds = []; points = [] }
 unfolding chain hang_together taker room ending copied drawn chained all_within joined bare_atoms_of loose_ends opened open_pieces open_expansion joint_members
@@ -139,6 +159,11 @@ open_within : open_expansion nested 0 (fills 1 (undecided no_more) no_more)
     ≡ record { atoms = atom 6 0 ∷ atom 8 1 ∷ []; bonds = bond 1 2 1 ∷ []; points = [] }
 unfolding nested hang_together taker room ending copied drawn chained all_within joined bare_atoms_of loose_ends opened open_pieces open_expansion joint_members
 open_within = refl
+
+-- which has one neighbour too
+within_closes : opens_one_ended nested (slots_of nested 0) (fills 1 (undecided no_more) no_more) ≡ true
+unfolding nested joint_members
+within_closes = refl
 
 -- where the inner site is decided as vacant, a hydrogen is drawn there, and none is free
 vacant_within : open_expansion nested 0 (fills 1 (vacates 1 no_more) no_more)

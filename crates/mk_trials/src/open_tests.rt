@@ -8,9 +8,10 @@ use std::alloc::Global;
 use std::test::Fail;
 
 // By 0 2 the link is open, and chlorine fills the site: a carbon, and another that bears it, each
-// with a free end. By 2 0 the second carbon stands twice, and the last has a free end where the site
-// is open. By 0 0 both are open, so the last carbon has two free ends, and no bond is left. Single
-// bonds may be aromatic ones.
+// with a free end. A ring may close through the link, so the single bond may be an aromatic one. By
+// 2 0 the second carbon stands twice, and the last has a free end where the site is open, which has
+// one neighbour: single bonds stay single. By 0 0 both are open, so the last carbon has two free
+// ends, and no bond is left.
 #[test]
 fn open_codes_have_their_graphs(rt: HostRuntime) -> Result<(), Fail> {
     let (link, site, both) = graphs(rt.alloc())?;
@@ -20,7 +21,7 @@ fn open_codes_have_their_graphs(rt: HostRuntime) -> Result<(), Fail> {
         "0 2"
     );
     assert!(rt;
-        is_graph(&site, &four, &[(1, 2, 6), (2, 3, 6), (3, 4, 6)]),
+        is_graph(&site, &four, &[(1, 2, 1), (2, 3, 1), (3, 4, 1)]),
         "2 0"
     );
     assert!(rt; is_graph(&both, &[(6, 1), (6, 2)], &[]), "0 0");

@@ -25,7 +25,7 @@ open_chosen-open_chosen_at-requires t c =
     c.slots-slots.ensures in
     let below : k < length (slots_of query c.args.t) = rw slots at c.loop-slot-test.true in
     let small = filled_small query c.requires.kept c.args.t c.requires.small (get_or (slots_of query c.args.t) k (Link 0 0 0 0)) (k, below, get_or_default (slots_of query c.args.t) k _ _ below) in
-    let begins = left_begins query (slots_of query c.args.t) k _ _ _ (Link 0 0 0 0) below c.loop-slot.invariant.2 in
+    let begins = left_begins query (slots_of query c.args.t) k _ _ _ _ (Link 0 0 0 0) below c.loop-slot.invariant.2 in
     let slot = slot_at c.slots-slots.result.now (slots_of query c.args.t) k c.slot-item.result slots c.loop-slot-test.true c.slot-item.is in
     (search rules, (c.requires.kept, (rw slot small, (c.loop-slot.invariant.1, rw slot begins))))
 
@@ -39,7 +39,7 @@ open_chosen-loop-slot-preserved t c =
     let slot = slot_at c.slots-slots.result.now (slots_of query c.args.t) k c.slot-item.result slots c.loop-slot-test.true c.slot-item.is in (
       omega (arith, c.in_ok-piece.ensures.within, c.loop-slot.invariant.0),
       c.in_ok-piece.ensures.within.1,
-      rw c.in_ok-push.ensures.items (left_more query (slots_of query c.args.t) k _ _ _ (Link 0 0 0 0) below c.loop-slot.invariant.2 _ _ (rw slot at c.in_ok-piece.ensures.are)),
+      rw (c.in_ok-push.ensures.items, c.both-one_ended.ensures) (left_more query (slots_of query c.args.t) k _ _ _ _ (Link 0 0 0 0) below c.loop-slot.invariant.2 _ _ _ (rw slot at c.in_ok-piece.ensures.are)),
     )
 
 pub open_chosen-returns-clause-are : goal.open_chosen-returns-clause-are
@@ -47,7 +47,7 @@ open_chosen-returns-clause-are t c =
     let query = c.args.query.now in
     let slots = slots_read query c.args.t c.requires.small.there c.templates.result.now c.index-templates-t.result c.templates.ensures.list c.index-templates-t.is c.slots-slots.result.now
     c.slots-slots.ensures in
-    left_all query (slots_of query c.args.t) c.loop-slot.slot-index _ _ _ (rw slots at c.loop-slot-test.false) c.loop-slot.invariant.2
+    left_all query (slots_of query c.args.t) c.loop-slot.slot-index _ _ _ _ (rw slots at c.loop-slot-test.false) c.loop-slot.invariant.2
 
 -- ---- one slot
 
@@ -88,18 +88,18 @@ open_chosen_at-returns-then-number-count-clause-are t c =
     let within = is_within c.args.query.now c.args.slot.now _ _ c.member_count-count.ensures.count c.if-number-count.true in
     rw (c.in-Site.is, c.of-then-number-count.ensures)
     (member_chosen c.args.query.now _ _ _ _ c.args.code.now c.args.at (rw c.in-Site.is at c.requires.begins) c.if-number-eq0.false (rw c.in-Site.is at within)
-    c.in_ok-part-in-Site.next c.in_ok-part-in-Site.part (rw (c.member_at-member.ensures.member, c.in-Site.is) at c.in_ok-part-in-Site.ensures.is))
+    c.in_ok-part-in-Site.read.behind c.in_ok-part-in-Site.part c.in_ok-part-in-Site.read.one_ended (rw (c.member_at-member.ensures.member, c.in-Site.is) at c.in_ok-part-in-Site.ensures.is))
 
 pub open_chosen_at-returns-in-Link-clause-are : goal.open_chosen_at-returns-in-Link-clause-are
 open_chosen_at-returns-in-Link-clause-are t c =
-    rw (c.in-Link.is, c.of-in-Link.ensures) (link_chosen c.args.query.now c.in-Link.atom c.in-Link.most c.in-Link.from c.in-Link.to c.args.code.now c.args.at
+    rw (c.in-Link.is, c.of-in-Link.ensures, c.decided.ensures.behind, c.decided.ensures.one_ended) (link_chosen c.args.query.now c.in-Link.atom c.in-Link.most c.in-Link.from c.in-Link.to c.args.code.now c.args.at
     (rw c.in-Link.is at c.requires.begins) c.if-number-eq0.false)
 
 pub open_chosen_at-returns-else-number-count-clause-are :
     goal.open_chosen_at-returns-else-number-count-clause-are
 open_chosen_at-returns-else-number-count-clause-are t c =
     let above : length (members_at c.args.query.now c.args.slot.now) < get_or c.args.code.now c.args.at 0 = omega (arith, c.member_count-count.ensures.count, c.if-number-count.false) in
-    rw (c.left_open.ensures, c.draws_rest_hydrogens-rest.ensures, c.in-Site.is)
+    rw (c.decided-in-Site.ensures.behind, c.decided-in-Site.ensures.one_ended, c.left_open.ensures, c.draws_rest_hydrogens-rest.ensures, c.in-Site.is)
     (vacant_chosen c.args.query.now _ _ _ _ c.args.code.now c.args.at (rw c.in-Site.is at c.requires.begins) (rw c.in-Site.is at above))
 
 -- ---- a template
@@ -124,9 +124,9 @@ opened_by-returns-clause-is t c =
     let template = template_read query c.args.t c.requires.small.there c.templates.result.now c.index-templates-t.result c.templates.ensures.list c.index-templates-t.is in
     let chosen = c.in_ok-pieces.ensures.are in
     let pieces = c.deref.ensures.value ∙ chosen.are in
-    record { choice = chosen.choice; made = chosen.made; spelt = chosen.spelt; is = rw (template, pieces) at c.in_ok-part.ensures }
+    record { choice = chosen.choice; made = chosen.made; spelt = chosen.spelt; is = rw (template, pieces) at c.in_ok-part.ensures; ends = chosen.ends }
 
 pub open_chosen_at-returns-then-number-eq0-clause-are :
     goal.open_chosen_at-returns-then-number-eq0-clause-are
 open_chosen_at-returns-then-number-eq0-clause-are t c =
-    rw c.of.ensures (undecided_chosen c.args.query.now c.args.slot.now c.args.code.now c.args.at c.requires.begins c.if-number-eq0.true)
+    rw (c.of.ensures, c.has_one_end.ensures) (undecided_chosen c.args.query.now c.args.slot.now c.args.code.now c.args.at c.requires.begins c.if-number-eq0.true)

@@ -13,4 +13,4 @@ abbrev pub decreases-open_chosen_at : goal.decreases-open_chosen_at
 decreases-open_chosen_at l = 3 * (length l.code.now - l.at)
 
 abbrev pub invariant-open_chosen-loop-slot : goal.invariant-open_chosen-loop-slot
-invariant-open_chosen-loop-slot l = (l.at ≤ l.next) × (l.next ≤ length l.code) × Left l.query (slots_of l.query l.t) l.slot-index (drop l.at l.code) (drop l.next l.code) l.pieces.items
+invariant-open_chosen-loop-slot l = (l.at ≤ l.next) × (l.next ≤ length l.code) × Left l.query (slots_of l.query l.t) l.slot-index (drop l.at l.code) (drop l.next l.code) l.pieces.items l.one_ended

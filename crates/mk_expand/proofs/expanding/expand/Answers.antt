@@ -15,7 +15,7 @@ marked_graph-requires c =
     let query = c.args.query.now in
     let kept = c.templates-kept.ensures.kept in
     let part = c.in_ok-part.part in
-    let taken = decided_expanded query kept c.args.code.now _ part c.requires c.in_ok-part.ensures.is in
+    let taken = decided_expanded query kept c.args.code.now _ part _ c.requires c.in_ok-part.ensures.is in
     let bonds = c.in_ok-drawn.ensures ∙ ap (map bare) (c.deref.ensures.value ∙ c.into_lists-atoms.ensures.bonds) in
     let has = put_ordered query kept c.args.code.now _ part taken _ _ bonds c.put_in_order.ensures.same c.put_in_order.ensures.order in
     rw c.into_lists-atoms.ensures.atoms (fragment_sketch part (taken_fragment query kept c.args.code.now _ part taken) (taken_few query kept c.args.code.now _ part taken) _ has)
@@ -25,7 +25,7 @@ returns c =
     let query = c.args.query.now in
     let kept = c.templates-kept.ensures.kept in
     let part = c.in_ok-part.part in
-    let taken = decided_expanded query kept c.args.code.now _ part c.requires c.in_ok-part.ensures.is in
+    let taken = decided_expanded query kept c.args.code.now _ part _ c.requires c.in_ok-part.ensures.is in
     let bonds = c.in_ok-drawn.ensures ∙ ap (map bare) (c.deref.ensures.value ∙ c.into_lists-atoms.ensures.bonds) in
     let has = put_ordered query kept c.args.code.now _ part taken _ _ bonds c.put_in_order.ensures.same c.put_in_order.ensures.order in
     graph_of query kept c.args.code.now _ part taken c.requires _ has c.in_ok-graph.graph c.atom_count-count.ensures.kept

@@ -1,7 +1,7 @@
 use Rattle.std.proofs.Common.{◌∙◌, ap, map}
 use Rattle.mk_pieces.specs.Fragments.{bare}
 use Rattle.mk_pieces.proofs.ForCallers.{root_small}
-use Rattle.mk_expand.specs.OpenGraphs.{weaker_atom, weaker_bond}
+use Rattle.mk_expand.specs.OpenGraphs.{shared_atom, shared_bond}
 use Rattle.mk_expand.proofs.MadeLemmas.{bare_twice, made_graph, made_ordered, made_sketch, open_begins}
 use Rattle.mk_expand.proofs.open_graphs.open_graph.Goals as goal
 
@@ -17,9 +17,9 @@ marked_graph-requires c =
     let kept = c.templates-kept.ensures.kept in
     let opened_so = c.in_ok-part.ensures.is in
     let part = c.in_ok-part.part in
-    let bonds = c.in_ok-drawn.ensures ∙ bare_twice _ ∙ ap (λ bs. map bare (map weaker_bond bs)) (c.deref.ensures.value ∙ c.into_lists-atoms.ensures.bonds) in
-    let has = made_ordered query kept c.args.open.now _ part opened_so _ _ bonds c.put_in_order.ensures.same c.put_in_order.ensures.order in
-    rw (c.in_ok-weak.ensures, c.into_lists-atoms.ensures.atoms) (made_sketch query kept c.args.open.now _ part opened_so _ has)
+    let bonds = c.in_ok-drawn.ensures ∙ bare_twice _ _ ∙ ap (λ bs. map bare (map (shared_bond c.in_ok-part.read.one_ended) bs)) (c.deref.ensures.value ∙ c.into_lists-atoms.ensures.bonds) in
+    let has = made_ordered query kept c.args.open.now _ part _ opened_so _ _ bonds c.put_in_order.ensures.same c.put_in_order.ensures.order in
+    rw (c.in_ok-shared.ensures, c.into_lists-atoms.ensures.atoms) (made_sketch query kept c.args.open.now _ part _ opened_so _ has)
 
 pub returns : goal.returns
 returns c =
@@ -27,6 +27,6 @@ returns c =
     let kept = c.templates-kept.ensures.kept in
     let opened_so = c.in_ok-part.ensures.is in
     let part = c.in_ok-part.part in
-    let bonds = c.in_ok-drawn.ensures ∙ bare_twice _ ∙ ap (λ bs. map bare (map weaker_bond bs)) (c.deref.ensures.value ∙ c.into_lists-atoms.ensures.bonds) in
-    made_graph query kept c.args.open.now _ part opened_so c.requires _ _ bonds c.put_in_order.ensures.same c.in_ok-graph.graph c.atom_count-count.ensures.kept
-    (c.in_ok-graph.ensures.atoms ∙ c.in_ok-weak.ensures ∙ ap (map weaker_atom) c.into_lists-atoms.ensures.atoms) c.in_ok-graph.ensures.bonds
+    let bonds = c.in_ok-drawn.ensures ∙ bare_twice _ _ ∙ ap (λ bs. map bare (map (shared_bond c.in_ok-part.read.one_ended) bs)) (c.deref.ensures.value ∙ c.into_lists-atoms.ensures.bonds) in
+    made_graph query kept c.args.open.now _ part _ opened_so c.requires _ _ bonds c.put_in_order.ensures.same c.in_ok-graph.graph c.atom_count-count.ensures.kept
+    (c.in_ok-graph.ensures.atoms ∙ c.in_ok-shared.ensures ∙ ap (map (shared_atom c.in_ok-part.read.one_ended)) c.into_lists-atoms.ensures.atoms) c.in_ok-graph.ensures.bonds
