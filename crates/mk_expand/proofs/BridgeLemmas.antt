@@ -1,18 +1,17 @@
 -- A part on which all else of a whole hangs by bridges.
 --     rings_stay, none_leads_away, aromatic_stays      the laws
 use Rattle.std.proofs.Common.{◌≡◌, ◌≢◌, ◌∙◌, ◌⊎◌, ℕ, zero, suc, ◌+◌, ◌-◌, ◌%◌, ◌<◌, ◌≤◌, inl, inr, Bool, true, false, cond, ◌&&◌, ◌||◌, eqb, List, [], ◌∷◌, Some, get_or, refl, sym, ap, subst, arith}
-use Rattle.std.specs.Prelude.{IsTrue, slice_get}
-use Rattle.std.proofs.lemmas.Bool.{cases_eq, cases_lt}
+use Rattle.std.specs.Prelude.{slice_get}
 use Rattle.std.proofs.lemmas.Bool.Decides.{nat_tests}
 use Rattle.mk_model.specs.declared.edge.Edge.{Edge}
 use Rattle.mk_model.specs.Aromatic.{IsAromatic, IsClosed, IsSixCycle, Takes, TakesLabels}
 use Rattle.mk_model.specs.Edges.{HasEnds, HasKind, IsSimple, Joins}
 use Rattle.mk_model.specs.Hits.{image}
 use Rattle.mk_model.specs.Rings.{IsRingBond, IsWay, Step}
-use Rattle.mk_marks.proofs.JoinLemmas.{get_or-from_get, joins_ends, joins_within}
+use Rattle.mk_marks.proofs.JoinLemmas.{get_or-from_get, joins_within}
 use Rattle.mk_marks.proofs.WayLemmas.{IsRingBond-linked, Linked, joins_back, linked_back, linked_by, linked_here, linked_on, same_ends}
 use Rattle.mk_rings.proofs.BridgeLemmas.{IsRingBond-round}
-use Rattle.mk_expand.specs.Bridges.{AromaticSetStays, HangsOn, IsBeyond, IsBridge, IsPartBond, LiesThere, NoRingBondLeadsAway, RingBondsStay, SameKind}
+use Rattle.mk_expand.specs.Bridges.{AromaticSetStays, HangsOn, IsBridge, IsPartBond, LiesThere, NoRingBondLeadsAway, RingBondsStay, SameKind}
 
 -- ---- the place of a bond between two atoms
 

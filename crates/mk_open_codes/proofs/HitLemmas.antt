@@ -1,14 +1,13 @@
 -- An embedding of the whole, at the atoms that it shares with a part, is one of the part.
 --     hydrogens_weaker .. meets_weaker     what is asked of a molecule, weakened
 --     hit_shared                           the theorem
-use Rattle.std.proofs.Common.{◌≡◌, ◌≢◌, ◌∙◌, ℕ, ℤ, pos, negsuc, zero, suc, ◌+◌, ◌-◌, ◌<◌, ◌≤◌, inl, inr, Bool, true, false, cond, ◌&&◌, ◌||◌, not, eqb, leb, List, [], ◌∷◌, Some, length, get_or, map, refl, sym, ap, subst, arith, AllPairs, Contains}
+use Rattle.std.proofs.Common.{◌≡◌, ◌≢◌, ◌∙◌, ℕ, ℤ, pos, negsuc, zero, suc, ◌+◌, ◌-◌, ◌<◌, ◌≤◌, inl, inr, Bool, true, false, cond, ◌&&◌, ◌||◌, not, eqb, leb, List, Some, length, get_or, map, refl, sym, ap, subst, arith, AllPairs, Contains}
 use Rattle.std.specs.Prelude.{count_by, slice_get}
-use Rattle.std.specs.List.Sorted.{IsPermutation}
-use Rattle.std.proofs.lemmas.Bool.{cases_eq, cases_lt}
+use Rattle.std.proofs.lemmas.Bool.{cases_eq}
 use Rattle.std.proofs.lemmas.Bool.Decides.{nat_tests}
 use Rattle.std.proofs.lemmas.List.{get_or-map, length-map}
 use Rattle.std.proofs.lemmas.List.Elements.{Contains-get_or}
-use Rattle.std.proofs.lemmas.List.Sorted.{Contains-permutation, IsPermutation-sym, sum_by-IsPermutation}
+use Rattle.std.proofs.lemmas.List.Sorted.{sum_by-IsPermutation}
 use Rattle.mk_model.specs.declared.atom_test.AtomTest.{AtomTest}
 use Rattle.mk_model.specs.declared.atom_test.Kind.TheVariants.{Anything}
 use Rattle.mk_model.specs.declared.graph.GraphAtom.{GraphAtom}
@@ -31,7 +30,7 @@ use Rattle.mk_expand.proofs.CountLemmas.{count_mapped, count_same, one_if}
 use Rattle.mk_open_codes.proofs.HungLemmas.{IsHung}
 use Rattle.mk_open_codes.proofs.MarkLemmas.{Draws, DrawsShared, IsBondShared, atoms_count, bond_shared, differ, ends_of, marks_same, of_mapped, rings_same}
 use Rattle.mk_open_codes.proofs.PairLemmas.{Ends, counted_within, with_ends}
-use Rattle.mk_open_codes.proofs.SharedLemmas.{IsShared, moved}
+use Rattle.mk_open_codes.proofs.SharedLemmas.{IsShared}
 use Rattle.mk_open_codes.proofs.SpokeLemmas.{meets_at, spoke}
 
 -- ---- weaker tests

@@ -7,13 +7,12 @@
 use Rattle.std.proofs.Common.{◌≡◌, ◌≢◌, ◌∙◌, ◌⊎◌, ℕ, zero, suc, ◌+◌, ◌-◌, ◌<◌, ◌≤◌, inl, inr, Bool, true, false, cond, ◌&&◌, ◌||◌, eqb, ltb, List, [], ◌∷◌, length, get_or, map, refl, sym, ap, subst, arith}
 use Rattle.std.specs.Prelude.{Contains}
 use Rattle.std.specs.List.{flat_map}
-use Rattle.std.proofs.lemmas.Bool.{cases_eq}
 use Rattle.std.proofs.lemmas.Bool.Decides.{nat_tests}
 use Rattle.std.proofs.lemmas.List.Elements.{All-contains, Contains-append_cases, Contains-append_left, Contains-append_right, Contains-get_or}
 use Rattle.mk_model.specs.declared.template.QueryBond.{QueryBond}
 use Rattle.mk_model.specs.declared.template.Slot.{Slot}
 use Rattle.mk_model.specs.declared.template.Slot.TheVariants.{Link, Site}
-use Rattle.mk_model.specs.Expansions.{all_within, bond_between, bond_joining, bonds_within, chained, copied, drawn, is_hydrogens, is_inside, is_nothing, joined, shifted}
+use Rattle.mk_model.specs.Expansions.{all_within, bond_between, bond_joining, bonds_within, copied, drawn, is_hydrogens, is_inside, is_nothing, joined, shifted}
 use Rattle.mk_model.specs.Hits.{image}
 use Rattle.mk_model.specs.Pieces.{Fragment, Piece, before, end_of, ending, is_far_of, numbers_to, piece, piece_numbered, room, taker, width}
 use Rattle.mk_model.specs.Pieces.Piece.{Copies, Member, Hydrogens, Nothing}
@@ -22,7 +21,7 @@ use Rattle.mk_model.specs.Sizes.{takes_atom}
 use Rattle.mk_model.specs.Templates.{TemplateView, neighbour_count, slot_atom}
 use Rattle.mk_pieces.specs.Fragments.{IsLowerFirst}
 use Rattle.mk_pieces.specs.Kept.{IsSlotOf}
-use Rattle.mk_pieces.specs.Rooms.{AreEndsWithin, IsWithin, StandsAt}
+use Rattle.mk_pieces.specs.Rooms.{IsWithin, StandsAt}
 use Rattle.mk_pieces.proofs.DrawnLemmas.{copied_is, drawn_inside, drawn_outside, piece_ends}
 use Rattle.mk_pieces.proofs.JoiningLemmas.{in_flat, in_mapped, in_slots, is_spanned, spanned_is}
 use Rattle.mk_pieces.proofs.NumberLemmas.{mapped_at, mapped_length}
@@ -33,7 +32,7 @@ use Rattle.mk_pieces.proofs.TemplateLemmas.{bonds_within as template_bonds, slot
 use Rattle.mk_pieces.proofs.WithinLemmas.{all_within_one, chained_is, image_of as shifted_of}
 use Rattle.mk_expand.specs.Bridges.{IsBeyond, IsBridge}
 use Rattle.mk_expand.specs.OpenGraphs.{opened}
-use Rattle.mk_expand.proofs.StandLemmas.{joined_size, opened_size}
+use Rattle.mk_expand.proofs.StandLemmas.{opened_size}
 use Rattle.mk_open_codes.proofs.BondLemmas.{IsInLink, in_link, nothing_wide}
 use Rattle.mk_open_codes.proofs.MovedLemmas.{bond_is, copy_at, moved_between, row_held, step_held}
 use Rattle.mk_open_codes.proofs.PlaceLemmas.{IsLevel, IsOwned, IsPlaceOf, ending_moved, grows, image_at, image_place, laid_at, level_places, own_places, owner, place_within}

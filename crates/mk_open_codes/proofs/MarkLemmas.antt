@@ -5,8 +5,8 @@
 --     bond_shared                  a bond of the part, and the bond of the whole
 --     marks_same                   where all else hangs by bridges, both have the same marks
 --     rings_same                   and an atom has as many ring bonds in both
-use Rattle.std.proofs.Common.{◌≡◌, ◌≢◌, ◌∙◌, ◌⊎◌, ℕ, zero, suc, ◌+◌, ◌-◌, ◌<◌, ◌≤◌, inl, inr, Bool, true, false, cond, ◌&&◌, ◌||◌, eqb, List, [], ◌∷◌, Some, length, get_or, map, refl, sym, ap, subst, arith, AllPairs, Contains}
-use Rattle.std.specs.Prelude.{IsTrue, count_by, filter, slice_get}
+use Rattle.std.proofs.Common.{◌≡◌, ◌≢◌, ◌∙◌, ◌⊎◌, ℕ, zero, suc, ◌<◌, ◌≤◌, inl, inr, Bool, true, false, ◌&&◌, ◌||◌, eqb, List, [], ◌∷◌, Some, length, get_or, map, refl, sym, ap, subst, arith, AllPairs, Contains}
+use Rattle.std.specs.Prelude.{count_by, filter, slice_get}
 use Rattle.std.specs.List.Sorted.{IsPermutation}
 use Rattle.std.proofs.lemmas.Bool.{cases_eq, cases_lt}
 use Rattle.std.proofs.lemmas.Bool.Decides.{nat_tests}
@@ -16,7 +16,6 @@ use Rattle.std.proofs.lemmas.List.Kept.{AllPairs-filter}
 use Rattle.std.proofs.lemmas.List.Sorted.{Contains-permutation, IsPermutation-sym}
 use Rattle.std.proofs.lemmas.List.Sums.{length-filter}
 use Rattle.mk_model.specs.declared.edge.Edge.{Edge}
-use Rattle.mk_model.specs.declared.graph.GraphAtom.{GraphAtom}
 use Rattle.mk_model.specs.declared.graph.GraphBond.{GraphBond}
 use Rattle.mk_model.specs.declared.template.QueryBond.{QueryBond}
 use Rattle.mk_model.specs.Edges.{HasEnds, HasKind, IsSimple, Joins, touches}
@@ -28,10 +27,10 @@ use Rattle.mk_model.specs.Pieces.{Fragment}
 use Rattle.mk_text.proofs.ForCallers.{both as both_parts}
 use Rattle.mk_model.proofs.ForCallers.{at_place, kept_all, kept_within, place_is, place_within}
 use Rattle.mk_pieces.proofs.JoiningLemmas.{in_mapped}
-use Rattle.mk_expand.specs.Bridges.{HangsOn, IsPartBond, LiesThere, SameKind}
+use Rattle.mk_expand.specs.Bridges.{HangsOn, LiesThere, SameKind}
 use Rattle.mk_expand.specs.OpenGraphs.{shared_atom, shared_bond, shared_kind}
 use Rattle.mk_expand.proofs.BridgeLemmas.{aromatic_stays, none_leads_away, rings_stay}
-use Rattle.mk_expand.proofs.CountLemmas.{count_cons, one_if}
+use Rattle.mk_expand.proofs.CountLemmas.{count_cons}
 use Rattle.mk_open_codes.proofs.HungLemmas.{IsHung, LiesSo}
 use Rattle.mk_open_codes.proofs.PairLemmas.{Ends, counted_within, with_ends}
 use Rattle.mk_open_codes.proofs.SharedLemmas.{IsShared, moved}
@@ -71,6 +70,10 @@ place_held bonds bond (k, below, is) = (k, at_place bonds k bond below ∙ ap So
 
 joins_of : (bonds : List GraphBond) (k : ℕ) (bond : GraphBond) → slice_get bonds k ≡ Some bond → Joins (graph_edges bonds) k bond.first bond.second
 joins_of bonds k bond at = record { edge = graph_edge bond; at = edge_at bonds k bond at; ends = inl (refl, refl) }
+
+-- one bond stands at a place
+one_bond : (bonds : List GraphBond) (b c : ℕ) (bond other : GraphBond) → slice_get bonds b ≡ Some bond → slice_get bonds c ≡ Some other → b ≡ c → bond ≡ other
+one_bond bonds b c bond other at at' same = (let both : Some bond ≡ Some other = sym at ∙ ap (slice_get bonds) same ∙ at' in cc)
 
 -- two bonds of one type
 same_kinds : (bonds others : List GraphBond) (b c : ℕ) (bond other : GraphBond) → slice_get bonds b ≡ Some bond → slice_get others c ≡ Some other → bond.kind ≡ other.kind
@@ -356,6 +359,23 @@ module _ (stays : Bool) (small large : Fragment) (places : List ℕ) (shared : I
           at there (inl first) = inl (there.first ∙ ap (image places) first)
           at there (inr second) = inr (there.second ∙ ap (image places) second)
 
+      -- a bond of the part at x, where the bond of the whole is a ring bond
+      at_bond : (c : ℕ) (other : GraphBond) → slice_get whole.bonds c ≡ Some other → other.ring ≡ true → (b q : ℕ) → Joins (graph_edges part.bonds) b x q
+          → Joins (graph_edges whole.bonds) c (image places x) (image places q) → (bond : GraphBond) → slice_get part.bonds b ≡ Some bond → HasEnds (graph_edge bond) x q
+          → (there : IsBondShared bond) (d : ℕ) → slice_get whole.bonds d ≡ Some there.other
+          → ((touches x (graph_edge bond) && bond.ring) ≡ true) × (with_ends (image places bond.first) (image places bond.second) ≡ ends_of other)
+      at_bond c other at ring b q j k bond at' ends there d at'' =
+          let marks = marks_at b c bond other x q at' at j k in
+          let one : d ≡ c = simple'.once d c (image places x) (image places q) (joins_there bond there d x q at'' ends) k in
+          let same : there.other ≡ other = one_bond whole.bonds d c there.other other at'' at one in (
+            both_true (touches x (graph_edge bond)) bond.ring (touching x (graph_edge bond) (end ends)) (marks.0 ∙ ring),
+            sym (ap (λ (n : ℕ). with_ends n there.other.second) there.first ∙ ap (with_ends (image places bond.first)) there.second) ∙ ap ends_of same,
+          )
+        where
+          end : HasEnds (graph_edge bond) x q → (bond.first ≡ x) ⊎ (bond.second ≡ x)
+          end (inl s) = inl s.0
+          end (inr s) = inr s.1
+
       -- a ring bond of the whole at its place
       downward : (other : GraphBond) → Contains whole.bonds other → (touches (image places x) (graph_edge other) && other.ring) ≡ true
           → (bond : GraphBond) × Contains part.bonds bond × ((touches x (graph_edge bond) && bond.ring) ≡ true)
@@ -373,28 +393,14 @@ module _ (stays : Bool) (small large : Fragment) (places : List ℕ) (shared : I
           from v k =
               let ring = (drawn.kept.marks place.0 other place.1).ring.0 parts.1 in
               let home_bond = none_leads_away (graph_edges part.bonds) (graph_edges whole.bonds) (length small.atoms) (length whole.atoms) places simple simple' hangs_on place.0 x v is_x.0 is_x.1 k ring in
-              let b = home_bond.0 in
-              let q = home_bond.1 in
-              let j = home_bond.2 in
-              let k' : Joins (graph_edges whole.bonds) place.0 (image places x) (image places q) = subst (Joins (graph_edges whole.bonds) place.0 (image places x)) (sym home_bond.3) k in
-              let found = bond_at part.bonds b j.edge j.at in
-              let held' = held_at part.bonds b found.bond found.at in
-              let ends : HasEnds (graph_edge found.bond) x q = subst (λ (d : Edge). HasEnds d x q) (sym found.is) j.ends in
-              let marks = marks_at b place.0 found.bond other x q found.at place.1 j k' in
+              let k' : Joins (graph_edges whole.bonds) place.0 (image places x) (image places home_bond.1) = subst (Joins (graph_edges whole.bonds) place.0 (image places x)) (sym home_bond.3) k in
+              let found = bond_at part.bonds home_bond.0 home_bond.2.edge home_bond.2.at in
+              let held' = held_at part.bonds home_bond.0 found.bond found.at in
+              let ends : HasEnds (graph_edge found.bond) x home_bond.1 = subst (λ (d : Edge). HasEnds d x home_bond.1) (sym found.is) home_bond.2.ends in
               let there = bond_shared found.bond held' in
               let place' = place_held whole.bonds there.other there.held in
-              let one : place'.0 ≡ place.0 = simple'.once place'.0 place.0 (image places x) (image places q) (joins_there found.bond there place'.0 x q place'.1 ends) k' in
-              let both : Some there.other ≡ Some other = sym place'.1 ∙ ap (slice_get whole.bonds) one ∙ place.1 in
-              let same : there.other ≡ other = cc in (
-                found.bond,
-                held',
-                both_true (touches x (graph_edge found.bond)) found.bond.ring (touching x (graph_edge found.bond) (end (graph_edge found.bond) q ends)) (marks.0 ∙ parts.1),
-                sym (ap (λ (n : ℕ). with_ends n there.other.second) there.first ∙ ap (with_ends (image places found.bond.first)) there.second) ∙ ap ends_of same,
-              )
-            where
-              end : (d : Edge) (q : ℕ) → HasEnds d x q → (d.first ≡ x) ⊎ (d.second ≡ x)
-              end d q (inl s) = inl s.0
-              end d q (inr s) = inr s.1
+              let both = at_bond place.0 other place.1 parts.1 home_bond.0 home_bond.1 home_bond.2 k' found.bond found.at ends there place'.0 place'.1 in
+              (found.bond, held', both.0, both.1)
 
           by : (other.first ≡ image places x) ⊎ (other.second ≡ image places x) → (bond : GraphBond) × Contains part.bonds bond × ((touches x (graph_edge bond) && bond.ring) ≡ true)
               × (with_ends (image places bond.first) (image places bond.second) ≡ ends_of other)
