@@ -23,13 +23,15 @@ use Rattle.mk_walk.proofs.TurnLemmas.{node_below, node_short}
 pub over_not : (xs ys : List ℕ) → IsBelow xs ys → IsBelow ys xs → ⊥
 over_not xs ys over under = not_below_itself xs (below_through xs ys xs over under)
 
+-- the hit that is reached is the least from each place where the same are left
+pub item_least : (graph : GraphView) (mol : Molecule) (place from : List ℕ) → SameFrom (IsHit graph mol) place from
+    → (hit : List ℕ) → SameFrom (IsHit graph mol) from hit → IsHit graph mol hit → IsLeast place (IsHit graph mol) hit
+item_least graph mol place from left hit least is = least_of (IsHit graph mol) place hit (same_through (IsHit graph mol) place from hit left least) is
+
 module _ (graph : GraphView) (mol : Molecule) (place : List ℕ) (debt : ℕ) (from : List ℕ)
     (left : SameFrom (IsHit graph mol) place from) (up : IsBelow from place → ⊥)
     (owed : debt ≡ 0 → IsBelow place from) where
   -- ---- a hit
-
-  pub item_least : (hit : List ℕ) → SameFrom (IsHit graph mol) from hit → IsHit graph mol hit → IsLeast place (IsHit graph mol) hit
-  item_least hit least is = least_of (IsHit graph mol) place hit (same_through (IsHit graph mol) place from hit left least) is
 
   pub item_pays : (hit : List ℕ) → IsVisit graph mol from hit → Pays (IsMapNode graph mol) place debt (hit ++ 0 ∷ []) 0
   item_pays hit visit = pays_visit (IsMapNode graph mol) place from hit (hit ++ 0 ∷ []) debt visit.is visit.not_below up owed (not_below_front hit (0 ∷ []))

@@ -1,5 +1,6 @@
 -- What a turn of a search comes to. This file serves the code alone.
 --     node_reached search                        the list that its walk came to last
+--     IsNextFrom graph mol place new turn        of the hits from a place on
 --     Turns graph mol place debt new turn        from a place, with what is owed there
 use Rattle.std.specs.Prelude.{◌≡◌, ◌<◌, ◌≤◌, ℕ, List, [], ◌∷◌, ◌++◌, None, length}
 use Rattle.mk_text.specs.Rising.{IsLeast, IsLeastFrom}
@@ -17,6 +18,13 @@ use Rattle.mk_walk.specs.Walk.{SameFrom}
 -- the list that the walk came to last
 abbrev pub node_reached : Search → List ℕ
 node_reached search = node_of search.walk.images.items search.walk.depth search.walk.above
+
+-- The least hit from the place on is taken out; or all of them are left, and the next turn says
+-- what this one would; or there are none.
+abbrev pub IsNextFrom : GraphView → Molecule → List ℕ → Search → Turn → Type 0
+IsNextFrom graph mol place new Item = IsLeast place (IsHit graph mol) new.walk.images.items
+IsNextFrom graph mol place new Moved = IsLeft graph mol place new
+IsNextFrom graph mol place new End = IsLeastFrom place (IsHit graph mol) None
 
 -- the first hit is taken out, and the place is behind it
 pub record TakesOut (graph : GraphView) (mol : Molecule) (place : List ℕ) (debt : ℕ) (new : Search) : Type 0 where

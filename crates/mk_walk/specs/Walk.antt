@@ -3,6 +3,7 @@
 --     IsWalk graph mol images levels depth      the first images may be those of a hit, and the
 --                                               levels say where they stand
 --     lists_from most n place            how many lists of n numbers aren't below the place
+--     lists_left graph mol images depth above   how many the walk has still to look at
 use Rattle.std.specs.Prelude.{◌≡◌, ◌<◌, ◌+◌, ◌*◌, ◌-◌, ◌^◌, ℕ, zero, suc, List, [], ◌∷◌, ◌++◌, length, take, slice_index}
 use Rattle.mk_model.specs.Molecules.{IsMolecule, Molecule}
 use Rattle.mk_model.specs.Graphs.{GraphView, IsGraph}
@@ -30,3 +31,7 @@ unfoldable pub lists_from : ℕ → ℕ → List ℕ → ℕ
 lists_from most n [] = (most + 1) ^ n
 lists_from most zero (x ∷ place) = 0
 lists_from most (suc n) (x ∷ place) = (most - x) * (most + 1) ^ n + lists_from most n place
+
+-- how many lists of as many numbers as the graph has atoms the walk has still to look at
+abbrev pub lists_left : GraphView → Molecule → List ℕ → ℕ → ℕ → ℕ
+lists_left graph mol images depth above = lists_from (length mol.atoms + 1) (length graph.atoms) (place_of images depth above)

@@ -32,9 +32,10 @@ pub struct Search {
 }
 
 impl Search {
-    ghost use Rattle.std.specs.Prelude.{◌∷◌, ◌++◌, [], None, List, ℕ, false};
+    ghost use Rattle.std.specs.Prelude.{◌<◌, ◌∷◌, ◌++◌, [], None, List, ℕ, false};
     ghost use Rattle.mk_walk.specs.Search.{IsLeft, IsOwed, IsSearch};
-    ghost use Rattle.mk_walk.specs.SearchTurns.{Turns};
+    ghost use Rattle.mk_walk.specs.SearchTurns.{IsNextFrom, Turns};
+    ghost use Rattle.mk_walk.specs.Walk.{lists_left};
 
     /// A search for the hits that aren't below the front.
     pub fn of(alloc: Global, graph: &Graph, mol: &Mol, front: &[u32]) -> Result<Search, Memory>
@@ -114,22 +115,12 @@ impl Search {
         ensures ended { result ≡ false → (place : List ℕ) → IsLeft graph.now mol.now place self.old → IsLeft graph.now mol.now place self.new }
         ensures unowed { result ≡ false → (place : List ℕ) (debt : ℕ) → IsOwed place debt self.new }
     {
-        match self.stage {
-            Stage::Walking => {
-                if self
-                    .walk
-                    .go_on(graph, mol, &self.fits, &self.hydrogens, &mut self.outlook)
-                {
-                    return true;
-                }
-                self.stage = Stage::Ended;
-                false
+        'search: loop {
+            match self.step(graph, mol) {
+                Turn::Item => return true,
+                Turn::Moved => {}
+                Turn::End => return false,
             }
-            Stage::Once => {
-                self.stage = Stage::Ended;
-                true
-            }
-            Stage::Ended => false,
         }
     }
 
@@ -140,6 +131,22 @@ impl Search {
         ensures kept { IsSearch graph.now mol.now self.new }
         ensures turns { (place : List ℕ) (debt : ℕ) → IsLeft graph.now mol.now place self.old → IsOwed place debt self.old
             → Turns graph.now mol.now place debt self.new result }
+    {
+        self.step(graph, mol)
+    }
+
+    // The turn of which `go_on` takes as many as it needs, and `turn` one.
+    fn step(&mut self, graph: &Graph, mol: &Mol) -> Turn
+        requires { IsSearch graph.now mol.now self.old }
+        ensures kept { IsSearch graph.now mol.now self.new }
+        ensures turns { (place : List ℕ) (debt : ℕ) → IsLeft graph.now mol.now place self.old → IsOwed place debt self.old
+            → Turns graph.now mol.now place debt self.new result }
+        ensures next { (place : List ℕ) → IsLeft graph.now mol.now place self.old → IsNextFrom graph.now mol.now place self.new result }
+        ensures left { result ≡ Turn.Item → IsLeft graph.now mol.now (self.new.walk.images.items ++ 0 ∷ []) self.new }
+        ensures owed { result ≡ Turn.Item → IsOwed (self.new.walk.images.items ++ 0 ∷ []) 0 self.new }
+        ensures fewer { result ≡ Turn.Moved → lists_left graph.now mol.now self.new.walk.images.items self.new.walk.depth self.new.walk.above
+            < lists_left graph.now mol.now self.old.walk.images.items self.old.walk.depth self.old.walk.above }
+        ensures end { result ≡ Turn.End → self.new.stage ≡ Stage.Ended }
     {
         match self.stage {
             Stage::Walking => match self

@@ -7,7 +7,7 @@ ghost use Rattle.mk_walk.specs.Begun.{MayStand};
 ghost use Rattle.mk_walk.specs.Hydrogens.{ArePlain};
 ghost use Rattle.mk_walk.specs.Table.{IsTable};
 ghost use Rattle.mk_walk.specs.Turns.{GoesOn, IsVisit, node_of};
-ghost use Rattle.mk_walk.specs.Walk.{IsWalk, SameFrom, lists_from, place_of};
+ghost use Rattle.mk_walk.specs.Walk.{IsWalk, SameFrom, lists_left, place_of};
 
 use crate::candidates::{is_among, next_atom};
 use crate::earlier_bonds::{anchor_of, are_bonds_met};
@@ -102,35 +102,6 @@ impl Walk {
         }
     }
 
-    /// Goes on to the least hit that is left, and stands behind it; tells whether there is one.
-    pub fn go_on(
-        &mut self,
-        graph: &Graph,
-        mol: &Mol,
-        fits: &[bool],
-        hydrogens: &[PlainHydrogen],
-        outlook: &mut Outlook,
-    ) -> bool
-        requires table { IsTable graph.now mol.now fits.now }
-        requires plain { ArePlain graph.now hydrogens.now }
-        requires kept { IsWalk graph.now mol.now self.old.images.items self.old.levels.items self.old.depth }
-        ensures kept { IsWalk graph.now mol.now self.new.images.items self.new.levels.items self.new.depth }
-        ensures hit { IsTrue result → IsHit graph.now mol.now self.new.images.items }
-        ensures least { IsTrue result → SameFrom (IsHit graph.now mol.now) (place_of self.old.images.items self.old.depth self.old.above) self.new.images.items }
-        ensures behind { IsTrue result → SameFrom (IsHit graph.now mol.now) (self.new.images.items ++ 0 ∷ []) (place_of self.new.images.items self.new.depth self.new.above) }
-        ensures over { IsTrue result → IsBelow (self.new.images.items ++ 0 ∷ []) (place_of self.new.images.items self.new.depth self.new.above) }
-        ensures none { result ≡ false → IsLeastFrom (place_of self.old.images.items self.old.depth self.old.above) (IsHit graph.now mol.now) None }
-    {
-        'walk: loop {
-            match self.step(graph, mol, fits, hydrogens, outlook) {
-                Step::Item => return true,
-                Step::Node => {}
-                Step::Back => {}
-                Step::End => return false,
-            }
-        }
-    }
-
     /// Goes on to the next node: a hit or not.
     pub fn turn(
         &mut self,
@@ -145,6 +116,7 @@ impl Walk {
         requires kept { IsWalk graph.now mol.now self.old.images.items self.old.levels.items self.old.depth }
         ensures kept { IsWalk graph.now mol.now self.new.images.items self.new.levels.items self.new.depth }
         ensures moved { result ≡ Turn.Moved → SameFrom (IsHit graph.now mol.now) (place_of self.old.images.items self.old.depth self.old.above) (place_of self.new.images.items self.new.depth self.new.above) }
+        ensures fewer { result ≡ Turn.Moved → lists_left graph.now mol.now self.new.images.items self.new.depth self.new.above < lists_left graph.now mol.now self.old.images.items self.old.depth self.old.above }
         ensures node { result ≡ Turn.Moved → IsVisit graph.now mol.now (place_of self.old.images.items self.old.depth self.old.above) (node_of self.new.images.items self.new.depth self.new.above) }
         ensures hit { result ≡ Turn.Item → IsHit graph.now mol.now self.new.images.items }
         ensures least { result ≡ Turn.Item → SameFrom (IsHit graph.now mol.now) (place_of self.old.images.items self.old.depth self.old.above) self.new.images.items }
@@ -196,8 +168,7 @@ impl Walk {
         requires kept { IsWalk graph.now mol.now self.old.images.items self.old.levels.items self.old.depth }
         ensures kept { IsWalk graph.now mol.now self.new.images.items self.new.levels.items self.new.depth }
         ensures moved { GoesOn result → SameFrom (IsHit graph.now mol.now) (place_of self.old.images.items self.old.depth self.old.above) (place_of self.new.images.items self.new.depth self.new.above) }
-        ensures fewer { GoesOn result → lists_from (length mol.now.atoms + 1) (length graph.now.atoms) (place_of self.new.images.items self.new.depth self.new.above)
-            < lists_from (length mol.now.atoms + 1) (length graph.now.atoms) (place_of self.old.images.items self.old.depth self.old.above) }
+        ensures fewer { GoesOn result → lists_left graph.now mol.now self.new.images.items self.new.depth self.new.above < lists_left graph.now mol.now self.old.images.items self.old.depth self.old.above }
         ensures up { result ≡ Step.Back → IsBelow (place_of self.old.images.items self.old.depth self.old.above) (place_of self.new.images.items self.new.depth self.new.above) }
         ensures node { result ≡ Step.Node → IsVisit graph.now mol.now (place_of self.old.images.items self.old.depth self.old.above) (node_of self.new.images.items self.new.depth self.new.above) }
         ensures hit { result ≡ Step.Item → IsHit graph.now mol.now self.new.images.items }

@@ -1,4 +1,4 @@
-use Rattle.std.proofs.Common.{refl}
+use Rattle.std.proofs.Common.{refl, arith}
 use Rattle.mk_text.proofs.ForCallers.{below_through, not_below_itself}
 use Rattle.mk_model.specs.Hits.{IsHit}
 use Rattle.mk_model.proofs.ForCallers.{not_below_through}
@@ -11,7 +11,7 @@ pub turn-init : goal.turn-init
 turn-init c =
     let w = c.args.self.now in
     let place = place_of w.images.items w.depth w.above in
-    (c.requires.kept, same_here (IsHit c.args.graph.now c.args.mol.now) place, not_below_itself place)
+    (c.requires.kept, same_here (IsHit c.args.graph.now c.args.mol.now) place, not_below_itself place, omega arith)
 
 pub returns-in-Node-clause-node : goal.returns-in-Node-clause-node
 returns-in-Node-clause-node c = λ _.
@@ -26,6 +26,9 @@ returns-in-Node-clause-node c = λ _.
           c.turn.invariant.2;
     }
 
+pub returns-in-Node-clause-fewer : goal.returns-in-Node-clause-fewer
+returns-in-Node-clause-fewer c = λ _. omega (arith, c.in-Node.ensures.fewer tt, c.turn.invariant.3)
+
 pub turn-preserved : goal.turn-preserved
 turn-preserved c =
     let w = c.args.self.now in
@@ -37,4 +40,5 @@ turn-preserved c =
       c.in-Back.ensures.kept,
       same_through (IsHit c.args.graph.now c.args.mol.now) start here there c.turn.invariant.1 (c.in-Back.ensures.moved tt),
       λ below. c.turn.invariant.2 (below_through here there start (c.in-Back.ensures.up refl) below),
+      omega (arith, c.in-Back.ensures.fewer tt, c.turn.invariant.3),
     )
