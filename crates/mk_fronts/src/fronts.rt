@@ -10,6 +10,7 @@ use crate::asks::Ask;
 use crate::known::Known;
 use mk_model::{Memory, Mol, Query, Screen};
 use mk_open_codes::{root_need, root_places, root_slots};
+use mk_walk::pay;
 use std::alloc::Global;
 use std::fmt;
 use std::marker::Model;
@@ -25,6 +26,7 @@ pub struct Fronts<'a> {
     need: Screen,
     places: Vec<u32>,
     last: Vec<u32>,
+    has_root: bool,
     begun: bool,
 }
 
@@ -57,18 +59,22 @@ impl<'a> Fronts<'a> {
             need,
             places: Vec::new(alloc),
             last: Vec::new(alloc),
+            has_root: false,
             begun: false,
         })
     }
 
-    /// Forgets what it knows of a molecule: the next calls are of another.
-    pub fn restart(&mut self)
+    /// Forgets what it knows of a molecule: the next calls are of another. Which slot of the root is
+    /// asked first goes by a number, so that searches that are taken up again don't ask the same slots
+    /// alone.
+    pub fn restart(&mut self, from: usize)
         ensures nothing { KnowsNothing self.new }
         ensures query { self.new.query ≡ self.old.query }
     {
         self.last.clear();
         self.begun = false;
-        self.known.restart();
+        self.has_root = false;
+        self.known.restart(from);
     }
 
     /// What all codes need of a screen.
@@ -79,13 +85,15 @@ impl<'a> Fronts<'a> {
     }
 
     /// With how many numbers the code begins a front that the molecule can't hold, where it finds one.
-    /// It begins no matcher: nothing is counted, and no hit is given.
+    /// It begins no matcher: nothing is counted, and no hit is given. What it asks is paid from the
+    /// purse; what isn't asked any more is taken to be held, and asked by a later call.
     pub fn passed(
         &mut self,
         alloc: Global,
         code: &[u32],
         mol: &Mol,
         screen: &Screen,
+        purse: &mut u64,
     ) -> Result<Option<usize>, Memory>
         requires code { IsCode self.old.query 0 code.now }
         requires known { IsKnownOf mol.now self.old }
@@ -95,40 +103,75 @@ impl<'a> Fronts<'a> {
 
         ensures known { IsKnownOf mol.now self.new }
         ensures query { self.new.query ≡ self.old.query }
+        ensures paid { purse.new ≤ purse.old }
     {
-        if !self.begin(alloc, mol, screen)? {
+        if !self.begin(alloc, mol, screen, purse)? {
             return Ok(Some(0));
         }
         root_places(self.known.query(), code, &mut self.places)?;
         let from = shared(&self.last, code);
-        let found = self
+        let seen = self
             .known
-            .first_refused(alloc, code, &self.places, from, mol, screen)?;
-        remember(&mut self.last, code, found)?;
-        Ok(found)
+            .first_refused(alloc, code, &self.places, from, mol, screen, purse)?;
+        remember(&mut self.last, code, seen.held)?;
+        Ok(seen.refused)
     }
 
     // Tells whether the molecule may hold any code, by the empty front, and by some number alone at
-    // each slot of the root. It does so once a molecule.
-    fn begin(&mut self, alloc: Global, mol: &Mol, screen: &Screen) -> Result<bool, Memory>
+    // each slot of the root, for which it takes half of the purse. It does so once a molecule.
+    fn begin(
+        &mut self,
+        alloc: Global,
+        mol: &Mol,
+        screen: &Screen,
+        purse: &mut u64,
+    ) -> Result<bool, Memory>
         requires some { BeginsCode self.old.query [] }
         requires known { IsKnownOf mol.now self.old }
         requires screen { IsScreenOf mol.now screen.now }
         ensures none { IfOk result (λ may. may ≡ false → HoldsNone self.old.query mol.now []) }
         ensures known { IsKnownOf mol.now self.new }
         ensures query { self.new.query ≡ self.old.query }
+        ensures paid { purse.new ≤ purse.old }
     {
         if self.begun {
             return Ok(true);
         }
-        if !self.known.may_hold_front(alloc, &[], mol, screen)? {
+        if !self.may_hold_root(alloc, mol, screen, purse)? {
             return Ok(false);
         }
-        if !self.known.may_hold_slots(alloc, mol, screen)? {
+        let mut half = *purse / 2;
+        pay(purse, half);
+        if !self.known.may_hold_slots(alloc, mol, screen, &mut half)? {
             return Ok(false);
         }
-        self.begun = true;
+        *purse += half;
+        self.begun = self.known.has_asked_slots();
         Ok(true)
+    }
+
+    // Tells whether the molecule may hold the empty front, which it asks once a molecule.
+    fn may_hold_root(
+        &mut self,
+        alloc: Global,
+        mol: &Mol,
+        screen: &Screen,
+        purse: &mut u64,
+    ) -> Result<bool, Memory>
+        requires some { BeginsCode self.old.query [] }
+        requires known { IsKnownOf mol.now self.old }
+        requires screen { IsScreenOf mol.now screen.now }
+        ensures none { IfOk result (λ may. may ≡ false → HoldsNone self.old.query mol.now []) }
+        ensures known { IsKnownOf mol.now self.new }
+        ensures query { self.new.query ≡ self.old.query }
+        ensures paid { purse.new ≤ purse.old }
+    {
+        if self.has_root {
+            return Ok(true);
+        }
+        let may = self.known.may_hold_front(alloc, &[], mol, screen, purse)?;
+        self.has_root = may;
+        Ok(may)
     }
 }
 
@@ -140,7 +183,8 @@ fn need_of_all(alloc: Global, query: &Query) -> Result<Screen, Memory>
     // The reader's clause says what every query keeps.
     let _fits = query.templates();
     let code = all_open(alloc, query)?;
-    let ask = Ask::of(alloc, query, &code)?;
+    let mut purse = u64::MAX;
+    let ask = Ask::of(alloc, query, &code, &mut purse)?;
     Ok(ask.need())
 }
 
@@ -164,15 +208,10 @@ fn shared(last: &[u32], code: &[u32]) -> usize {
     count
 }
 
-// Remembers the fronts of a code that weren't refused: all of them, or those in front of the first
-// that was.
-fn remember(last: &mut Vec<u32>, code: &[u32], found: Option<usize>) -> Result<(), Memory>
-    requires { IfSome found (λ n. n ≤ length code.now) }
+// Remembers the fronts of a code that were asked and may be held: those with at most so many numbers.
+fn remember(last: &mut Vec<u32>, code: &[u32], held: usize) -> Result<(), Memory>
+    requires { held ≤ length code.now }
 {
-    let held = match found {
-        Some(n) => n.saturating_sub(1),
-        None => code.len(),
-    };
     last.clear();
     last.extend_from_slice(&code[..held])?;
     Ok(())

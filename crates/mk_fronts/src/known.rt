@@ -23,8 +23,20 @@ use std::marker::Model;
 // How many answers on numbers alone are kept at most.
 const MOST_TOLD: usize = 65_536;
 
+// So many steps are in a purse where something is asked. What is cut off with fewer would tell little.
+const LEAST_STEPS: u64 = 4_096;
+
+/// Which front of a code is the first that was refused, by how many numbers it has, where one was; and
+/// how many numbers the fronts have that were asked and may be held.
+#[derive(Clone, Copy)]
+pub struct Seen {
+    pub refused: Option<usize>,
+    pub held: usize,
+}
+
 /// The graphs that are kept, how many numbers may stand for each slot of the root, and of one
-/// molecule what it has and what was told of numbers alone.
+/// molecule what it has and what was told of numbers alone. Of the slots, so many were asked, from the
+/// first one on that is asked in this molecule, and in a circle.
 #[derive(Drop)]
 pub struct Known<'a> {
     stores: Stores<'a>,
@@ -33,6 +45,8 @@ pub struct Known<'a> {
     most: Vec<u32>,
     starts: Vec<usize>,
     key: Vec<u32>,
+    first: usize,
+    asked: usize,
 }
 
 impl<'a> Model for Known<'a> {
@@ -63,6 +77,8 @@ impl<'a> Known<'a> {
             most,
             starts,
             key: Vec::new(alloc),
+            first: 0,
+            asked: 0,
         })
     }
 
@@ -73,49 +89,68 @@ impl<'a> Known<'a> {
         self.stores.query()
     }
 
-    /// Forgets what is known of a molecule.
-    pub fn restart(&mut self)
+    /// Forgets what is known of a molecule. The slots are asked from another one on.
+    pub fn restart(&mut self, from: usize)
         ensures nothing { KnowsNothing self.new }
         ensures query { self.new.query ≡ self.old.query }
     {
+        let slots = self.slots();
+        self.first = if slots == 0 { 0 } else { from % slots };
+        self.asked = 0;
         self.there = None;
         forget(&mut self.told);
     }
 
-    /// Tells whether the molecule may hold some number alone at each slot of the root.
+    /// Tells whether each slot of the root was asked.
+    pub fn has_asked_slots(&self) -> bool {
+        self.asked >= self.slots()
+    }
+
+    /// Tells whether the molecule may hold some number alone at each slot of the root, as far as the
+    /// purse lasts. The next call goes on at the slot where this one stopped.
     pub fn may_hold_slots(
         &mut self,
         alloc: Global,
         mol: &Mol,
         screen: &Screen,
+        purse: &mut u64,
     ) -> Result<bool, Memory>
         requires known { IsKnownOf mol.now self.old }
         requires screen { IsScreenOf mol.now screen.now }
         ensures none { IfOk result (λ may. may ≡ false → HoldsNone self.old.query mol.now []) }
         ensures known { IsKnownOf mol.now self.new }
         ensures query { self.new.query ≡ self.old.query }
+        ensures paid { purse.new ≤ purse.old }
     {
-        for slot in 0..self.slots() {
-            if !self.may_hold_slot(alloc, slot, mol, screen)? {
+        for turn in self.asked..self.slots() {
+            let slot = self.slot_in_turn(turn);
+            if !self.may_hold_slot(alloc, slot, mol, screen, purse)? {
                 return Ok(false);
             }
+            if *purse < LEAST_STEPS {
+                return Ok(true);
+            }
+            self.asked = turn.saturating_add(1);
         }
         Ok(true)
     }
 
-    // Tells whether the molecule may hold some number alone at a slot of the root.
+    // Tells whether the molecule may hold some number alone at a slot of the root. Where the purse
+    // doesn't last, it may.
     fn may_hold_slot(
         &mut self,
         alloc: Global,
         slot: usize,
         mol: &Mol,
         screen: &Screen,
+        purse: &mut u64,
     ) -> Result<bool, Memory>
         requires known { IsKnownOf mol.now self.old }
         requires screen { IsScreenOf mol.now screen.now }
         ensures none { IfOk result (λ may. may ≡ false → HoldsNone self.old.query mol.now []) }
         ensures known { IsKnownOf mol.now self.new }
         ensures query { self.new.query ≡ self.old.query }
+        ensures paid { purse.new ≤ purse.old }
     {
         slots_hold_none();
         // The reader's clause says what every query keeps.
@@ -124,7 +159,10 @@ impl<'a> Known<'a> {
             return Ok(true);
         };
         for i in 0..most {
-            if self.may_hold_alone(alloc, slot, i + 1, mol, screen)? {
+            if *purse < LEAST_STEPS {
+                return Ok(true);
+            }
+            if self.may_hold_alone(alloc, slot, i + 1, mol, screen, purse)? {
                 return Ok(true);
             }
         }
@@ -138,6 +176,7 @@ impl<'a> Known<'a> {
         front: &[u32],
         mol: &Mol,
         screen: &Screen,
+        purse: &mut u64,
     ) -> Result<bool, Memory>
         requires front { BeginsCode self.old.query front.now }
         requires known { IsKnownOf mol.now self.old }
@@ -145,18 +184,19 @@ impl<'a> Known<'a> {
         ensures none { IfOk result (λ may. may ≡ false → HoldsNone self.old.query mol.now front.now) }
         ensures known { IsKnownOf mol.now self.new }
         ensures query { self.new.query ≡ self.old.query }
+        ensures paid { purse.new ≤ purse.old }
     {
         fronts_hold_none();
         let _fits = self.query().templates();
         let there = self.counts(mol);
         let may = self
             .stores
-            .may_hold_front(alloc, front, mol, screen, &there)?;
+            .may_hold_front(alloc, front, mol, screen, &there, purse)?;
         Ok(may)
     }
 
     /// How many numbers the first front of a code has that the molecule can't hold, of those that end
-    /// from a place on.
+    /// from a place on; and how many those have that may be held, as far as the purse lasts.
     pub fn first_refused(
         &mut self,
         alloc: Global,
@@ -165,27 +205,50 @@ impl<'a> Known<'a> {
         from: usize,
         mol: &Mol,
         screen: &Screen,
-    ) -> Result<Option<usize>, Memory>
+        purse: &mut u64,
+    ) -> Result<Seen, Memory>
         requires code { IsCode self.old.query 0 code.now }
         requires places { ArePlaces self.old.query code.now places.now }
         requires known { IsKnownOf mol.now self.old }
         requires screen { IsScreenOf mol.now screen.now }
-        ensures found { IfOk result (λ found. IfSome found (BeginsWithNone self.old.query mol.now code.now)) }
-        ensures some { IfOk result (λ found. IfSome found (λ n. 1 ≤ n)) }
+        ensures refused { IfOk result (λ seen. IfSome seen.refused (BeginsWithNone self.old.query mol.now code.now)) }
+        ensures held { IfOk result (λ seen. seen.held ≤ length code.now) }
         ensures known { IsKnownOf mol.now self.new }
         ensures query { self.new.query ≡ self.old.query }
+        ensures paid { purse.new ≤ purse.old }
     {
         let mut slot = count_below(places, from);
         for n in from..code.len() {
-            if self.refuses_number(alloc, code, places, slot, n, mol, screen)? {
-                return Ok(Some(n + 1));
+            if *purse < LEAST_STEPS {
+                return Ok(Seen {
+                    refused: None,
+                    held: n,
+                });
             }
-            if !self.may_hold_front(alloc, &code[..n + 1], mol, screen)? {
-                return Ok(Some(n + 1));
+            if self.refuses_number(alloc, code, places, slot, n, mol, screen, purse)? {
+                return Ok(Seen {
+                    refused: Some(n + 1),
+                    held: n,
+                });
+            }
+            if *purse < LEAST_STEPS {
+                return Ok(Seen {
+                    refused: None,
+                    held: n,
+                });
+            }
+            if !self.may_hold_front(alloc, &code[..n + 1], mol, screen, purse)? {
+                return Ok(Seen {
+                    refused: Some(n + 1),
+                    held: n,
+                });
             }
             slot = slot_behind(places, slot, n);
         }
-        Ok(None)
+        Ok(Seen {
+            refused: None,
+            held: code.len(),
+        })
     }
 
     // Tells that a number of the code stands for a slot of the root, and that the molecule can't hold
@@ -199,6 +262,7 @@ impl<'a> Known<'a> {
         n: usize,
         mol: &Mol,
         screen: &Screen,
+        purse: &mut u64,
     ) -> Result<bool, Memory>
         requires code { IsCode self.old.query 0 code.now }
         requires places { ArePlaces self.old.query code.now places.now }
@@ -208,13 +272,14 @@ impl<'a> Known<'a> {
         ensures none { IfOk result (λ no. IsTrue no → HoldsNone self.old.query mol.now (take (n + 1) code.now)) }
         ensures known { IsKnownOf mol.now self.new }
         ensures query { self.new.query ≡ self.old.query }
+        ensures paid { purse.new ≤ purse.old }
     {
         alone_fronts_hold_none();
         let _fits = self.query().templates();
         if !is_place(places, slot, n) {
             return Ok(false);
         }
-        let may = self.may_hold_alone(alloc, slot, number_at(code, n), mol, screen)?;
+        let may = self.may_hold_alone(alloc, slot, number_at(code, n), mol, screen, purse)?;
         Ok(!may)
     }
 
@@ -226,12 +291,14 @@ impl<'a> Known<'a> {
         number: u32,
         mol: &Mol,
         screen: &Screen,
+        purse: &mut u64,
     ) -> Result<bool, Memory>
         requires known { IsKnownOf mol.now self.old }
         requires screen { IsScreenOf mol.now screen.now }
         ensures none { IfOk result (λ may. may ≡ false → HoldsNoneAlone self.old.query mol.now slot number) }
         ensures known { IsKnownOf mol.now self.new }
         ensures query { self.new.query ≡ self.old.query }
+        ensures paid { purse.new ≤ purse.old }
     {
         let Some(most) = self.choices_at(slot) else {
             return Ok(true);
@@ -247,9 +314,18 @@ impl<'a> Known<'a> {
         put_alone(&mut self.key, slot, number)?;
         let may = self
             .stores
-            .may_hold_alone(alloc, slot, number, &self.key, mol, screen, &there)?;
+            .may_hold_alone(alloc, slot, number, &self.key, mol, screen, &there, purse)?;
         put(&mut self.told, at, Told { slot, number, may });
         Ok(may)
+    }
+
+    // The slot that is asked in this turn.
+    fn slot_in_turn(&self, turn: usize) -> usize {
+        let at = self.first.saturating_add(turn);
+        if at < self.slots() {
+            return at;
+        }
+        at.saturating_sub(self.slots())
     }
 
     // How many slots the root has.

@@ -73,18 +73,20 @@ impl<'a> Stores<'a> {
         mol: &Mol,
         screen: &Screen,
         there: &Counts,
+        purse: &mut u64,
     ) -> Result<bool, Memory>
         requires front { BeginsCode self.old front.now }
         requires screen { IsScreenOf mol.now screen.now }
         requires there { AreThere mol.now there.now }
         ensures none { IfOk result (λ may. may ≡ false → HoldsNoGraph self.old mol.now front.now) }
         ensures query { self.new ≡ self.old }
+        ensures paid { purse.new ≤ purse.old }
     {
-        if let Some(may) = self.told_by_kept(alloc, front, mol, screen, there)? {
+        if let Some(may) = self.told_by_kept(alloc, front, mol, screen, there, purse)? {
             return Ok(may);
         }
         let code = front_code(alloc, self.query, front)?;
-        self.told_anew(alloc, front, &code, mol, screen, there)
+        self.told_anew(alloc, front, &code, mol, screen, there, purse)
     }
 
     /// Tells whether the molecule may hold the graph of the open code that decides a number at a slot
@@ -98,6 +100,7 @@ impl<'a> Stores<'a> {
         mol: &Mol,
         screen: &Screen,
         there: &Counts,
+        purse: &mut u64,
     ) -> Result<bool, Memory>
         requires slot { slot < length (slots_of self.old 0) }
         requires least { 1 ≤ number }
@@ -107,12 +110,13 @@ impl<'a> Stores<'a> {
         requires there { AreThere mol.now there.now }
         ensures none { IfOk result (λ may. may ≡ false → HoldsNoneAlone self.old mol.now slot number) }
         ensures query { self.new ≡ self.old }
+        ensures paid { purse.new ≤ purse.old }
     {
-        if let Some(may) = self.told_by_kept(alloc, key, mol, screen, there)? {
+        if let Some(may) = self.told_by_kept(alloc, key, mol, screen, there, purse)? {
             return Ok(may);
         }
         let code = alone_code(alloc, self.query, slot, number)?;
-        self.told_anew(alloc, key, &code, mol, screen, there)
+        self.told_anew(alloc, key, &code, mol, screen, there, purse)
     }
 
     // What the graph under a key tells, where it is kept. An elder one is put among the young.
@@ -123,20 +127,22 @@ impl<'a> Stores<'a> {
         mol: &Mol,
         screen: &Screen,
         there: &Counts,
+        purse: &mut u64,
     ) -> Result<Option<bool>, Memory>
         requires screen { IsScreenOf mol.now screen.now }
         requires there { AreThere mol.now there.now }
         ensures none { IfOk result (λ found. IfSome found (λ may. may ≡ false → HoldsNoGraph self.old mol.now key.now)) }
         ensures query { self.new ≡ self.old }
+        ensures paid { purse.new ≤ purse.old }
     {
         if let Some(ask) = self.young.get(key) {
-            let may = ask.may_be_held(alloc, mol, screen, there)?;
+            let may = ask.may_be_held(alloc, mol, screen, there, purse)?;
             return Ok(Some(may));
         }
         let Some(ask) = self.elder.swap_remove(key) else {
             return Ok(None);
         };
-        let may = ask.may_be_held(alloc, mol, screen, there)?;
+        let may = ask.may_be_held(alloc, mol, screen, there, purse)?;
         self.keep(alloc, key, ask)?;
         Ok(Some(may))
     }
@@ -150,15 +156,17 @@ impl<'a> Stores<'a> {
         mol: &Mol,
         screen: &Screen,
         there: &Counts,
+        purse: &mut u64,
     ) -> Result<bool, Memory>
         requires code { IsFrontCode self.old key.now code.now }
         requires screen { IsScreenOf mol.now screen.now }
         requires there { AreThere mol.now there.now }
         ensures none { IfOk result (λ may. may ≡ false → HoldsNoGraph self.old mol.now key.now) }
         ensures query { self.new ≡ self.old }
+        ensures paid { purse.new ≤ purse.old }
     {
-        let ask = Ask::of(alloc, self.query, code)?;
-        let may = ask.may_be_held(alloc, mol, screen, there)?;
+        let ask = Ask::of(alloc, self.query, code, purse)?;
+        let may = ask.may_be_held(alloc, mol, screen, there, purse)?;
         self.keep(alloc, key, ask)?;
         Ok(may)
     }

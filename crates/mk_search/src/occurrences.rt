@@ -91,7 +91,7 @@ impl<'a> Occurrences<'a> {
         ensures belongs { BelongsTo self.old.query.now self.new }
     {
         drop(mem::replace(&mut self.open, None));
-        forget(&mut self.fronts);
+        forget(&mut self.fronts, place);
         let start = start(self.query, place);
         self.codes.rewind(start)?;
         self.owed = place.len() - start.len();
@@ -202,19 +202,21 @@ impl<'a> Occurrences<'a> {
         let Some(_code) = self.codes.next() else {
             return Ok(false);
         };
-        let _bare = self.open_code(alloc, row, place, steps)?;
+        let mut purse = u64::MAX;
+        let _bare = self.open_code(alloc, row, place, steps, &mut purse)?;
         Ok(true)
     }
 
     /// Opens the code that was taken out last, where the molecule may hold it, and says whether its
     /// graph has no atoms. Where the code begins with a front that the molecule can't hold, all codes
-    /// behind that front are passed.
+    /// behind that front are passed. What is asked of fronts is paid from the purse.
     pub fn open_code<L: Ledger>(
         &mut self,
         alloc: Global,
         row: Row<'a>,
         place: &[u32],
         steps: &mut Steps<L>,
+        purse: &mut u64,
     ) -> Result<bool, Memory>
         requires belongs { BelongsTo self.old.query.now self.old }
         requires code { IsAtCode self.old.query.now self.old.codes.place }
@@ -226,9 +228,18 @@ impl<'a> Occurrences<'a> {
         ensures owed { self.new.owed ≡ self.old.owed }
         ensures belongs { BelongsTo self.old.query.now self.new }
         ensures steps { steps.old ≤ steps.new }
+        ensures paid { purse.new ≤ purse.old }
     {
         let (codes, fronts) = (&mut self.codes, &mut self.fronts);
-        if passes_front(alloc, self.query, row, codes, fronts, &mut self.numbers)? {
+        if passes_front(
+            alloc,
+            self.query,
+            row,
+            codes,
+            fronts,
+            &mut self.numbers,
+            purse,
+        )? {
             return Ok(false);
         }
         let code = self.codes.item();
@@ -254,6 +265,7 @@ fn passes_front<'a>(
     codes: &mut Codes<'a>,
     fronts: &mut Option<Fronts<'a>>,
     numbers: &mut Vec<u32>,
+    purse: &mut u64,
 ) -> Result<bool, Memory>
     requires code { IsAtCode query.now codes.old.place }
     requires codes_of { codes.old.query ≡ query.now }
@@ -265,9 +277,10 @@ fn passes_front<'a>(
     ensures codes_of { codes.new.query ≡ query.now }
     ensures fronts_of { FrontsOf query.now fronts.new }
     ensures know { KnowOf row.entry.mol.now fronts.new }
+    ensures paid { purse.new ≤ purse.old }
 {
     let code = codes.item();
-    let Some(n) = passed(alloc, query, code, row, fronts)? else {
+    let Some(n) = passed(alloc, query, code, row, fronts, purse)? else {
         return Ok(false);
     };
     put_behind_front(numbers, &code[..n])?;

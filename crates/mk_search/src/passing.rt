@@ -1,5 +1,5 @@
 // Fronts that are passed over: numbers with which codes begin, and that a molecule can't hold.
-ghost use Rattle.std.specs.Prelude.{◌≡◌, ◌<◌, [], false, All, IfOk, IfSome, IsTrue};
+ghost use Rattle.std.specs.Prelude.{◌≡◌, ◌≤◌, ◌<◌, [], false, All, IfOk, IfSome, IsTrue};
 ghost use Rattle.mk_model.specs.Codes.{IsCode};
 ghost use Rattle.mk_model.specs.Molecules.{Molecule};
 ghost use Rattle.mk_model.specs.Queries.{QueryView};
@@ -39,24 +39,36 @@ pub fn need_by(query: &Query, common: Option<Screen>, fronts: &Option<Fronts<'_>
     Some(*its.need())
 }
 
-/// Goes to another molecule: what the fronts know of one is forgotten.
-pub fn forget(fronts: &mut Option<Fronts<'_>>)
+/// Goes to another molecule: what the fronts know of one is forgotten. Which slot is asked first goes
+/// by the place, so that searches that are taken up again don't ask the same slots alone.
+pub fn forget(fronts: &mut Option<Fronts<'_>>, place: &[u32])
     ensures know { (mol : Molecule) → KnowOf mol fronts.new }
     ensures of { (query : QueryView) → FrontsOf query fronts.old → FrontsOf query fronts.new }
 {
     let Some(its) = fronts else {
         return;
     };
-    its.restart();
+    its.restart(sum_of(place));
 }
 
-/// With how many numbers the code begins a front that the molecule can't hold, where one is found.
+// The sum of the numbers of a place, as far as it can be counted.
+fn sum_of(place: &[u32]) -> usize {
+    let mut sum = 0usize;
+    for number in place {
+        sum = sum.wrapping_add(*number as usize);
+    }
+    sum
+}
+
+/// With how many numbers the code begins a front that the molecule can't hold, where one is found. What
+/// is asked is paid from the purse.
 pub fn passed<'a>(
     alloc: Global,
     query: &Query,
     code: &[u32],
     row: Row<'a>,
     fronts: &mut Option<Fronts<'a>>,
+    purse: &mut u64,
 ) -> Result<Option<usize>, Memory>
     requires code { IsCode query.now 0 code.now }
     requires screen { IsScreenOf row.mol.now row.screen.now }
@@ -65,11 +77,12 @@ pub fn passed<'a>(
     ensures passed { IfOk result (λ found. IfSome found (BeginsWithNone query.now row.entry.mol.now code.now)) }
     ensures know { KnowOf row.entry.mol.now fronts.new }
     ensures of { FrontsOf query.now fronts.new }
+    ensures paid { purse.new ≤ purse.old }
 {
     let Some(its) = fronts else {
         return Ok(None);
     };
-    its.passed(alloc, code, row.mol, row.screen)
+    its.passed(alloc, code, row.mol, row.screen, purse)
 }
 
 /// Puts the place behind all codes that begin with a front: no number of a code is as great as the

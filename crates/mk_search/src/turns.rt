@@ -12,6 +12,9 @@ use mk_model::{Memory, Steps, Turn};
 use std::alloc::Global;
 use std::sync::ledger::Ledger;
 
+// How many steps a turn may take to ask for fronts. What is begun with the last of them may take more.
+const STEPS_A_TURN: u64 = 32_768;
+
 impl<'a> Occurrences<'a> {
     /// Goes on by one turn: the next one is taken out; or none is, and the search is further on; or
     /// none is left. It begins a matcher where it opens a code, which is at most one.
@@ -86,7 +89,8 @@ impl<'a> Occurrences<'a> {
             Turn::Moved => Ok(Turn::Moved),
             Turn::Item => {
                 self.owed = 0;
-                if !self.open_code(alloc, row, place, steps)? {
+                let mut purse = STEPS_A_TURN;
+                if !self.open_code(alloc, row, place, steps, &mut purse)? {
                     return Ok(Turn::Moved);
                 }
                 match self.turn_here()? {

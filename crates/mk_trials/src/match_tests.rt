@@ -180,26 +180,30 @@ fn told_by(alloc: Global, maps: &mut Maps<'_>) -> Result<Vec<u8>, Memory> {
 // A graph, a molecule, the turns that a search may take, and whether the molecule may hold the graph.
 // The look ahead before the first atom finds that two oxygens have no place in C-O-C, and the first
 // turn says so.
-static HELD: [(&str, &str, u32, bool); 10] = [
-    (CO, COC, 0, true),
-    (CO, COC, 1, true),
-    (CO, COC, 100, true),
-    ("O O | 1-2", COC, 0, true),
-    ("O O | 1-2", COC, 1, false),
-    ("O O | 1-2", COC, 100, false),
-    ("C |", "|", 0, true),
-    ("C |", "|", 1, false),
-    ("|", COC, 1, true),
-    ("|", "|", 1, true),
+static HELD: [(&str, &str, u32, u64, bool); 13] = [
+    (CO, COC, 0, 100, true),
+    (CO, COC, 1, 100, true),
+    (CO, COC, 100, 100, true),
+    ("O O | 1-2", COC, 0, 100, true),
+    ("O O | 1-2", COC, 1, 100, false),
+    ("O O | 1-2", COC, 100, 100, false),
+    ("O O | 1-2", COC, 100, 0, true),
+    ("O O | 1-2", COC, 100, 6, true),
+    ("C |", "|", 0, 100, true),
+    ("C |", "|", 1, 100, false),
+    ("C |", "|", 1, 0, true),
+    ("|", COC, 1, 100, true),
+    ("|", "|", 1, 100, true),
 ];
 
 #[test]
 fn held_in_so_many_turns(rt: HostRuntime) -> Result<(), Fail> {
-    for (query, molecule, turns, want) in &HELD {
+    for (query, molecule, turns, steps, want) in &HELD {
         let graph = graph_of_sketch(rt.alloc(), query)?;
         let mol = mol_of_sketch(rt.alloc(), molecule)?;
-        let may = may_hold(rt.alloc(), &graph, &mol, *turns)?;
-        assert!(rt; may == *want, "{query} {molecule} {turns}");
+        let mut purse = *steps;
+        let may = may_hold(rt.alloc(), &graph, &mol, *turns, &mut purse)?;
+        assert!(rt; may == *want, "{query} {molecule} {turns} {steps}");
     }
     Ok(())
 }

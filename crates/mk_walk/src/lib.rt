@@ -20,9 +20,11 @@ mod held;
 mod hydrogens;
 mod order;
 mod outlook;
+mod purse;
 mod search;
 mod table;
 mod walk;
 
 pub use held::may_hold;
+pub use purse::pay;
 pub use search::Search;

@@ -18,7 +18,8 @@ const LEAST_STEPS: u32 = 256;
 
 /// What a look ahead needs: the order in which it looks for atoms, what it chose for them, the hit
 /// that it found last, and how many steps it takes before it gives up. These are halved where it
-/// gives up, and doubled where it doesn't: so where looking ahead is of no use, it costs little.
+/// gives up, and doubled where it doesn't: so where looking ahead is of no use, it costs little. They
+/// are never more than `most`. `taken` counts the steps of all look aheads.
 #[derive(Debug, Drop)]
 pub struct Outlook {
     order: Order,
@@ -26,6 +27,8 @@ pub struct Outlook {
     levels: Vec<u32>,
     witness: Vec<u32>,
     steps: u32,
+    most: u32,
+    taken: u64,
 }
 
 impl Outlook {
@@ -39,7 +42,19 @@ impl Outlook {
             levels: vec![in alloc; 0u32; mol.atom_count() as usize]?,
             witness: vec![in alloc; 0u32; atoms]?,
             steps: MOST_STEPS,
+            most: MOST_STEPS,
+            taken: 0,
         })
+    }
+
+    /// Takes at most so many steps for a look ahead from now on, but no more than any may take.
+    pub fn limit(&mut self, most: u64) {
+        self.most = most.min(MOST_STEPS as u64) as u32;
+    }
+
+    /// How many steps all look aheads took.
+    pub fn taken(&self) -> u64 {
+        self.taken
     }
 
     /// What was found last: a number for each atom of the graph.
@@ -55,6 +70,8 @@ impl Outlook {
             levels: Vec::new(alloc),
             witness: Vec::new(alloc),
             steps: 0,
+            most: 0,
+            taken: 0,
         }
     }
 
@@ -74,7 +91,9 @@ impl Outlook {
             return false;
         }
         self.order.arrange(graph, first.len() as u32);
-        let Some(none) = has_none(
+        let steps = self.steps.min(self.most);
+        let mut left = steps;
+        let said = has_none(
             graph,
             mol,
             fits,
@@ -84,8 +103,10 @@ impl Outlook {
             &self.order.ranks,
             &mut self.chosen,
             &mut self.levels,
-            self.steps,
-        ) else {
+            &mut left,
+        );
+        self.taken = self.taken.saturating_add(steps.saturating_sub(left) as u64);
+        let Some(none) = said else {
             self.steps = (self.steps / 2).max(LEAST_STEPS);
             return false;
         };
@@ -119,7 +140,7 @@ impl Outlook {
     }
 }
 
-// Tells whether no hit begins with the first atoms, or nothing where it takes more than so many steps.
+// Tells whether no hit begins with the first atoms, or nothing where it takes more steps than are left.
 // It puts one atom of the order after another, and takes the last one back where the next can't be
 // put.
 fn has_none(
@@ -132,7 +153,7 @@ fn has_none(
     ranks: &[u32],
     chosen: &mut Vec<u32>,
     levels: &mut Vec<u32>,
-    steps: u32,
+    left: &mut u32,
 ) -> Option<bool>
     requires { IsTable graph.now mol.now fits.now }
     ensures { IfSome result (λ none. IsTrue none → IsNoHitBehind graph.now mol.now first.now) }
@@ -145,12 +166,11 @@ fn has_none(
     }
     let mut d = 0;
     let mut above = 0u32;
-    let mut left = steps;
     'look: loop {
-        if left == 0 {
+        if *left == 0 {
             return None;
         }
-        left -= 1;
+        *left -= 1;
         let anchor = anchor_of(graph, mol, first, order, ranks, &chosen[..d], order[d]);
         let Some(a) = next_atom(mol, anchor, above) else {
             if d == 0 {

@@ -43,6 +43,22 @@ impl Search {
         ensures left { IfOk result (IsLeft graph.now mol.now front.now) }
         ensures owed { IfOk result (IsOwed front.now 1) }
     {
+        Search::within(alloc, graph, mol, front, u64::MAX)
+    }
+
+    /// A search for the hits that aren't below the front. Its first look ahead takes at most so many
+    /// steps.
+    pub fn within(
+        alloc: Global,
+        graph: &Graph,
+        mol: &Mol,
+        front: &[u32],
+        steps: u64,
+    ) -> Result<Search, Memory>
+        ensures kept { IfOk result (IsSearch graph.now mol.now) }
+        ensures left { IfOk result (IsLeft graph.now mol.now front.now) }
+        ensures owed { IfOk result (IsOwed front.now 1) }
+    {
         if graph.atom_count() == 0 {
             if front.is_empty() {
                 return Ok(Search::at_rest(alloc, Stage::Once));
@@ -52,6 +68,7 @@ impl Search {
         let fits = table_of(alloc, graph, mol)?;
         let hydrogens = plain_hydrogens(alloc, graph)?;
         let mut outlook = Outlook::new(alloc, graph, mol, &fits)?;
+        outlook.limit(steps);
         if front.is_empty() && outlook.is_dead(graph, mol, &fits, &[], &[]) {
             return Ok(Search::at_rest(alloc, Stage::Ended));
         }

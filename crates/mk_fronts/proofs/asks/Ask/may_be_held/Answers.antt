@@ -10,21 +10,21 @@ on_ok : {A E : Type 0} (r : Result A E) (P Q : A → Type 0) → ((a : A) → P 
 on_ok (Ok a) P Q on is = on a is
 on_ok (Err e) P Q on is = is
 
-pub returns-then-not-is_covered : goal.returns-then-not-is_covered
-returns-then-not-is_covered c = λ _.
+pub returns-then-not-is_covered-clause-none : goal.returns-then-not-is_covered-clause-none
+returns-then-not-is_covered-clause-none c = λ _.
     subst (λ (g : GraphView). HasNoEmbedding g c.args.mol.now) c.self.view_is
     (λ images is.
     let covered = c.is_covered.ensures.1 (covers_of_embedding c.self.inside.graph c.args.mol.now images c.args.screen.now c.self.inside.need is c.requires.screen c.self.invariant.needs) in
     cc)
 
-pub returns-then-cannot_hold : goal.returns-then-cannot_hold
-returns-then-cannot_hold c = λ _.
+pub returns-then-cannot_hold-clause-none : goal.returns-then-cannot_hold-clause-none
+returns-then-cannot_hold-clause-none c = λ _.
     subst (λ (g : GraphView). HasNoEmbedding g c.args.mol.now) c.self.view_is
     (no_embedding c.self.inside.graph c.args.mol.now c.atom_count-few.ensures.kept c.atoms-width.ensures.kept
     (c.if-cannot_hold.ensures refl c.self.inside.graph c.args.mol.now c.self.invariant.counts c.requires.there))
 
-pub returns : goal.returns
-returns c =
+pub returns-clause-none : goal.returns-clause-none
+returns-clause-none c =
     on_ok c.may_hold.result _ (λ may. may ≡ false → HasNoEmbedding c.args.self.now c.args.mol.now)
     (λ may none no'. subst (λ (g : GraphView). HasNoEmbedding g c.args.mol.now) c.self.view_is
     (no_embedding c.self.inside.graph c.args.mol.now c.atom_count-few.ensures.kept c.atoms-width.ensures.kept (none no')))

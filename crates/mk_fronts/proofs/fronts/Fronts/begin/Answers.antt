@@ -6,11 +6,11 @@ use Rattle.mk_fronts.proofs.fronts.Fronts.begin.Goals as goal
 
 pub returns-then-not-branch-clause-none : goal.returns-then-not-branch-clause-none
 returns-then-not-branch-clause-none c = λ _.
-    let no : c.in_ok-may_hold_front.field-0 ≡ false = cc in
-    subst (λ (v : FrontsView). HoldsNone v.query c.args.mol.now []) c.self.view_is (c.in_ok-may_hold_front.ensures.none no)
+    let no : c.in_ok-may_hold_root.field-0 ≡ false = cc in
+    c.in_ok-may_hold_root.ensures.none no
 
 pub returns-then-not-branch-2-clause-none : goal.returns-then-not-branch-2-clause-none
 returns-then-not-branch-2-clause-none c = λ _.
     let no : c.in_ok-may_hold_slots.field-0 ≡ false = cc in
-    let same = c.may_hold_front.ensures.query ∙ ap (λ (v : FrontsView). v.query) c.self.view_is in
+    let same = ap (λ (v : FrontsView). v.query) c.self-2.view_is ∙ c.may_hold_root.ensures.query in
     subst (λ (q : QueryView). HoldsNone q c.args.mol.now []) same (c.in_ok-may_hold_slots.ensures.none no)

@@ -6,5 +6,5 @@ use Rattle.mk_fronts.proofs.known.Known.first_refused.Goals as goal
 
 pub may_hold_front-requires-clause-front : goal.may_hold_front-requires-clause-front
 may_hold_front-requires-clause-front c =
-    subst (λ (q : QueryView). BeginsCode q (take (c.loop-n.n + 1) c.args.code.now)) (sym (c.refuses_number.ensures.query ∙ c.loop-n.invariant.same))
+    subst (λ (q : QueryView). BeginsCode q (take (c.loop-n.n + 1) c.args.code.now)) (sym (c.refuses_number.ensures.query ∙ c.loop-n.invariant.0.same))
     (begins c.args.self.now.query c.args.code.now (c.loop-n.n + 1) c.requires.code)

@@ -6,4 +6,4 @@ use Rattle.mk_fronts.proofs.known.Known.may_hold_slots.Goals as goal
 pub returns-then-not-branch-clause-none : goal.returns-then-not-branch-clause-none
 returns-then-not-branch-clause-none c = λ _.
     let no : c.in_ok-may_hold_slot.field-0 ≡ false = cc in
-    subst (λ (q : QueryView). HoldsNone q c.args.mol.now []) c.loop-slot.invariant.same (c.in_ok-may_hold_slot.ensures.none no)
+    subst (λ (q : QueryView). HoldsNone q c.args.mol.now []) c.loop-turn.invariant.0.same (c.in_ok-may_hold_slot.ensures.none no)

@@ -9,7 +9,7 @@ use Rattle.mk_fronts.proofs.stores.Stores.told_by_kept.Goals as goal
 pub returns-in-Some-clause-none : goal.returns-in-Some-clause-none
 returns-in-Some-clause-none c = λ no.
     subst (λ (q : QueryView). HoldsNoGraph q c.args.mol.now c.args.key.now) c.self.view_is
-    (refused c.self.inside.query.now c.args.mol.now c.args.key.now c.self.inside.young.entries c.in-Some.ask.now c.self.invariant.0 (sym c.in-Some.ensures.value) (c.in_ok-may.ensures no))
+    (refused c.self.inside.query.now c.args.mol.now c.args.key.now c.self.inside.young.entries c.in-Some.ask.now c.self.invariant.0 (sym c.in-Some.ensures.value) (c.in_ok-may.ensures.none no))
 
 pub invariant_of-self-in_err-may-2 : goal.invariant_of-self-in_err-may-2
 invariant_of-self-in_err-may-2 c =
@@ -30,4 +30,4 @@ pub returns-clause-none : goal.returns-clause-none
 returns-clause-none c = λ no.
     subst (λ (q : QueryView). HoldsNoGraph q c.args.mol.now c.args.key.now) c.self.view_is
     (refused c.self.inside.query.now c.args.mol.now c.args.key.now c.self.inside.elder.entries c.in-Some-swap_remove.ask c.self.invariant.1
-    (sym c.in-Some-swap_remove.ensures.value) (c.in_ok-may-2.ensures no))
+    (sym c.in-Some-swap_remove.ensures.value) (c.in_ok-may-2.ensures.none no))

@@ -1,7 +1,7 @@
 use Rattle.std.proofs.Common.{◌<◌, length, arith}
 use Rattle.std.proofs.lemmas.Bool.Decides.{nat_tests}
 use Rattle.mk_walk.proofs.WalkLemmas.{none_more}
-use Rattle.mk_walk.proofs.search.Search.of.Goals as goal
+use Rattle.mk_walk.proofs.search.Search.within.Goals as goal
 
 pub returns-then-atom_count-eq0-clause-left : goal.returns-then-atom_count-eq0-clause-left
 returns-then-atom_count-eq0-clause-left c =
