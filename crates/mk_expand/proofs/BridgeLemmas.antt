@@ -24,8 +24,14 @@ index [] x y = 0
 index (edge ∷ bonds) x y = let later = index bonds x y in cond (has_ends x y edge) 0 (suc later)
 
 ends_found : (x y : ℕ) (edge : Edge) → HasEnds edge x y → has_ends x y edge ≡ true
-ends_found x y edge (inl is) = (let a : eqb edge.first x ≡ true = (let h = is.0 in grind (arith, nat_tests)) in let b : eqb edge.second y ≡ true = (let h = is.1 in grind (arith, nat_tests)) in rw (a, b) refl)
-ends_found x y edge (inr is) = (let a : eqb edge.first y ≡ true = (let h = is.0 in grind (arith, nat_tests)) in let b : eqb edge.second x ≡ true = (let h = is.1 in grind (arith, nat_tests)) in rw (a, b) (last (eqb edge.first x && eqb edge.second y)))
+ends_found x y edge (inl is) =
+    let a : eqb edge.first x ≡ true = (let h = is.0 in grind (arith, nat_tests)) in
+    let b : eqb edge.second y ≡ true = (let h = is.1 in grind (arith, nat_tests)) in
+    rw (a, b) refl
+ends_found x y edge (inr is) =
+    let a : eqb edge.first y ≡ true = (let h = is.0 in grind (arith, nat_tests)) in
+    let b : eqb edge.second x ≡ true = (let h = is.1 in grind (arith, nat_tests)) in
+    rw (a, b) (last (eqb edge.first x && eqb edge.second y))
   where
     last : (c : Bool) → (c || true) ≡ true
     last true = refl
@@ -186,7 +192,8 @@ module _ (part whole : List Edge) (count atoms : ℕ) (places : List ℕ) (simpl
       linked = way_up b c p q j k ring.edge.first ring.edge.second ring.way ring.around
 
       by : ((ring.edge.first ≡ p) × (ring.edge.second ≡ q)) ⊎ ((ring.edge.first ≡ q) × (ring.edge.second ≡ p)) → IsRingBond whole c
-      by (inl s) = IsRingBond-linked k (subst (λ (n : ℕ). Linked whole c (image places n) (image places q)) s.0 (subst (λ (n : ℕ). Linked whole c (image places ring.edge.first) (image places n)) s.1 linked))
+      by (inl s) = IsRingBond-linked k (subst (λ (n : ℕ). Linked whole c (image places n) (image places q)) s.0
+          (subst (λ (n : ℕ). Linked whole c (image places ring.edge.first) (image places n)) s.1 linked))
       by (inr s) = IsRingBond-linked k (linked_back (subst (λ (n : ℕ). Linked whole c (image places n) (image places p)) s.0
           (subst (λ (n : ℕ). Linked whole c (image places ring.edge.first) (image places n)) s.1 linked)))
 
@@ -417,7 +424,10 @@ module _ (part whole : List Edge) (count atoms : ℕ) (places : List ℕ) (simpl
             inside n less = next_in x k cycle n less (all_in x k cycle i n below less none)
 
             homes : (n : ℕ) (less : n < 6) → (hangs.home (x n) ≡ (inside n less).p) × (hangs.home (x ((n + 1) % 6)) ≡ (inside n less).q)
-            homes n less = (let m = inside n less in let ends = ends_within m.b m.p m.q m.joined in (ap hangs.home (sym m.first) ∙ home_at m.p ends.0, ap hangs.home (sym m.second) ∙ home_at m.q ends.1))
+            homes n less =
+                let m = inside n less in
+                let ends = ends_within m.b m.p m.q m.joined in
+                (ap hangs.home (sym m.first) ∙ home_at m.p ends.0, ap hangs.home (sym m.second) ∙ home_at m.q ends.1)
 
             joined : (n : ℕ) (less : n < 6) → Joins part (inside n less).b (hangs.home (x n)) (hangs.home (x ((n + 1) % 6)))
             joined n less =

@@ -39,7 +39,8 @@ left_none query slots code begins = record {
   ends = refl;
 }
 
-module _ (query : QueryView) (slots : List Slot) (k : ℕ) (code now : List ℕ) (pieces : List Piece) (one_ended : Bool) (d : Slot) (below : k < length slots) (left : Left query slots k code now pieces one_ended) where
+module _ (query : QueryView) (slots : List Slot) (k : ℕ) (code now : List ℕ) (pieces : List Piece) (one_ended : Bool) (d : Slot) (below : k < length slots)
+    (left : Left query slots k code now pieces one_ended) where
   next : IsOpenSplit query (get_or slots k d ∷ []) (drop (k + 1) slots) left.others
   next = open_split query (get_or slots k d ∷ []) (drop (k + 1) slots) left.others (rw (drop_more slots k d below) at left.made_others)
 
@@ -49,7 +50,8 @@ module _ (query : QueryView) (slots : List Slot) (k : ℕ) (code now : List ℕ)
   pub left_begins : OpenBegins query (get_or slots k d ∷ []) now
   left_begins = record { choice = next.first; rest = open_spelling next.second ++ left.rest; made = next.first_made; spelt = behind }
 
-  pub left_more : (now' : List ℕ) (p : Piece) (ends : Bool) → AreOpenChosen query (get_or slots k d ∷ []) now now' (p ∷ []) ends → Left query slots (k + 1) code now' (pieces ++ p ∷ []) (one_ended && ends)
+  pub left_more : (now' : List ℕ) (p : Piece) (ends : Bool) → AreOpenChosen query (get_or slots k d ∷ []) now now' (p ∷ []) ends
+      → Left query slots (k + 1) code now' (pieces ++ p ∷ []) (one_ended && ends)
   left_more now' p ends chosen =
       let same = one_open_choice query (get_or slots k d ∷ []) next.first chosen.choice (open_spelling next.second ++ left.rest) now' next.first_made chosen.made (behind ∙ sym chosen.spelt) in
       let piece : p ∷ [] ≡ open_pieces query (get_or slots k d ∷ []) next.first = chosen.are ∙ ap (open_pieces query (get_or slots k d ∷ [])) (sym same.choices) in

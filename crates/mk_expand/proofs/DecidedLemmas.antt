@@ -180,7 +180,8 @@ decided_begins query code is = record {
 }
 
 -- what the walk of an open code makes of the root by a code is the expansion
-pub decided_expanded : (query : QueryView) → QueryFits query → (code rest : List ℕ) (part : Fragment) (one_ended : Bool) → IsCode query 0 code → IsOpened query 0 code rest part one_ended → IsExpanded query 0 code rest part
+pub decided_expanded : (query : QueryView) → QueryFits query → (code rest : List ℕ) (part : Fragment) (one_ended : Bool) → IsCode query 0 code → IsOpened query 0 code rest part one_ended
+    → IsExpanded query 0 code rest part
 unfolding decided_begins
 decided_expanded query fits code rest part one_ended is opened_so =
     let begins = decided_begins query code is in

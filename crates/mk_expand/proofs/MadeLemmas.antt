@@ -54,9 +54,12 @@ module _ (query : QueryView) (fits : QueryFits query) (code rest : List ℕ) (pa
   weak = shared_fragment stays part fragment
 
   few : length (map (shared_atom stays) part.atoms) ≤ 512
-  few = (let small = (open_fragment query fits opened_so.choice opened_so.made).few in omega (arith, small, length-map part.atoms (shared_atom stays), ap (λ (p : Fragment). length p.atoms) opened_so.is))
+  few =
+      let small = (open_fragment query fits opened_so.choice opened_so.made).few in
+      omega (arith, small, length-map part.atoms (shared_atom stays), ap (λ (p : Fragment). length p.atoms) opened_so.is)
 
-  pub made_ordered : (bonds drawn : List GraphBond) → bonds ≡ map bare (map (shared_bond stays) part.bonds) → IsPermutation (map lower_first bonds) drawn → (HaveNoPairTwice bonds → AllPairs IsBefore drawn)
+  pub made_ordered : (bonds drawn : List GraphBond) → bonds ≡ map bare (map (shared_bond stays) part.bonds) → IsPermutation (map lower_first bonds) drawn
+      → (HaveNoPairTwice bonds → AllPairs IsBefore drawn)
       → HasOrdered (map (shared_bond stays) part.bonds) drawn
   made_ordered bonds drawn is same order =
       let same' : IsPermutation (map lower_first (map bare (map (shared_bond stays) part.bonds))) drawn = subst (λ (bs : List GraphBond). IsPermutation (map lower_first bs) drawn) is same in

@@ -126,7 +126,8 @@ kind_weaker k a c bond takes = elim (cases_eq k 1) [
         by false = is
 
 -- a bond that meets a test meets the one that all completions share
-meets_shared : (stays : Bool) (strong weak : GraphBond) (bond : MolBond) → weak.kind ≡ shared_kind stays strong.kind → weak.topology ≡ strong.topology → (stays ≡ true → weak.aromatic ≡ strong.aromatic)
+meets_shared : (stays : Bool) (strong weak : GraphBond) (bond : MolBond) → weak.kind ≡ shared_kind stays strong.kind → weak.topology ≡ strong.topology
+    → (stays ≡ true → weak.aromatic ≡ strong.aromatic)
     → meets strong bond ≡ true → meets weak bond ≡ true
 meets_shared stays strong weak bond kinds topologies same met =
     let parts = both_parts (takes_kind (asked_kind strong) bond) (takes_topology strong.topology bond) met in
@@ -357,7 +358,8 @@ module _ (stays : Bool) (small large : Fragment) (places : List ℕ) (shared : I
         some_is : (a b : GraphAtom) → Some a ≡ Some b → a ≡ b
         some_is a b same = cc
 
-    lies : (bond : GraphBond) → Contains part.bonds bond → IsBondShared stays small large places shared part whole weak drawn bond → LiesOn mol bond (image (map (image hit) places) bond.first) (image (map (image hit) places) bond.second)
+    lies : (bond : GraphBond) → Contains part.bonds bond → IsBondShared stays small large places shared part whole weak drawn bond
+        → LiesOn mol bond (image (map (image hit) places) bond.first) (image (map (image hit) places) bond.second)
     lies bond held there =
         let on : LiesOn mol there.other (image hit there.other.first) (image hit there.other.second) = on_bond there.other there.held in
         let first : image hit there.other.first ≡ image (map (image hit) places) bond.first = ap (image hit) there.first ∙ sym (image_shared bond.first there.is_first) in
@@ -396,7 +398,9 @@ module _ (stays : Bool) (small large : Fragment) (places : List ℕ) (shared : I
       atoms = λ x least most.
           let is : (1 ≤ x) × (x ≤ length small.atoms) = (least, omega (arith, most, atoms_count stays small large places shared part whole weak drawn)) in
           subst (FitsAtom part mol x) (sym (image_shared x is)) (fits x is);
-      bonds = λ k d below. (let held = Contains-get_or part.bonds k d below in lies (get_or part.bonds k d) held (bond_shared stays small large places shared part whole weak drawn (get_or part.bonds k d) held));
+      bonds = λ k d below.
+          (let held = Contains-get_or part.bonds k d below in
+          lies (get_or part.bonds k d) held (bond_shared stays small large places shared part whole weak drawn (get_or part.bonds k d) held));
     }
       where
         next : (i : ℕ) → image places (i + 1) ≡ get_or places i 0

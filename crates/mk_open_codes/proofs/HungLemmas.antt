@@ -434,7 +434,8 @@ module _ (template : TemplateView) (ps qs : List Piece) (others : List (List ℕ
           let other = still_stands (piece template ps bond.second) (piece template qs bond.second) (own_places template others bond.second) (grows template ps qs others level bond.second) some' in
           let end = ending_moved template ps qs others level bond.first bond.second within.first within.second.0 some in
           let end' = ending_moved template ps qs others level bond.second bond.first within.second within.first.0 some' in
-          let same : (is_hydrogens (piece template ps bond.first) || is_hydrogens (piece template ps bond.second)) ≡ (is_hydrogens (piece template qs bond.first) || is_hydrogens (piece template qs bond.second)) =
+          let same : (is_hydrogens (piece template ps bond.first) || is_hydrogens (piece template ps bond.second))
+          ≡ (is_hydrogens (piece template qs bond.first) || is_hydrogens (piece template qs bond.second)) =
           ap (λ (c : Bool). c || is_hydrogens (piece template ps bond.second)) (sym one.1) ∙ ap (λ (c : Bool). is_hydrogens (piece template qs bond.first) || c) (sym other.1) in
           let h = is_hydrogens (piece template qs bond.first) || is_hydrogens (piece template qs bond.second) in
           let part : drawn template ps bond ≡ bond_between (ending template ps bond.first bond.second) (ending template ps bond.second bond.first) (cond h 1 bond.kind) (cond h 0 bond.topology) ∷ [] =
@@ -445,7 +446,8 @@ module _ (template : TemplateView) (ps qs : List Piece) (others : List (List ℕ
           (ending template qs bond.first bond.second) (ending template qs bond.second bond.first)
           (place_within template ps bond.first _ (ending template ps bond.first bond.second) end.place)
           (place_within template ps bond.second _ (ending template ps bond.second bond.first) end'.place) end.is end'.is
-          (part_outer bond _ held (subst (λ (bs : List QueryBond). Contains bs (bond_between (ending template ps bond.first bond.second) (ending template ps bond.second bond.first) (cond h 1 bond.kind) (cond h 0 bond.topology)))
+          (part_outer bond _ held (subst (λ (bs : List QueryBond).
+          Contains bs (bond_between (ending template ps bond.first bond.second) (ending template ps bond.second bond.first) (cond h 1 bond.kind) (cond h 0 bond.topology)))
           (sym part) (0, omega arith, refl)))
 
       near : AreNeighbours template bond.first bond.second × AreNeighbours template bond.second bond.first

@@ -146,7 +146,8 @@ pub record DrawsShared (stays : Bool) (part : Fragment) (graph : GraphView) : Ty
   pub atoms : graph.atoms ≡ map (shared_atom stays) part.atoms
   pub bonds : IsPermutation (map (shared_bond stays) part.bonds) (map unmarked graph.bonds)
 
-module _ (stays : Bool) (small large : Fragment) (places : List ℕ) (shared : IsShared small large places) (part whole : GraphView) (weak : DrawsShared stays small part) (drawn : Draws large whole) where
+module _ (stays : Bool) (small large : Fragment) (places : List ℕ) (shared : IsShared small large places) (part whole : GraphView)
+    (weak : DrawsShared stays small part) (drawn : Draws large whole) where
   abbrev e : ℕ → ℕ
   e = image places
 
@@ -216,9 +217,12 @@ module _ (stays : Bool) (small large : Fragment) (places : List ℕ) (shared : I
     simple' = drawn.kept.sketch.graph
 
     -- the bond of the whole joins the places of its ends
-    joins_there : (bond : GraphBond) (there : IsBondShared bond) (c p q : ℕ) → slice_get whole.bonds c ≡ Some there.other → HasEnds (graph_edge bond) p q → Joins (graph_edges whole.bonds) c (image places p) (image places q)
-    joins_there bond there c p q at (inl s) = record { edge = graph_edge there.other; at = edge_at whole.bonds c there.other at; ends = inl (there.first ∙ ap (image places) s.0, there.second ∙ ap (image places) s.1) }
-    joins_there bond there c p q at (inr s) = record { edge = graph_edge there.other; at = edge_at whole.bonds c there.other at; ends = inr (there.first ∙ ap (image places) s.0, there.second ∙ ap (image places) s.1) }
+    joins_there : (bond : GraphBond) (there : IsBondShared bond) (c p q : ℕ) → slice_get whole.bonds c ≡ Some there.other → HasEnds (graph_edge bond) p q
+        → Joins (graph_edges whole.bonds) c (image places p) (image places q)
+    joins_there bond there c p q at (inl s) =
+        record { edge = graph_edge there.other; at = edge_at whole.bonds c there.other at; ends = inl (there.first ∙ ap (image places) s.0, there.second ∙ ap (image places) s.1) }
+    joins_there bond there c p q at (inr s) =
+        record { edge = graph_edge there.other; at = edge_at whole.bonds c there.other at; ends = inr (there.first ∙ ap (image places) s.0, there.second ∙ ap (image places) s.1) }
 
     turned : (c u v : ℕ) → LiesThere (graph_edges part.bonds) (graph_edges whole.bonds) (length small.atoms) places home root c u v
         → LiesThere (graph_edges part.bonds) (graph_edges whole.bonds) (length small.atoms) places home root c v u
@@ -392,7 +396,8 @@ module _ (stays : Bool) (small large : Fragment) (places : List ℕ) (shared : I
               × (with_ends (image places bond.first) (image places bond.second) ≡ ends_of other)
           from v k =
               let ring = (drawn.kept.marks place.0 other place.1).ring.0 parts.1 in
-              let home_bond = none_leads_away (graph_edges part.bonds) (graph_edges whole.bonds) (length small.atoms) (length whole.atoms) places simple simple' hangs_on place.0 x v is_x.0 is_x.1 k ring in
+              let home_bond = none_leads_away (graph_edges part.bonds) (graph_edges whole.bonds) (length small.atoms) (length whole.atoms) places
+              simple simple' hangs_on place.0 x v is_x.0 is_x.1 k ring in
               let k' : Joins (graph_edges whole.bonds) place.0 (image places x) (image places home_bond.1) = subst (Joins (graph_edges whole.bonds) place.0 (image places x)) (sym home_bond.3) k in
               let found = bond_at part.bonds home_bond.0 home_bond.2.edge home_bond.2.at in
               let held' = held_at part.bonds home_bond.0 found.bond found.at in

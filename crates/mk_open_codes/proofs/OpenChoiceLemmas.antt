@@ -38,7 +38,8 @@ law query t open_code one other =
 -- ---- shared
 
 -- what an unfilled site becomes is the same in a part and in the whole
-vacant_grows : (query : QueryView) (slot : Slot) → (places : List ℕ) × GrowsBy (left_open query slot) (left_open query slot) places × HungBy (left_open query slot) (left_open query slot) places own_inner
+vacant_grows : (query : QueryView) (slot : Slot) → (places : List ℕ) × GrowsBy (left_open query slot) (left_open query slot) places
+    × HungBy (left_open query slot) (left_open query slot) places own_inner
 vacant_grows query slot = by (draws_rest_hydrogens query slot)
   where
     by : (b : Bool) → (places : List ℕ) × GrowsBy (cond b (Hydrogens (neighbour_count slot)) Nothing) (cond b (Hydrogens (neighbour_count slot)) Nothing) places

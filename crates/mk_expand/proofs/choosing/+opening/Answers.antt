@@ -39,7 +39,8 @@ open_chosen-loop-slot-preserved t c =
     let slot = slot_at c.slots-slots.result.now (slots_of query c.args.t) k c.slot-item.result slots c.loop-slot-test.true c.slot-item.is in (
       omega (arith, c.in_ok-piece.ensures.within, c.loop-slot.invariant.0),
       c.in_ok-piece.ensures.within.1,
-      rw (c.in_ok-push.ensures.items, c.both-one_ended.ensures) (left_more query (slots_of query c.args.t) k _ _ _ _ (Link 0 0 0 0) below c.loop-slot.invariant.2 _ _ _ (rw slot at c.in_ok-piece.ensures.are)),
+      rw (c.in_ok-push.ensures.items, c.both-one_ended.ensures)
+          (left_more query (slots_of query c.args.t) k _ _ _ _ (Link 0 0 0 0) below c.loop-slot.invariant.2 _ _ _ (rw slot at c.in_ok-piece.ensures.are)),
     )
 
 pub open_chosen-returns-clause-are : goal.open_chosen-returns-clause-are
@@ -92,7 +93,8 @@ open_chosen_at-returns-then-number-count-clause-are t c =
 
 pub open_chosen_at-returns-in-Link-clause-are : goal.open_chosen_at-returns-in-Link-clause-are
 open_chosen_at-returns-in-Link-clause-are t c =
-    rw (c.in-Link.is, c.of-in-Link.ensures, c.decided.ensures.behind, c.decided.ensures.one_ended) (link_chosen c.args.query.now c.in-Link.atom c.in-Link.most c.in-Link.from c.in-Link.to c.args.code.now c.args.at
+    rw (c.in-Link.is, c.of-in-Link.ensures, c.decided.ensures.behind, c.decided.ensures.one_ended)
+    (link_chosen c.args.query.now c.in-Link.atom c.in-Link.most c.in-Link.from c.in-Link.to c.args.code.now c.args.at
     (rw c.in-Link.is at c.requires.begins) c.if-number-eq0.false)
 
 pub open_chosen_at-returns-else-number-count-clause-are :
