@@ -886,7 +886,7 @@ class Library:
         >>> claim = Claim.read(EXAMPLES / "phenoxy_acids" / "claim.rgf")
         >>> with Library() as lib:
         ...     loaded = lib.load(EXAMPLES / "phenoxy_acids" / "compounds.sdf")
-        ...     print(lib.why_not(claim, 1))
+        ...     print(lib.why_not(claim, 1, timeout=60))
         it is a hit
         """
         from .reasons import why_not

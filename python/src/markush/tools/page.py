@@ -13,8 +13,8 @@ import re
 from dataclasses import dataclass
 from typing import Any, Dict, Iterable, List, Mapping, Tuple
 
-from .account import Named, account_of
-from .common import HITS, NONE, Fault, open_bytes, sha256_of, text_of, written
+from .account import account_of, named
+from .common import HITS, NONE, Fault, open_bytes, text_of, written
 from .find import how_many, with_account
 
 HIT = re.compile(r"hit (\d+) choice((?: \d+)*) map((?: \d+)*)")
@@ -121,15 +121,15 @@ def run(args: argparse.Namespace) -> int:
         hits, limits = hits_of(text_of(answers.read()).splitlines())
     records = _records(args)
     given = args.file if args.store is None else args.store
-    named, compounds = Named(args.claim, sha256_of(args.claim)), Named(given, sha256_of(given))
+    held, compounds = named(args.claim), named(given)
     account = account_of(
-        args.words, [named], [compounds], searched=len(records), refused=0, hits=len(hits), limits=limits
+        args.words, [held], [compounds], searched=len(records), refused=0, hits=len(hits), limits=limits
     )
     made = Made(
         program=f"sha256 {account.program}",
         package=account.package,
         date=account.date,
-        claim=Source(named.name, named.sha256),
+        claim=Source(held.name, held.sha256),
         compounds=(Source(compounds.name, compounds.sha256),),
     )
     page = io.StringIO()
