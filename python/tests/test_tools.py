@@ -276,6 +276,9 @@ def test_a_store_is_searched(program: Path, tmp_path: Path) -> None:
         library.load(COMPOUNDS)
     ran = tools(["find", CLAIM, store])
     assert rows(ran.stdout.decode()) == rows(tools(["find", CLAIM, COMPOUNDS]).stdout.decode())
+    for words in (["table", CLAIM], ["why", CLAIM, "--record", "1"]):
+        assert rows(tools([*words, store]).stdout.decode()) == rows(tools([*words, COMPOUNDS]).stdout.decode()) != []
+    assert rows(tools(["covers", store, CLAIM, "--no-why"]).stdout.decode()) == rows(tools(["covers", COMPOUNDS, CLAIM, "--no-why"]).stdout.decode())
     shown = tools(["show", store, "3"])
     assert shown.returncode == 0 and shown.stdout.startswith(b"2,4-D\n") and shown.stdout.endswith(b"$$$$\n")
     assert tools(["show", store]).stdout.count(b"\n$$$$\n") == 33

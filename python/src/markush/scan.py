@@ -186,7 +186,7 @@ class Scan(Iterator[Hit]):
         self._under_way.clear()
         self._ready.clear()
         for session in list(self._live):
-            session.end()
+            session.end(for_good=True)
         if self._own is not None:
             self._own.shutdown(wait=True)
         if self._bar is not None:

@@ -33,6 +33,13 @@ def add_words(parser: argparse.ArgumentParser) -> None:
     parser.add_argument("--out", metavar="FILE", help="the file that is written; standard output without it")
 
 
+def takes_rdkit(args: argparse.Namespace) -> bool:
+    """Whether the claim has to be drawn."""
+    from .find import _is_list
+
+    return _is_list(args.claim)
+
+
 @dataclass(frozen=True)
 class RawHit:
     """A line of hits.

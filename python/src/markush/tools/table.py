@@ -31,8 +31,10 @@ def add_words(parser: argparse.ArgumentParser) -> None:
 
 
 def takes_rdkit(args: argparse.Namespace) -> bool:
-    """Whether a list of SMILES is among the compounds."""
-    return takes_rdkit_for(args.files[1:])
+    """Whether something has to be drawn."""
+    from .find import _is_list
+
+    return takes_rdkit_for(args.files[1:]) or (len(args.files) > 1 and _is_list(args.files[0]))
 
 
 def records_of(path: str) -> List[Tuple[str, Dict[str, str]]]:
