@@ -959,8 +959,8 @@ def sieved(
 
 def closed(data: bytes) -> bytes:
     """A piece with its separator, also where the last of a file lacks it."""
-    lines = data.rstrip(b"\r\n").split(b"\n")
-    if lines[-1].startswith(b"$$$$"):
+    last = data.rstrip(b"\r\n").rpartition(b"\n")[2]
+    if last.startswith(b"$$$$"):
         return data if data.endswith(b"\n") else data + b"\n"
     return data + (b"" if data.endswith(b"\n") else b"\n") + b"$$$$\n"
 
