@@ -456,6 +456,28 @@ def test_one_whose_records_before_the_place_were_replaced_is_searched_anew(
     assert [hit.record for hit in changes.new] == rest and [hit.record for hit in changes.lost] == [1]
 
 
+def test_before_the_place_a_record_that_became_a_hit_and_one_that_is_none_any_more_are_told(
+    loaded: Library, acids: Claim, acids_sdf: Path, tmp_path: Path, monkeypatch: pytest.MonkeyPatch
+) -> None:
+    monkeypatch.setattr("markush.hits._FIRST_PAGE", 3)
+    monkeypatch.setattr("markush.hits._PAGE", 3)
+    loaded.replace(2, one(tmp_path / "2.sdf", acids_sdf, 33))
+    hits = loaded.search(acids, per="record")
+    given = [next(hits).record for _ in range(4)]
+    hits.save("acids")
+    rest = [hit.record for hit in hits]
+    assert given == [1, 3, 4, 5] and rest == [6, 7, 8]
+    saved = loaded.saved("acids")
+    assert not saved.ended and saved.query in loaded.queries()
+    loaded.replace(2, one(tmp_path / "2.sdf", acids_sdf, 2))  # into a hit
+    loaded.replace(4, one(tmp_path / "4.sdf", acids_sdf, 33))  # out of one
+    loaded.remove(3)
+    changes = saved.again()
+    assert [hit.record for hit in changes.new] == [2, *rest]
+    assert [lost.record for lost in changes.lost] == [3, 4] and changes.changed == ()
+    assert not loaded.saved("acids").again() and loaded.queries() == () and loaded.cursors() == ()
+
+
 def test_saved_searches_stay_with_the_store(program: Path, acids: Claim, acids_sdf: Path, tmp_path: Path) -> None:
     path = tmp_path / "x.db"
     with Library(path, program=program) as lib:

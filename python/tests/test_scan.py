@@ -185,6 +185,15 @@ def test_by_processes(acids: Claim, acids_sdf: Path, wanted: "List[RawHit]") -> 
             assert raw(hits) == wanted
 
 
+def test_by_dask(acids: Claim, acids_sdf: Path, wanted: "List[RawHit]") -> None:
+    """The workers are threads of this process, so that none has to start in time; that blocks are pickled is tried by processes."""
+    from distributed import Client, LocalCluster
+
+    with LocalCluster(n_workers=2, threads_per_worker=1, processes=False, dashboard_address=None) as cluster, Client(cluster) as client:
+        with scan(acids_sdf, acids, executor=client.get_executor(), window=3) as hits:
+            assert raw(hits) == wanted
+
+
 def test_closing_ends_what_is_under_way(acids: Claim, acids_sdf: Path) -> None:
     hits = scan(acids_sdf, acids)
     assert next(hits).record == 1

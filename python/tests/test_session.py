@@ -197,6 +197,14 @@ def test_one_that_was_ended_by_a_signal_is_told(session: Session) -> None:
         assert session.ask("say b").data == b"b\n"
 
 
+def test_one_that_was_ended_for_good_is_not_opened_again(session: Session) -> None:
+    session.ask("say a")
+    session.end(for_good=True)
+    with pytest.raises(MarkushError, match="this was closed"):
+        session.ask("say b")
+    assert session.process_id is None
+
+
 def test_standard_error_stands_in_the_message(session: Session) -> None:
     with pytest.raises(ProgramEnded, match="it said: there is no more paper"):
         session.ask("errors there is no more paper")

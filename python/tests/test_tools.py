@@ -8,6 +8,7 @@ import json
 import os
 import subprocess
 import sys
+from hashlib import sha256
 from pathlib import Path
 from typing import List, Sequence
 
@@ -40,7 +41,7 @@ def rows(text: str, delimiter: str = "\t") -> List[List[str]]:
 def test_each_tool_tells_its_words() -> None:
     ran = tools(["--help"])
     assert ran.returncode == 0
-    for name in ("find", "draw", "page", "table", "split", "structures", "why", "covers", "watch", "scan", "show", "run", "report", "normalize"):
+    for name in ("find", "draw", "page", "table", "split", "structures", "why", "covers", "watch", "scan", "show", "run", "report", "normalize", "serve"):
         told = tools([name, "--help"])
         assert told.returncode == 0 and told.stdout.startswith(f"usage: markush-tools {name} ".encode()), name
 
@@ -147,6 +148,60 @@ def test_what_find_wrote_is_made_anew(program: Path, tmp_path: Path, ending: str
     assert f"{compounds} is another file by now" in other.stdout.decode() and "searched: 33 then, 32 now" in other.stdout.decode()
 
 
+# the words of a tool, with {} for the compounds, and what its account says of the records
+LISTS = {
+    "table": (["table", CLAIM, "{}"], "33 searched, 0 refused, 0 unsearched"),
+    "scan": (["scan", CLAIM, "{}"], "33 searched, 0 refused, 0 unsearched"),
+    "why": (["why", CLAIM, "{}", "--record", "1", "--record", "9", "--timeout", "600"], "33 searched"),
+    "covers": (["covers", "{}", CLAIM, str(TOP / "crates/markush/data/q.mol"), "--no-why"], "33 searched"),
+}
+
+
+@pytest.mark.parametrize("name", LISTS)
+@pytest.mark.parametrize("is_named", [True, False], ids=["to a file", "to standard output"])
+def test_what_other_tools_wrote_is_made_anew(program: Path, tmp_path: Path, name: str, is_named: bool) -> None:
+    words, searched = LISTS[name]
+    compounds = tmp_path / "compounds.sdf"
+    compounds.write_bytes(Path(COMPOUNDS).read_bytes())
+    out = tmp_path / "found"
+    given = [word.format(compounds) for word in words]
+    ran = tools([*given, "--out", out] if is_named else given)
+    assert ran.returncode == 0, ran.stderr
+    assert (ran.stdout == b"") == is_named
+    if not is_named:
+        out.write_bytes(ran.stdout)
+    told = [line for line in out.read_text().splitlines() if line.startswith("# ")]
+    assert f"# claim: {CLAIM} sha256 {sha256(Path(CLAIM).read_bytes()).hexdigest()}" in told
+    assert f"# compounds: {compounds} sha256 {sha256(compounds.read_bytes()).hexdigest()}" in told
+    assert any(line.startswith(f"# records: {searched}") for line in told) and any(line.startswith("# program: sha256 ") for line in told)
+    same = tools(["report", out])
+    assert same.returncode == 0 and lines(same)[-1].startswith("the same: "), (same.stdout, same.stderr)
+    compounds.write_bytes(compounds.read_bytes().split(b"$$$$\n", 1)[1])
+    other = tools(["report", out])
+    assert other.returncode == 1, (other.stdout, other.stderr)
+    assert f"{compounds} is another file by now" in other.stdout.decode() and "searched: 33 then, 32 now" in other.stdout.decode()
+
+
+def test_a_store_that_holds_other_records_is_told(program: Path, tmp_path: Path) -> None:
+    from markush import Library
+
+    store, out = tmp_path / "x.db", tmp_path / "hits.json"
+    with Library(store) as library:
+        library.load(COMPOUNDS)
+    assert tools(["find", CLAIM, store, "--out", out]).returncode == 0
+    assert lines(tools(["report", out])) == ["the same: 11 hits in 33 records"]
+    with Library(store) as library:
+        library.replace(33, [library[32].mol])
+    assert lines(tools(["report", out])) == [f"{store} holds other records by now", "the same: 11 hits in 33 records"]
+
+
+def test_a_page_of_answers_says_that_it_is_not_made_anew(program: Path, tmp_path: Path) -> None:
+    out = tmp_path / "page.html"
+    assert tools(["page", CLAIM, COMPOUNDS, "--out", out], ANSWER).returncode == 0
+    ran = tools(["report", out])
+    assert ran.returncode == 2 and "was made by 'page' of answers on standard input" in ran.stderr.decode()
+
+
 def test_an_sdfile_of_hits_loads(program: Path, tmp_path: Path) -> None:
     out = tmp_path / "hits.sdf"
     assert tools(["find", CLAIM, COMPOUNDS, "--out", out]).returncode == 0
@@ -157,7 +212,8 @@ def test_an_sdfile_of_hits_loads(program: Path, tmp_path: Path) -> None:
 def test_a_table_of_a_claim_takes_the_standard_library_alone(tmp_path: Path) -> None:
     (tmp_path / "pandas.py").write_text("raise ImportError('there is none')\n")
     ran = tools(["table", CLAIM, COMPOUNDS], PYTHONPATH=f"{tmp_path}:{TOP}/python/src")
-    table = list(csv.DictReader(io.StringIO(ran.stdout.decode())))
+    told = [line for line in lines(ran) if not line.startswith("# ")]
+    table = list(csv.DictReader(io.StringIO("\n".join(told))))
     assert ran.returncode == 0 and list(table[0]) == ["record", "name", "formula", "R1@12", "R1@13", "R2"]
     assert [row["record"] for row in table] == list("12345678") and table[2]["R2"] == "*Cl" and table[2]["R1@13"] == ""
 
@@ -220,6 +276,9 @@ def test_a_store_is_searched(program: Path, tmp_path: Path) -> None:
         library.load(COMPOUNDS)
     ran = tools(["find", CLAIM, store])
     assert rows(ran.stdout.decode()) == rows(tools(["find", CLAIM, COMPOUNDS]).stdout.decode())
+    for words in (["table", CLAIM], ["why", CLAIM, "--record", "1"]):
+        assert rows(tools([*words, store]).stdout.decode()) == rows(tools([*words, COMPOUNDS]).stdout.decode()) != []
+    assert rows(tools(["covers", store, CLAIM, "--no-why"]).stdout.decode()) == rows(tools(["covers", COMPOUNDS, CLAIM, "--no-why"]).stdout.decode())
     shown = tools(["show", store, "3"])
     assert shown.returncode == 0 and shown.stdout.startswith(b"2,4-D\n") and shown.stdout.endswith(b"$$$$\n")
     assert tools(["show", store]).stdout.count(b"\n$$$$\n") == 33
@@ -334,7 +393,7 @@ def test_where_this_python_has_no_rdkit_debians_goes_on(tmp_path: Path) -> None:
 def test_compounds_beside_claims(program: Path) -> None:
     ether = str(TOP / "crates/markush/data/q.mol")
     ran = tools(["covers", COMPOUNDS, CLAIM, ether, "--no-why"])
-    found = [line.split("\t") for line in lines(ran)]
+    found = [line.split("\t") for line in lines(ran) if not line.startswith("# ")]
     assert ran.returncode == 0, ran.stderr
     assert found[0] == ["record", "name", "claim", "hit", "words"] and len(found) == 1 + 2 * 33
     assert len([row for row in found[1:] if row[2] == CLAIM and row[3] == "hit"]) == 8

@@ -886,7 +886,7 @@ class Library:
         >>> claim = Claim.read(EXAMPLES / "phenoxy_acids" / "claim.rgf")
         >>> with Library() as lib:
         ...     loaded = lib.load(EXAMPLES / "phenoxy_acids" / "compounds.sdf")
-        ...     print(lib.why_not(claim, 1))
+        ...     print(lib.why_not(claim, 1, timeout=60))
         it is a hit
         """
         from .reasons import why_not
@@ -959,8 +959,8 @@ def sieved(
 
 def closed(data: bytes) -> bytes:
     """A piece with its separator, also where the last of a file lacks it."""
-    lines = data.rstrip(b"\r\n").split(b"\n")
-    if lines[-1].startswith(b"$$$$"):
+    last = data.rstrip(b"\r\n").rpartition(b"\n")[2]
+    if last.startswith(b"$$$$"):
         return data if data.endswith(b"\n") else data + b"\n"
     return data + (b"" if data.endswith(b"\n") else b"\n") + b"$$$$\n"
 

@@ -3,8 +3,11 @@ from __future__ import annotations
 
 import concurrent.futures
 import os
+import uuid
+from array import array
 from collections import deque
 from dataclasses import dataclass
+from itertools import accumulate
 from typing import Any, BinaryIO, Deque, Generator, Iterable, Iterator, List, Optional, Sequence, Set, Tuple, Union, cast
 
 from .answers import RawHit, read_page, read_refusal
@@ -36,6 +39,48 @@ class Found:
 
     hits: Tuple[Tuple[int, Tuple[int, ...], Tuple[int, ...]], ...]
     refused: Tuple[Refused, ...]
+
+
+class Records(Sequence[RecordText]):
+    """The records of a block. They are pickled as one piece of bytes, so that a block goes to another process at little cost.
+
+    Parameters
+    ----------
+    records : iterable of RecordText
+        Records that are none (`fault`) aren't among them.
+
+    Examples
+    --------
+    >>> import pickle
+    >>> records = Records(read_records(EXAMPLES / "phenoxy_acids" / "compounds.sdf"))
+    >>> len(records), pickle.loads(pickle.dumps(records))[2] == records[2]
+    (33, True)
+    """
+
+    def __init__(self, records: Iterable[RecordText]) -> None:
+        self._held = tuple(records)
+
+    def __len__(self) -> int:
+        return len(self._held)
+
+    def __getitem__(self, at: Any) -> Any:
+        return self._held[at]
+
+    def __reduce__(self) -> Tuple[Any, ...]:
+        held = self._held
+        numbers = array("Q", (each for record in held for each in (record.number, len(record.raw), record.line)))
+        return _records, (b"".join(record.raw for record in held), numbers.tobytes())
+
+    def __dask_tokenize__(self) -> str:
+        # a block is looked at once, so its name needn't tell what is in it
+        return uuid.uuid4().hex
+
+
+def _records(raw: bytes, packed: bytes) -> Records:
+    numbers = array("Q", packed)
+    ends = list(accumulate(numbers[1::3], initial=0))
+    places = zip(numbers[::3], ends, ends[1:], numbers[2::3])
+    return Records(RecordText(number, raw[start:end], line) for number, start, end, line in places)
 
 
 def search_block(
@@ -105,7 +150,7 @@ def _hits(session: Session, claim: Claim) -> Iterator[RawHit]:
 class _Block:
     base: int  # how many records the files before its own have
     name: Optional[str]
-    records: Tuple[RecordText, ...]
+    records: Records
     count: int  # with those that aren't records
     future: "concurrent.futures.Future[Found]"
 
@@ -186,7 +231,7 @@ class Scan(Iterator[Hit]):
         self._under_way.clear()
         self._ready.clear()
         for session in list(self._live):
-            session.end()
+            session.end(for_good=True)
         if self._own is not None:
             self._own.shutdown(wait=True)
         if self._bar is not None:
@@ -268,7 +313,7 @@ class Scan(Iterator[Hit]):
         self.refused.append(fault)
 
     def _block(self, base: int, name: Optional[str], records: Sequence[RecordText]) -> _Block:
-        whole = tuple(record for record in records if record.fault is None)
+        whole = Records(record for record in records if record.fault is None)
         words: List[Any] = [whole, self.claim, name, self._per, self._program]
         if self._own is not None:
             words.append(self._live)

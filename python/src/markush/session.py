@@ -199,9 +199,16 @@ class Session:
             self._let_go()
             self._finalize()
 
-    def end(self) -> None:
-        """End the process at once, from any thread; a command that waits for its frame raises `ProgramEnded`."""
+    def end(self, for_good: bool = False) -> None:
+        """End the process at once, from any thread; a command that waits for its frame raises `ProgramEnded`.
+
+        Parameters
+        ----------
+        for_good : bool
+            Whether a further command raises too; else it opens the store again.
+        """
         self._check_process()
+        self._closed = self._closed or for_good
         self._held.end()
 
     def let_go(self, reason: str = "") -> None:

@@ -38,8 +38,13 @@ def make_parser() -> argparse.ArgumentParser:
     for name in COMMANDS:
         module = importlib.import_module(f"markush.tools.{name}")
         about = (module.__doc__ or "").strip()
+        # words are whole, since an account keeps them for `report`
         tool = tools.add_parser(
-            name, help=about.splitlines()[0].rstrip("."), description=about, formatter_class=argparse.RawDescriptionHelpFormatter
+            name,
+            help=about.splitlines()[0].rstrip("."),
+            description=about,
+            formatter_class=argparse.RawDescriptionHelpFormatter,
+            allow_abbrev=False,
         )
         module.add_words(tool)
         tool.set_defaults(run=module.run, takes_rdkit=getattr(module, "takes_rdkit", lambda _: False))

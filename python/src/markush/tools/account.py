@@ -1,15 +1,16 @@
 """The account of a result: by what, when and of what it was made, and what was searched, refused and left out.
 
-Each file that a tool writes bears its account, so that `report` can make it anew and compare.
+Each page, table and file that a search comes to bears its account, so that `report` can make it anew and compare.
 """
 from __future__ import annotations
 
+import hashlib
 import json
 import os
 import re
 from dataclasses import asdict, dataclass, field, replace
 from datetime import datetime, timezone
-from typing import Dict, List, Sequence, Tuple
+from typing import Any, Dict, List, Sequence, Tuple
 
 from .common import Fault, sha256_of
 
@@ -94,6 +95,18 @@ class Account:
             ("limits", "; ".join(self.limits) or "none was met"),
         ]
 
+    def lines(self) -> str:
+        """It as lines of a table, each with `# ` in front: those for people, and one that `report` reads.
+
+        Examples
+        --------
+        >>> account = Account("0.1.0", "ab", "2020", ["find"], [], [], 33, 0, 0, 8)
+        >>> account.lines().splitlines()[0], account.lines().splitlines()[-1][:24]
+        ('# made by: markush-tools 0.1.0', '# account {"package": "0')
+        """
+        told = "".join(f"{MARK}{what}: {which}\n" for what, which in self.pairs())
+        return f"{told}{MARK}account {self.json()}\n"
+
     def json(self) -> str:
         """It as one line of JSON.
 
@@ -103,6 +116,33 @@ class Account:
         '{"package": "0.1.0",'
         """
         return json.dumps(asdict(self), ensure_ascii=True)
+
+
+def named(path: str) -> Named:
+    """A file as an account names it.
+
+    Examples
+    --------
+    >>> named("/dev/null").sha256[:8]
+    'e3b0c442'
+    """
+    return Named(path, sha256_of(path))
+
+
+def named_store(path: str, library: Any) -> Named:
+    """A store as an account names it: by the sha256 of its records with their numbers, since its file is another after each run.
+
+    Examples
+    --------
+    >>> from markush import Library
+    >>> with Library() as library:
+    ...     named_store("x.db", library).sha256[:8]
+    'e3b0c442'
+    """
+    digest = hashlib.sha256()
+    for record in library:
+        digest.update(b"%d\n" % record.number + record.raw)
+    return Named(path, digest.hexdigest())
 
 
 def account_of(
@@ -171,7 +211,7 @@ def read_account(path: str) -> Tuple[Account, str]:
         text = file.read()
     found = None
     try:
-        if path.endswith(".json"):
+        if text.startswith("{"):
             held = json.loads(text)
             return _of(held.pop("account")), json.dumps(held, indent=1, sort_keys=True)
         for form in (r"(?m)^# account (\{.*\})\n", rf"(?s)> <{ITEM}>\n(\{{.*?\}})\n", re.escape(SCRIPT) + r"(.*?)</script>"):

@@ -10,7 +10,6 @@ from __future__ import annotations
 
 import argparse
 import csv
-import hashlib
 import io
 import json
 import sys
@@ -18,9 +17,9 @@ from dataclasses import dataclass, field
 from pathlib import Path
 from typing import IO, TYPE_CHECKING, Any, Dict, Iterator, List, Optional, Sequence, Set, Tuple
 
-from .account import ITEM, SCRIPT, Account, Named, account_of
+from .account import ITEM, SCRIPT, Account, Named, account_of, named, named_store
 from .common import HITS, NONE, SOME_REFUSED, Compounds, Fault, is_store, left_of
-from .common import needs_folder, sha256_of, takes_rdkit_for, tell, written
+from .common import needs_folder, takes_rdkit_for, tell, written
 
 if TYPE_CHECKING:
     from ..claim import Claim
@@ -155,10 +154,6 @@ def cells(claim: "Claim", choice: Sequence[int]) -> Dict[str, str]:
 # ---- searching
 
 
-def _named(path: str) -> Named:
-    return Named(path, sha256_of(path))
-
-
 def _size(paths: Sequence[str]) -> Tuple[int, int]:
     """How many records and bytes files have, counted no further than a library holds."""
     from ..records import open_bytes
@@ -186,13 +181,13 @@ def search(args: argparse.Namespace, for_page: bool = False) -> Tuple[Found, Lis
                 f"markush-tools find: {path} isn't closed, so --not leaves out each compound that bears more than it draws, too",
                 file=sys.stderr,
             )
-    named = [_named(path) for path in (args.claim, *args.others, *args.without)]
+    held = [named(path) for path in (args.claim, *args.others, *args.without)]
     stores = [name for name in args.compounds if is_store(name)]
     if stores and len(args.compounds) > 1:
         raise Fault(f"{stores[0]} is a store, which is searched alone")
     found = Found(claims, per="map" if for_page else "choice", why=args.why if for_page else 0)
     if stores:
-        return found, named, [_search_store(found, without, stores[0])]
+        return found, held, [_search_store(found, without, stores[0])]
     with Compounds(args.compounds) as compounds:
         paths = [source.path for source in compounds.sources]
         records, size = _size(paths)
@@ -203,19 +198,16 @@ def search(args: argparse.Namespace, for_page: bool = False) -> Tuple[Found, Lis
             _scan(found, without, paths, args.jobs)
         else:
             _search_files(found, without, compounds)
-        return found, named, [Named(source.name, source.sha256) for source in compounds.sources]
+        return found, held, [Named(source.name, source.sha256) for source in compounds.sources]
 
 
 def _search_store(found: Found, without: Sequence["Claim"], path: str) -> Named:
     from ..library import Library
 
-    digest = hashlib.sha256()
     with Library(path) as library:
-        for record in library:
-            digest.update(b"%d\n" % record.number + record.raw)
         found.searched = len(library)
         _search_library(found, without, library)
-    return Named(path, digest.hexdigest())
+        return named_store(path, library)
 
 
 def _search_files(found: Found, without: Sequence["Claim"], compounds: Compounds) -> None:
@@ -287,9 +279,7 @@ def rows(found: Found) -> Iterator[List[str]]:
 
 def write_table(out: IO[str], found: Found, account: Account, delimiter: str) -> None:
     """The table, with its account in front, in lines that begin with `# `."""
-    for what, which in account.pairs():
-        out.write(f"# {what}: {which}\n")
-    out.write(f"# account {account.json()}\n")
+    out.write(account.lines())
     table = csv.writer(out, delimiter=delimiter, lineterminator="\n")
     table.writerows(rows(found))
 

@@ -13,8 +13,8 @@ import re
 from dataclasses import dataclass
 from typing import Any, Dict, Iterable, List, Mapping, Tuple
 
-from .account import Named, account_of
-from .common import HITS, NONE, Fault, open_bytes, sha256_of, text_of, written
+from .account import account_of, named
+from .common import HITS, NONE, Fault, open_bytes, text_of, written
 from .find import how_many, with_account
 
 HIT = re.compile(r"hit (\d+) choice((?: \d+)*) map((?: \d+)*)")
@@ -31,6 +31,13 @@ def add_words(parser: argparse.ArgumentParser) -> None:
     parser.add_argument("--title", metavar="TEXT", help="the page's title; the claim's where none is given")
     parser.add_argument("--why", type=how_many, default=0, metavar="N", help="say of so many that aren't hit why; or all")
     parser.add_argument("--out", metavar="FILE", help="the file that is written; standard output without it")
+
+
+def takes_rdkit(args: argparse.Namespace) -> bool:
+    """Whether the claim has to be drawn."""
+    from .find import _is_list
+
+    return _is_list(args.claim)
 
 
 @dataclass(frozen=True)
@@ -121,15 +128,15 @@ def run(args: argparse.Namespace) -> int:
         hits, limits = hits_of(text_of(answers.read()).splitlines())
     records = _records(args)
     given = args.file if args.store is None else args.store
-    named, compounds = Named(args.claim, sha256_of(args.claim)), Named(given, sha256_of(given))
+    held, compounds = named(args.claim), named(given)
     account = account_of(
-        args.words, [named], [compounds], searched=len(records), refused=0, hits=len(hits), limits=limits
+        args.words, [held], [compounds], searched=len(records), refused=0, hits=len(hits), limits=limits
     )
     made = Made(
         program=f"sha256 {account.program}",
         package=account.package,
         date=account.date,
-        claim=Source(named.name, named.sha256),
+        claim=Source(held.name, held.sha256),
         compounds=(Source(compounds.name, compounds.sha256),),
     )
     page = io.StringIO()

@@ -1,8 +1,8 @@
 """Make a result anew by its account, and compare.
 
-FILE is what `find` or `page` wrote. The claim and the compounds have to be where they were, since they are named as they
-were given; where one of them is another file by now this is said. The status is 0 where the same came out, 1 where
-something else did, and 2 where it can't be made.
+FILE is what `find`, `table`, `scan`, `covers` or `why` wrote of a claim and compounds. These have to be where they were,
+since they are named as they were given; where one of them is another file by now this is said. The status is 0 where the
+same came out, 1 where something else did, and 2 where it can't be made, as from answers on standard input.
 """
 from __future__ import annotations
 
@@ -13,12 +13,14 @@ import io
 import os
 import tempfile
 from pathlib import Path
-from typing import List
+from typing import List, Tuple
 
 from .account import Account, read_account
 from .common import HITS, NONE, Fault, is_store, sha256_of
 
 MOST_LINES = 20
+# what has a claim and compounds among its words
+MADE_ANEW = ("find", "table", "scan", "covers", "why")
 
 
 def add_words(parser: argparse.ArgumentParser) -> None:
@@ -45,18 +47,34 @@ def changed_files(account: Account) -> List[str]:
     return said
 
 
+def ending_of(path: str) -> str:
+    """The ending of a result whose words name no file, by how it begins; a table that went to standard output has tabs.
+
+    Examples
+    --------
+    >>> ending_of("/dev/null")
+    '.tsv'
+    """
+    with open(path, encoding="utf-8") as file:
+        first = file.read(1)
+    return {"{": ".json", "<": ".html"}.get(first, ".tsv")
+
+
 def run(args: argparse.Namespace) -> int:
     """Make it anew, and say what differs."""
     account, before = read_account(args.file)
     words = list(account.words)
-    if not words or words[0] != "find":
-        raise Fault(f"{args.file} was made by '{' '.join(words[:1])}' of answers; those that 'find' made can be made anew")
+    if not words or words[0] not in MADE_ANEW:
+        raise Fault(
+            f"{args.file} was made by '{' '.join(words[:1])}' of answers on standard input; what {', '.join(MADE_ANEW)} made of "
+            f"a claim and compounds can be made anew"
+        )
     said = changed_files(account)
     from . import main
 
     with tempfile.TemporaryDirectory(prefix="markush-tools-") as folder:
-        anew = str(Path(folder) / f"anew{Path(args.file).suffix or '.tsv'}")
-        given = _without_out(words)
+        given, out = _without_out(words)
+        anew = str(Path(folder) / f"anew{Path(out).suffix if out else ending_of(args.file)}")
         with contextlib.redirect_stdout(io.StringIO()), contextlib.redirect_stderr(io.StringIO()) as errors:
             status = main([*given, "--out", anew])
         if not os.path.isfile(anew):
@@ -65,6 +83,9 @@ def run(args: argparse.Namespace) -> int:
     for what in ("package", "program"):
         if getattr(account, what) != getattr(now, what):
             said.append(f"the {what} was {getattr(account, what)} and is {getattr(now, what)}")
+    for then, file in zip(account.compounds, now.compounds):
+        if is_store(file.name) and then.sha256 != file.sha256:
+            said.append(f"{file.name} holds other records by now")
     for line in said:
         print(line)
     counts = ("searched", "refused", "unsearched", "hits", "limits")
@@ -82,13 +103,17 @@ def run(args: argparse.Namespace) -> int:
     return NONE
 
 
-def _without_out(words: List[str]) -> List[str]:
-    kept, skip = [], False
+def _without_out(words: List[str]) -> Tuple[List[str], str]:
+    """The words without those that name the file that is written, and that file, if they do."""
+    kept: List[str] = []
+    out, is_next = "", False
     for word in words:
-        if skip:
-            skip = False
+        if is_next:
+            out, is_next = word, False
         elif word == "--out":
-            skip = True
-        elif not word.startswith("--out="):
+            is_next = True
+        elif word.startswith("--out="):
+            out = word[len("--out=") :]
+        else:
             kept.append(word)
-    return kept
+    return kept, out

@@ -1,17 +1,18 @@
 """Search files of any size for a claim, block by block, and write the hits as they are found.
 
 FILES are SDfiles, packed by gzip or xz or not; - is standard input. Hits stand in the order of the files, with tabs: the
-record's number over all files, its name, the choice, and a column for each site. Records that are refused are named on
-standard error and passed over.
+record's number over all files, its name, the choice, and a column for each site. After them comes the account, in lines
+that begin with `# `: by what, when and of which files they were found, and how many records were searched and refused.
+Records that are refused are named on standard error and passed over.
 """
 from __future__ import annotations
 
 import argparse
 import concurrent.futures
 import csv
-import sys
 
-from .common import HITS, NONE, SOME_REFUSED, Compounds, left_of, takes_rdkit_for, tell
+from .account import Named, account_of, named
+from .common import HITS, NONE, SOME_REFUSED, Compounds, left_of, needs_folder, takes_rdkit_for, tell, written
 from .find import _is_list, cells, columns
 
 
@@ -21,6 +22,7 @@ def add_words(parser: argparse.ArgumentParser) -> None:
     parser.add_argument("files", nargs="+", metavar="FILE", help="an SDfile")
     parser.add_argument("--jobs", type=int, metavar="N", help="so many blocks at a time; as many as there are processors")
     parser.add_argument("--count", action="store_true", help="write how many records and hits there are, and no hit")
+    parser.add_argument("--out", metavar="FILE", help="the file that is written; standard output without it")
 
 
 def takes_rdkit(args: argparse.Namespace) -> bool:
@@ -35,9 +37,11 @@ def run(args: argparse.Namespace) -> int:
 
     claim = Claim.read(args.claim)
     names = columns([claim])
-    table = csv.writer(sys.stdout, delimiter="\t", lineterminator="\n")
     count = 0
-    with Compounds(args.files) as compounds, concurrent.futures.ThreadPoolExecutor(args.jobs) as pool:
+    if args.out:
+        needs_folder(args.out)
+    with Compounds(args.files) as compounds, written(args.out) as out, concurrent.futures.ThreadPoolExecutor(args.jobs) as pool:
+        table = csv.writer(out, delimiter="\t", lineterminator="\n")
         if not args.count:
             table.writerow(["record", "name", "choice", *names])
         with scan([source.path for source in compounds.sources], claim, executor=pool) as hits:
@@ -49,7 +53,12 @@ def run(args: argparse.Namespace) -> int:
                     table.writerow([hit.record, hit.name, choice, *(held.get(name, "") for name in names)])
             left = [*compounds.left, *map(left_of, hits.refused)]
             records = hits.records
-    if args.count:
-        print(f"{records} records, {count} hits, {len(left)} refused")
+            searched = records - len(hits.refused)
+        if args.count:
+            out.write(f"{records} records, {count} hits, {len(left)} refused\n")
+        else:
+            files = [Named(source.name, source.sha256) for source in compounds.sources]
+            account = account_of(args.words, [named(args.claim)], files, searched=searched, refused=len(left), hits=count)
+            out.write(account.lines())
     tell(left)
     return SOME_REFUSED if left else HITS if count else NONE

@@ -24,8 +24,10 @@ def add_words(parser: argparse.ArgumentParser) -> None:
 
 
 def takes_rdkit(args: argparse.Namespace) -> bool:
-    """Whether SMILES are written."""
-    return not args.sdf
+    """Whether SMILES are written, or the claim has to be drawn."""
+    from .find import _is_list
+
+    return not args.sdf or (args.claim is not None and _is_list(args.claim))
 
 
 def blocks(lines: Iterable[str]) -> Iterator[List[str]]:

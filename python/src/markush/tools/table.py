@@ -1,11 +1,12 @@
 """Write hits and members as a table for a spreadsheet.
 
-    table CLAIM COMPOUNDS..             the members at each site of each compound that is hit, with its name and data
+    table CLAIM COMPOUNDS..             the members at each site of each compound that is hit, with its name and data, as CSV
     table FILE.sdf <answers             the rows that `table` answered, with names and data items beside them, as CSV
     table --hits FILE.sdf <answers      a line for each hit among the answers: record, name, choice, map, with tabs
 
 In the last two the answers are lines of the program, of which others are passed over, and FILE.sdf is the file whose
-first record has the number 1.
+first record has the number 1. The first table begins with its account, in lines that begin with `# `: by what, when and
+of which files it was made, and how many records were searched and refused.
 """
 from __future__ import annotations
 
@@ -15,7 +16,9 @@ import re
 import sys
 from typing import Dict, Iterable, List, Tuple
 
-from .common import HITS, NONE, SOME_REFUSED, Compounds, Fault, open_bytes, takes_rdkit_for, tell, text_of
+from .account import account_of, named
+from .common import HITS, NONE, SOME_REFUSED, Fault, needs_folder, open_bytes, takes_rdkit_for, tell, text_of, written
+from .held import held
 
 ITEM = re.compile(r">.*<(.*)>")
 
@@ -24,11 +27,14 @@ def add_words(parser: argparse.ArgumentParser) -> None:
     """The words of the tool."""
     parser.add_argument("files", nargs="+", metavar="FILE", help="the claim and the compounds, or the SDfile of the answers")
     parser.add_argument("--hits", action="store_true", help="of answers the hits, and not the table")
+    parser.add_argument("--out", metavar="FILE", help="of a claim: the file that is written; standard output without it")
 
 
 def takes_rdkit(args: argparse.Namespace) -> bool:
-    """Whether a list of SMILES is among the compounds."""
-    return takes_rdkit_for(args.files[1:])
+    """Whether something has to be drawn."""
+    from .find import _is_list
+
+    return takes_rdkit_for(args.files[1:]) or (len(args.files) > 1 and _is_list(args.files[0]))
 
 
 def records_of(path: str) -> List[Tuple[str, Dict[str, str]]]:
@@ -110,6 +116,8 @@ def table_of_answers(lines: Iterable[str], path: str) -> int:
 def run(args: argparse.Namespace) -> int:
     """Write the table."""
     if len(args.files) == 1:
+        if args.out:
+            raise Fault("--out goes with a claim and its compounds; a table of answers goes to standard output")
         with open_bytes("-") as answers:
             lines = text_of(answers.read()).splitlines()
         make = hits_of_answers if args.hits else table_of_answers
@@ -118,14 +126,24 @@ def run(args: argparse.Namespace) -> int:
         raise Fault("--hits goes with one SDfile and answers on standard input; 'find' writes the hits of a claim")
     from ..claim import Claim
     from ..frames import table_columns_rows
-    from ..library import Library
 
+    if args.out:
+        needs_folder(args.out)
     claim = Claim.read(args.files[0])
-    with Compounds(args.files[1:]) as compounds, Library() as library:
-        left = compounds.load_into(library)
-        columns, rows = table_columns_rows(library, claim)
-    table = csv.DictWriter(sys.stdout, columns, lineterminator="\n")
-    table.writeheader()
-    table.writerows(rows)
-    tell(left)
-    return SOME_REFUSED if left else HITS if rows else NONE
+    with held(args.files[1:]) as found:
+        columns, rows = table_columns_rows(found.library, claim)
+        account = account_of(
+            args.words,
+            [named(args.files[0])],
+            found.named,
+            searched=len(found.library),
+            refused=len(found.left),
+            hits=len(rows),
+        )
+    with written(args.out) as out:
+        out.write(account.lines())
+        table = csv.DictWriter(out, columns, lineterminator="\n")
+        table.writeheader()
+        table.writerows(rows)
+    tell(found.left)
+    return SOME_REFUSED if found.left else HITS if rows else NONE

@@ -1,12 +1,15 @@
 """Say of each compound that isn't a hit which single demand of the claim keeps it from being one.
 
-A line for each compound has its number, its name and the reason, with tabs between; of a hit it says so.
+A line for each compound has its number, its name and the reason, with tabs between; of a hit it says so. The account
+comes first, in lines that begin with `# `: by what, when and of which files this was made.
 """
 from __future__ import annotations
 
 import argparse
 
-from .common import HITS, NONE, SOME_REFUSED, Compounds, Fault, is_store, takes_rdkit_for, tell
+from .account import account_of, named
+from .common import HITS, NONE, SOME_REFUSED, Fault, needs_folder, takes_rdkit_for, tell, written
+from .held import held
 
 
 def add_words(parser: argparse.ArgumentParser) -> None:
@@ -15,6 +18,7 @@ def add_words(parser: argparse.ArgumentParser) -> None:
     parser.add_argument("compounds", nargs="+", metavar="COMPOUNDS", help="SDfiles, lists of SMILES, or one store")
     parser.add_argument("--record", type=int, action="append", default=[], metavar="N", help="of this record alone")
     parser.add_argument("--timeout", type=float, default=2.0, metavar="SECONDS", help="for each compound; 2 where nothing is said")
+    parser.add_argument("--out", metavar="FILE", help="the file that is written; standard output without it")
 
 
 def takes_rdkit(args: argparse.Namespace) -> bool:
@@ -27,19 +31,33 @@ def takes_rdkit(args: argparse.Namespace) -> bool:
 def run(args: argparse.Namespace) -> int:
     """Say why."""
     from ..claim import Claim
-    from ..library import Library
 
+    if args.out:
+        needs_folder(args.out)
     claim = Claim.read(args.claim)
-    stores = [name for name in args.compounds if is_store(name)]
-    if stores and len(args.compounds) > 1:
-        raise Fault(f"{stores[0]} is a store, which is looked at alone")
-    with Compounds([] if stores else args.compounds) as compounds, Library(stores[0] if stores else None) as library:
-        left = compounds.load_into(library)
+    lines, late = [], 0
+    with held(args.compounds) as records:
+        library = records.library
         hits = {hit.record for hit in library.search(claim, per="record")}
         for number in args.record or library.numbers:
             if number not in library:
                 raise Fault(f"there is no record {number}")
-            said = "it is a hit" if number in hits else library.why_not(claim, number, args.timeout)
-            print(number, library[number].name, said, sep="\t")
-    tell(left)
-    return SOME_REFUSED if left else HITS if hits else NONE
+            said = "it is a hit"
+            if number not in hits:
+                reason = library.why_not(claim, number, args.timeout)
+                said, late = str(reason), late + (reason.kind == "time")
+            lines.append(f"{number}\t{library[number].name}\t{said}\n")
+        account = account_of(
+            args.words,
+            [named(args.claim)],
+            records.named,
+            searched=len(library),
+            refused=len(records.left),
+            hits=len(hits),
+            limits=[f"{late} not told in {args.timeout:g} s"] if late else [],
+        )
+    with written(args.out) as out:
+        out.write(account.lines())
+        out.writelines(lines)
+    tell(records.left)
+    return SOME_REFUSED if records.left else HITS if hits else NONE
