@@ -12,7 +12,6 @@ import signal
 import sys
 from pathlib import Path
 from typing import Any
-from urllib.parse import quote
 
 from .common import HITS, Fault, go_on_with_rdkit
 
@@ -58,8 +57,8 @@ def run(args: argparse.Namespace) -> int:
             _load(serving.bench, bodies)
             if not args.no_browser:
                 serving.open_browser()
-            while driver._thread.is_alive():
-                driver._thread.join(timeout=0.5)
+            while not driver.ended.wait(0.5):
+                pass
             if driver.fault:
                 raise Fault(driver.fault)
         except KeyboardInterrupt:
@@ -68,13 +67,12 @@ def run(args: argparse.Namespace) -> int:
 
 
 def _load(bench: Any, bodies: Any) -> None:
-    import json
     import time
 
     while bodies and not bench.is_ready and not bench.driver.fault:
         time.sleep(0.02)
     for path, body in bodies:
-        bench.load(body, quote(json.dumps({"how": "add", "name": os.path.basename(path)})))
+        bench.compounds.load_file(path, body)
 
 
 def _interrupt(*_: object) -> None:
