@@ -140,6 +140,7 @@ def test_classes_become_members_with_names() -> None:
     assert len(members) == 8 + 1 + 1 + 8
     assert listed.names[1, 1] == "lower alkyl: methyl" and listed.names[1, 9] == "halogen" and listed.names[1, 10] == "Ph"
     assert listed.names[1, 11] == "pentyl" and members[8].atoms[0].elements == ("F", "Cl", "Br", "I")
+    assert listed.names[1, 13] == "*CC(CC)C"  # one that has no short name
 
 
 def test_an_included_file_stands_in_the_place_of_its_line(tmp_path: Path) -> None:
@@ -168,6 +169,7 @@ NOTES = [
     ("root CO |c:1|", "`|c:1|` behind the SMILES is left out"),
     ("root C[*:2]C\nR2 *O*", "atom 2 `[*:2]` is a site of R2"),
     ("root C[R1]\nR1 *F\nR1 H\nlogic R1 1 rest", "line 4: R1 has H as a member and `rest`"),
+    ("root C[R1]\nR1 [H][*:1]\nR1 *F\nlogic R1 0-1 rest", "line 4: R1 has H as a member and `rest`"),
     ("root CC\nR3 *F", "line 2: R3 has members, and no site bears it"),
     ("root CC\nlogic R3 1", "line 2: logic for R3"),
 ]

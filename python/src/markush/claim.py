@@ -162,7 +162,7 @@ class Claim:
     def _from_list(cls, text: str, folder: Optional[Path], file: Optional[str]) -> "Claim":
         from .claim_list import read_claim_list
 
-        listed = read_claim_list(text, folder)
+        listed = read_claim_list(text, folder, file or "")
         return cls(listed.rgfile, listed.names, listed.title, file)
 
     @classmethod

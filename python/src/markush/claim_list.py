@@ -15,6 +15,7 @@ from pathlib import Path
 
 from .claim_smiles import Word, read_word
 from .claim_words import CLASSES, members_of
+from .drawing import plain_smiles
 from .errors import Refused
 from .molecules import rdkit
 from .rgfile import Atom, Bond, Group, Link, Logic, Query, Site, Template, block_of, is_range, template, write_query
@@ -94,13 +95,14 @@ class _Claim:
     notes: list[str] = field(default_factory=list)
 
 
-def read_claim_list(text: str, folder: Path | None = None) -> ListedClaim:
+def read_claim_list(text: str, folder: Path | None = None, file: str = "") -> ListedClaim:
     """Reads the list of a claim.
 
     Parameters
     ----------
     text : the list, a line for each part.
     folder : where the files of `include` lines lie; without it they are refused.
+    file : the list's own name, which stands in front of each warning.
 
     Raises
     ------
@@ -130,7 +132,7 @@ def read_claim_list(text: str, folder: Path | None = None) -> ListedClaim:
     groups += [Group(label, (), logic) for label, (_, logic) in sorted(claim.logic.items()) if label not in members]
     query = Query(claim.title, root.made, tuple(groups))
     for note in claim.notes:
-        warnings.warn(note, ClaimNote, stacklevel=2)
+        warnings.warn(f"{file}: {note}" if file else note, ClaimNote, stacklevel=2)
     placed = [((label, n), it) for label, held in members.items() for n, it in enumerate(held, 1)]
     return ListedClaim(
         write_query(query, "  markush, from a list"), {key: it.name for key, it in placed if it.name}, claim.title, query, root.name,
@@ -244,7 +246,7 @@ def _read_member(claim: _Claim, line: _Line, words: list[str]) -> None:
         raise line.fault(f"{word} has no member of {first} to {last} carbons")
     name = _name(claim, line, rest)
     for smiles, short in made:
-        own = short or smiles.lstrip("*")
+        own = short or plain_smiles(smiles)
         held.append((line, smiles, own if not name else name if len(made) == 1 else f"{name}: {own}"))
 
 
@@ -468,7 +470,7 @@ def _check(claim: _Claim, root: _Member, members: dict[int, list[_Member]]) -> N
     for label, (line, logic) in sorted(claim.logic.items()):
         if label not in members:
             claim.notes.append(f"{line.place}: logic for R{label}, which no site bears")
-        elif logic.rest and any(it.word.text == "*[H]" for it in members[label]):
+        elif logic.rest and any([atom.symbol for atom in it.made.atoms] in (["H"], ["D"], ["T"]) for it in members[label]):
             claim.notes.append(f"{line.place}: R{label} has H as a member and `rest`, so its hydrogen is said twice: as filled and as unfilled")
         if logic.then and logic.then not in members:
             claim.notes.append(f"{line.place}: then R{logic.then}, which has no member")
