@@ -286,6 +286,12 @@ def test_counts_of_all_groups_are_told_where_there_are_too_many() -> None:
         read("root C([R1])([R2])[R3]\nR1 *F\nR2 alkyl 11\nR2 alkyl 12\nR3 *F")
 
 
+def test_a_claim_that_is_too_long_for_the_program_is_refused_by_its_list() -> None:
+    many = "\n".join(f"R1 *{'C' * 80}" for _ in range(900))
+    with pytest.raises(Refused, match=r"^line 902: the claim has 4,741,706 bytes as an RGfile, and 4,194,304 are the most; .*: R1 900, R2 1$"):
+        read(f"root C([R1])[R2]\n\n{many}\nR2 *F")
+
+
 def test_the_list_of_an_example_is_its_claim() -> None:
     folder = TOP / "examples/local_anaesthetics"
     listed = read((folder / "claim.txt").read_text(), folder)

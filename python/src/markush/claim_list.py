@@ -26,6 +26,8 @@ MOST_MEMBERS = 4096
 MOST_SIZE = 512
 MOST_BONDS = 20
 MOST_LINES = 100_000
+# of an RGfile: docs/COMMANDS.md, "query"
+MOST_BYTES = 4_194_304
 
 
 class ClaimNote(UserWarning):
@@ -131,11 +133,13 @@ def read_claim_list(text: str, folder: Path | None = None, file: str = "") -> Li
     ]
     groups += [Group(label, (), logic) for label, (_, logic) in sorted(claim.logic.items()) if label not in members]
     query = Query(claim.title, root.made, tuple(groups))
+    rgfile = write_query(query, "  markush, from a list")
+    _check_bytes(claim, rgfile)
     for note in claim.notes:
         warnings.warn(f"{file}: {note}" if file else note, ClaimNote, stacklevel=2)
     placed = [((label, n), it) for label, held in members.items() for n, it in enumerate(held, 1)]
     return ListedClaim(
-        write_query(query, "  markush, from a list"), {key: it.name for key, it in placed if it.name}, claim.title, query, root.name,
+        rgfile, {key: it.name for key, it in placed if it.name}, claim.title, query, root.name,
         tuple(claim.notes), {(0, 0): root.line.place, **{key: it.line.place for key, it in placed}},
     )
 
@@ -271,10 +275,24 @@ def _read_logic(claim: _Claim, line: _Line, words: list[str]) -> None:
 def _check_count(claim: _Claim) -> None:
     total = sum(map(len, claim.members.values()))
     if total > MOST_MEMBERS:
-        counts = ", ".join(f"R{label} {len(held):,}" for label, held in sorted(claim.members.items()))
-        label = max(claim.members, key=lambda it: len(claim.members[it]))
-        line = claim.members[label][-1][0]
-        raise line.fault(f"the claim has {total:,} members, and {MOST_MEMBERS:,} are the most: {counts}")
+        raise _last_of_most(claim).fault(f"the claim has {total:,} members, and {MOST_MEMBERS:,} are the most: {_counts(claim)}")
+
+
+def _check_bytes(claim: _Claim, rgfile: str) -> None:
+    size = len(rgfile.encode("utf-8", "surrogateescape"))
+    if size > MOST_BYTES:
+        raise _last_of_most(claim).fault(
+            f"the claim has {size:,} bytes as an RGfile, and {MOST_BYTES:,} are the most; write fewer members, or smaller ones: {_counts(claim)}"
+        )
+
+
+def _counts(claim: _Claim) -> str:
+    return ", ".join(f"R{label} {len(held):,}" for label, held in sorted(claim.members.items()))
+
+
+def _last_of_most(claim: _Claim) -> _Line:
+    """The line of the last member of the group that has the most."""
+    return max(claim.members.values(), key=len)[-1][0]
 
 
 # ---- one word

@@ -233,6 +233,8 @@ def _search_files(found: Found, without: Sequence["Claim"], compounds: Compounds
 
 
 def _search_library(found: Found, without: Sequence["Claim"], library: Any) -> None:
+    from ..reasons import why_not_each
+
     excluded = {hit.record for claim in without for hit in library.search(claim, per="record")}
     for place, claim in enumerate(found.claims):
         found.hits += [(place, hit) for hit in library.search(claim, per=found.per) if hit.record not in excluded]
@@ -241,9 +243,10 @@ def _search_library(found: Found, without: Sequence["Claim"], library: Any) -> N
         found.records = list(library)
         hit_records = {hit.record for _, hit in found.hits}
         others = [record.number for record in found.records if record.number not in hit_records]
+        asked = [record for record in found.records if record.number in set(others[: found.why]) - excluded]
+        said = why_not_each(found.claims[0], asked)
         for number in others[: found.why]:
-            said = "a claim of --not has a hit in it" if number in excluded else str(library.why_not(found.claims[0], number))
-            found.reasons[number] = said
+            found.reasons[number] = str(said.get(number, "a claim of --not has a hit in it"))
 
 
 def _scan(found: Found, without: Sequence["Claim"], paths: Sequence[str], jobs: Optional[int]) -> None:
