@@ -140,6 +140,7 @@ def test_classes_become_members_with_names() -> None:
     assert len(members) == 8 + 1 + 1 + 8
     assert listed.names[1, 1] == "lower alkyl: methyl" and listed.names[1, 9] == "halogen" and listed.names[1, 10] == "Ph"
     assert listed.names[1, 11] == "pentyl" and members[8].atoms[0].elements == ("F", "Cl", "Br", "I")
+    assert listed.names[1, 13] == "*CC(CC)C"  # one that has no short name
 
 
 def test_an_included_file_stands_in_the_place_of_its_line(tmp_path: Path) -> None:
@@ -168,6 +169,7 @@ NOTES = [
     ("root CO |c:1|", "`|c:1|` behind the SMILES is left out"),
     ("root C[*:2]C\nR2 *O*", "atom 2 `[*:2]` is a site of R2"),
     ("root C[R1]\nR1 *F\nR1 H\nlogic R1 1 rest", "line 4: R1 has H as a member and `rest`"),
+    ("root C[R1]\nR1 [H][*:1]\nR1 *F\nlogic R1 0-1 rest", "line 4: R1 has H as a member and `rest`"),
     ("root CC\nR3 *F", "line 2: R3 has members, and no site bears it"),
     ("root CC\nlogic R3 1", "line 2: logic for R3"),
 ]
@@ -282,6 +284,12 @@ def test_a_fault_names_its_line(text: str, line: int, words: str) -> None:
 def test_counts_of_all_groups_are_told_where_there_are_too_many() -> None:
     with pytest.raises(Refused, match="R1 1, R2 4,295, R3 1"):
         read("root C([R1])([R2])[R3]\nR1 *F\nR2 alkyl 11\nR2 alkyl 12\nR3 *F")
+
+
+def test_a_claim_that_is_too_long_for_the_program_is_refused_by_its_list() -> None:
+    many = "\n".join(f"R1 *{'C' * 80}" for _ in range(900))
+    with pytest.raises(Refused, match=r"^line 902: the claim has 4,741,706 bytes as an RGfile, and 4,194,304 are the most; .*: R1 900, R2 1$"):
+        read(f"root C([R1])[R2]\n\n{many}\nR2 *F")
 
 
 def test_the_list_of_an_example_is_its_claim() -> None:

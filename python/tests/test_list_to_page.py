@@ -99,3 +99,44 @@ def test_its_hits_are_a_page(folder: Path) -> None:
     assert [(n, name) for n, name, _ in data["missed"]] == [(n, name) for n, (_, name, choice, _) in enumerate(COMPOUNDS, 1) if not choice]
     told = {(facet["t"], value["n"]) for facet in data["facets"] for value in facet["v"]}
     assert {("R1: 1", "ether"), ("R2 in R1; else H", "methyl"), ("R3 in R2", "acid")} <= told
+
+
+NASTY = "<img src=x onerror=alert(1)>"
+
+
+def test_what_users_wrote_is_text_on_the_page(folder: Path) -> None:
+    """As title, member, compound, data item and its name, and as the names of both files."""
+    claim, compounds = f"{NASTY}.txt", f"{NASTY}.sdf"
+    (folder / claim).write_text(f"title {NASTY}\nroot c1ccccc1[R1]\nR1 *[OH] {NASTY}\n")
+    (folder / "list.smi").write_text(f"c1ccccc1O {NASTY}\nCCO {NASTY}\n")
+    tools(folder, "draw", "list.smi", "--out", compounds)
+    drawn = (folder / compounds).read_text()
+    (folder / compounds).write_text(drawn.replace("> <formula>", f"> {NASTY}\n{NASTY}\n\n> <formula>"))
+    tools(folder, "find", claim, compounds, "--data", NASTY[1:-1], "--out", f"{NASTY}.html")
+    page = (folder / f"{NASTY}.html").read_text()
+    assert "<img" not in page and page.count("<script") == page.count("</script") == 4
+    data: Dict[str, Any] = json.loads(re.search(r'<script type="application/json" id="data">(.*?)</script>', page, re.S)[1])
+    assert data["title"] == NASTY and data["names"] == [NASTY] and (data["items"], data["values"]) == ([NASTY[1:-1]], [[NASTY]])
+    assert data["tables"][1]["t"] == NASTY and data["missed"] == [[2, NASTY, "the root doesn't lie in it"]]
+    assert {claim, compounds} <= {row[1] for row in data["origin"]}
+
+
+def test_a_page_has_the_title_names_and_data_that_are_asked_for(folder: Path) -> None:
+    words = ["--title", "a title", "--name", "formula", "--data", "formula", "--why", "1"]
+    tools(folder, "find", "claim.txt", "compounds.smi", *words, "--out", "hits.html")
+    page = (folder / "hits.html").read_text()
+    data: Dict[str, Any] = json.loads(re.search(r'<script type="application/json" id="data">(.*?)</script>', page, re.S)[1])
+    assert data["title"] == "a title" and data["items"] == ["formula"]
+    assert [[name] for name in data["names"]] == data["values"] and all(re.fullmatch(r"C[0-9].*", name) for name in data["names"])
+    assert [bool(row[2]) for row in data["missed"]] == [n == 0 for n in range(len(data["missed"]))]
+
+
+def test_notes_of_a_list_are_lines_for_people(folder: Path) -> None:
+    (folder / "noted.txt").write_text("root C[*:2]C[C@H](F)O\nR2 *O*\n")
+    words = [sys.executable, "-m", "markush.tools", "draw", "noted.txt"]
+    environment = {**os.environ, "PYTHONPATH": str(SOURCES)}
+    ran = subprocess.run(words, capture_output=True, text=True, cwd=folder, env=environment, check=False)
+    told = ran.stderr.splitlines()
+    assert ran.returncode == 0 and len(told) == 2
+    assert told[0] == "markush-tools draw: noted.txt: line 1: atom 4 `[C@H]` is taken without `@`: stereochemistry isn't asked for"
+    assert told[1].startswith("markush-tools draw: noted.txt: line 1: atom 2 `[*:2]` is a site of R2; a link of up to 2 any atoms is written")

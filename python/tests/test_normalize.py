@@ -137,6 +137,27 @@ def test_five_tautomers_drawn_otherwise_than_their_claims(program: Path, tmp_pat
             assert {(it.name, it.data["PARENT"]) for it in lib} == {(name, str(n)) for n, (name, *_) in enumerate(TAUTOMERS, 1)}
 
 
+# the records of examples/vendor/drawn_otherwise.sdf, a claim of them, its mend, and which records each hits
+MENDS = [
+    ("type 4 in a pyrazole", "root CC1=CC(C)=NN1c1ccccc1", "root CC1=,:C-,:C(C)=,:N-,:N-,:1c1ccccc1", [], [1]),
+    ("a nitro group of five bonds", "root c1ccccc1[N+](=O)[O-]", "root c1ccccc1[R1]\nR1 *[N+](=O)[O-]\nR1 *N(=O)=O", [], [2]),
+    ("an acid's salt", "root CC(=O)[OH]", "root CC(=O)[O;D1]", [], [3]),
+    ("lactams as lactims", "root C[NH]C=O", "root C-,:[R1]\nR1 *[NH]C=O\nR1 *N=,:C[OH]", [2], [2, 4, 5, 6, 7]),
+    ("a pyrazole's other nitrogen", "root CC1=N[NH]C=C1", "root C[R1]\nR1 *C1=N[NH]C=C1\nR1 *C1=CC=N[NH]1", [], [8]),
+    ("drawn hydrogens", "root [CH3][CH2][OH]", "root [CH3][CH2][OH]", [9], [9]),
+    ("an N-oxide", "root CN(C)[CH2]c1ccccc1", "root C[N;D3](C)[CH2]c1ccccc1", [10, 11], [10]),
+    ("an N-oxide, closed", "root CN(C)[CH2]c1ccccc1", "root CN(C)[CH2]c1ccccc1\nclosed", [10, 11], [10]),
+]
+
+
+@pytest.mark.parametrize("name, claim, mended, before, after", MENDS, ids=[name for name, *_ in MENDS])
+def test_the_mend_of_a_claim(program: Path, name: str, claim: str, mended: str, before: List[int], after: List[int]) -> None:
+    with Library(program=program) as lib:
+        lib.load(TOP / "examples" / "vendor" / "drawn_otherwise.sdf")
+        found = [[hit.record for hit in lib.search(Claim.from_list(it), per="record")] for it in (claim, mended)]
+    assert found == [before, after]
+
+
 def test_where_there_are_more_tautomers_than_rdkit_looks_at_this_is_told() -> None:
     before = record("CC(=O)" + "CC(=O)" * 6 + "CC1=NC(O)=NC2=C1N=C(O)N2")
     for which, count in (("canonical", 1), ("all", 200)):

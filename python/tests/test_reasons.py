@@ -7,6 +7,7 @@ from typing import Optional
 import pytest
 
 from markush import Claim, Library, Record, cover_rows, covers, why_not
+from markush.reasons import why_not_each
 
 # record, kind, and what the words hold; the records are those of the phenoxyacetic acids
 MISSES = [
@@ -51,6 +52,33 @@ ROWS = [
 def test_one_demand_or_several(program: Path, smiles: str, kind: str, said: str) -> None:
     reason = why_not(Claim.from_list(CLAIM), record(smiles), timeout=1e6)
     assert reason.kind == kind and said in str(reason)
+
+
+@pytest.mark.parametrize("name", ["anilinoquinazolines", "phenoxy_acids"])
+def test_what_is_passed_over_would_have_no_hit(program: Path, examples: Path, name: str, monkeypatch: pytest.MonkeyPatch) -> None:
+    """Ways are passed over where a weaker claim has no hit; the reasons are those that asking each of them gives."""
+    import markush.reasons
+
+    claim = Claim.read(examples / name / "claim.rgf")
+    with Library(program=program) as lib:
+        lib.load(examples / name / "compounds.sdf")
+        hits = {hit.record for hit in lib.search(claim, per="record")}
+        missed = [lib[number] for number in lib.numbers if number not in hits]
+    told = why_not_each(claim, missed, 1e6)
+    loose, rules_out = markush.reasons._all_relaxed(claim.query), markush.reasons._Asked.rules_out
+
+    def asks_each(asked, query):  # type: ignore[no-untyped-def]
+        if query != loose:
+            return False
+        # only a single atom or bond of the root can be left out then
+        ways = list(markush.reasons._single_ways(claim))[:-1]
+        out = rules_out(asked, query)
+        assert not out or asked.first(ways) is None
+        return out
+
+    monkeypatch.setattr(markush.reasons._Asked, "rules_out", asks_each)
+    assert {record.number: why_not(claim, record, 1e6) for record in missed} == told
+    assert len(told) == len(missed) > 10 and "not told in time" not in set(map(str, told.values()))
 
 
 def test_a_site_that_is_one_of_several_is_named(program: Path) -> None:

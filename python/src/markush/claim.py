@@ -12,7 +12,7 @@ from typing import Any, Dict, Iterator, Mapping, Optional, Sequence, Tuple, Unio
 from .answers import decode, encode, read_refusal, read_structures
 from .errors import Refused
 from .refusals import explained
-from .rgfile import Group, Logic, Query, Site, Template, code_count, read_query
+from .rgfile import Group, Logic, Query, Site, Template, code_count, read_query, write_table
 from .session import Session
 
 __all__ = ["Claim", "Structure"]
@@ -162,7 +162,7 @@ class Claim:
     def _from_list(cls, text: str, folder: Optional[Path], file: Optional[str]) -> "Claim":
         from .claim_list import read_claim_list
 
-        listed = read_claim_list(text, folder)
+        listed = read_claim_list(text, folder, file or "")
         return cls(listed.rgfile, listed.names, listed.title, file)
 
     @classmethod
@@ -190,6 +190,11 @@ class Claim:
     def query(self) -> Query:
         """The claim as data."""
         return read_query(self.text)
+
+    @cached_property
+    def written(self) -> Dict[int, str]:
+        """The tables of its members as an RGfile has them, by the `id` of each member of `query`."""
+        return {id(member): write_table(member) for group in self.query.groups for member in group.members}
 
     @property
     def root(self) -> Template:

@@ -15,6 +15,7 @@ from pathlib import Path
 
 from .claim_smiles import Word, read_word
 from .claim_words import CLASSES, members_of
+from .drawing import plain_smiles
 from .errors import Refused
 from .molecules import rdkit
 from .rgfile import Atom, Bond, Group, Link, Logic, Query, Site, Template, block_of, is_range, template, write_query
@@ -25,6 +26,8 @@ MOST_MEMBERS = 4096
 MOST_SIZE = 512
 MOST_BONDS = 20
 MOST_LINES = 100_000
+# of an RGfile: docs/COMMANDS.md, "query"
+MOST_BYTES = 4_194_304
 
 
 class ClaimNote(UserWarning):
@@ -94,13 +97,14 @@ class _Claim:
     notes: list[str] = field(default_factory=list)
 
 
-def read_claim_list(text: str, folder: Path | None = None) -> ListedClaim:
+def read_claim_list(text: str, folder: Path | None = None, file: str = "") -> ListedClaim:
     """Reads the list of a claim.
 
     Parameters
     ----------
     text : the list, a line for each part.
     folder : where the files of `include` lines lie; without it they are refused.
+    file : the list's own name, which stands in front of each warning.
 
     Raises
     ------
@@ -129,11 +133,13 @@ def read_claim_list(text: str, folder: Path | None = None) -> ListedClaim:
     ]
     groups += [Group(label, (), logic) for label, (_, logic) in sorted(claim.logic.items()) if label not in members]
     query = Query(claim.title, root.made, tuple(groups))
+    rgfile = write_query(query, "  markush, from a list")
+    _check_bytes(claim, rgfile)
     for note in claim.notes:
-        warnings.warn(note, ClaimNote, stacklevel=2)
+        warnings.warn(f"{file}: {note}" if file else note, ClaimNote, stacklevel=2)
     placed = [((label, n), it) for label, held in members.items() for n, it in enumerate(held, 1)]
     return ListedClaim(
-        write_query(query, "  markush, from a list"), {key: it.name for key, it in placed if it.name}, claim.title, query, root.name,
+        rgfile, {key: it.name for key, it in placed if it.name}, claim.title, query, root.name,
         tuple(claim.notes), {(0, 0): root.line.place, **{key: it.line.place for key, it in placed}},
     )
 
@@ -244,7 +250,7 @@ def _read_member(claim: _Claim, line: _Line, words: list[str]) -> None:
         raise line.fault(f"{word} has no member of {first} to {last} carbons")
     name = _name(claim, line, rest)
     for smiles, short in made:
-        own = short or smiles.lstrip("*")
+        own = short or plain_smiles(smiles)
         held.append((line, smiles, own if not name else name if len(made) == 1 else f"{name}: {own}"))
 
 
@@ -269,10 +275,24 @@ def _read_logic(claim: _Claim, line: _Line, words: list[str]) -> None:
 def _check_count(claim: _Claim) -> None:
     total = sum(map(len, claim.members.values()))
     if total > MOST_MEMBERS:
-        counts = ", ".join(f"R{label} {len(held):,}" for label, held in sorted(claim.members.items()))
-        label = max(claim.members, key=lambda it: len(claim.members[it]))
-        line = claim.members[label][-1][0]
-        raise line.fault(f"the claim has {total:,} members, and {MOST_MEMBERS:,} are the most: {counts}")
+        raise _last_of_most(claim).fault(f"the claim has {total:,} members, and {MOST_MEMBERS:,} are the most: {_counts(claim)}")
+
+
+def _check_bytes(claim: _Claim, rgfile: str) -> None:
+    size = len(rgfile.encode("utf-8", "surrogateescape"))
+    if size > MOST_BYTES:
+        raise _last_of_most(claim).fault(
+            f"the claim has {size:,} bytes as an RGfile, and {MOST_BYTES:,} are the most; write fewer members, or smaller ones: {_counts(claim)}"
+        )
+
+
+def _counts(claim: _Claim) -> str:
+    return ", ".join(f"R{label} {len(held):,}" for label, held in sorted(claim.members.items()))
+
+
+def _last_of_most(claim: _Claim) -> _Line:
+    """The line of the last member of the group that has the most."""
+    return max(claim.members.values(), key=len)[-1][0]
 
 
 # ---- one word
@@ -468,7 +488,7 @@ def _check(claim: _Claim, root: _Member, members: dict[int, list[_Member]]) -> N
     for label, (line, logic) in sorted(claim.logic.items()):
         if label not in members:
             claim.notes.append(f"{line.place}: logic for R{label}, which no site bears")
-        elif logic.rest and any(it.word.text == "*[H]" for it in members[label]):
+        elif logic.rest and any([atom.symbol for atom in it.made.atoms] in (["H"], ["D"], ["T"]) for it in members[label]):
             claim.notes.append(f"{line.place}: R{label} has H as a member and `rest`, so its hydrogen is said twice: as filled and as unfilled")
         if logic.then and logic.then not in members:
             claim.notes.append(f"{line.place}: then R{logic.then}, which has no member")

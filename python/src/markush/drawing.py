@@ -469,7 +469,7 @@ ELEMENT_INKS = {
 FONT = "font-family=\"Helvetica Neue,Arial,Liberation Sans,DejaVu Sans,sans-serif\""
 
 
-# ---- the drawing: page.html has the same steps for a browser ----
+# ---- the drawing: hits.js has the same steps for a browser ----
 
 
 @dataclass
@@ -622,14 +622,19 @@ def _place_labels(picture: Picture, atoms: Sequence[_Placed]) -> None:
                 atom.anchor, atom.left, atom.right = "start", first, whole - first
 
 
-def _ended(atom: _Placed, dx: float, dy: float, back: float = 2.5) -> Tuple[float, float]:
-    """Where a bond that leaves an atom in a direction comes out of its label."""
+def _covered(atom: _Placed, dx: float, dy: float) -> float:
+    """How much of a bond that leaves an atom in a direction lies under its label."""
     if not atom.text:
-        return atom.x, atom.y
-    side = (atom.right if dx > 0 else atom.left) + back
-    t = min(side / (abs(dx) or 1e-9), HALF_HEIGHT / (abs(dy) or 1e-9))
+        return 0.0
+    side = (atom.right if dx > 0 else atom.left) + 2.5
+    return min(side / (abs(dx) or 1e-9), HALF_HEIGHT / (abs(dy) or 1e-9))
+
+
+def _ended(atom: _Placed, dx: float, dy: float, other: Optional[_Placed] = None) -> Tuple[float, float]:
+    """Where a bond that leaves an atom in a direction comes out of its label; of a short bond between two labels a piece is left."""
     length = math.hypot(dx, dy) or 1.0
-    t = min(t, max(0.45, (length - 4) / length if atom.anchor != "middle" else 0.45))
+    room = (length - 4) / length if atom.anchor != "middle" else 0.88 - (_covered(other, -dx, -dy) if other else 0.0)
+    t = min(_covered(atom, dx, dy), max(0.45, room))
     return atom.x + dx * t, atom.y + dy * t
 
 
@@ -640,7 +645,7 @@ def _draw_bond(sheet: _Sheet, atoms: Sequence[_Placed], bond: Tuple[int, int, in
     d = math.hypot(dx, dy) or 1.0
     ux, uy = dx / d, dy / d
     nx, ny = -uy, ux
-    p, q = _ended(first, dx, dy), _ended(second, -dx, -dy)
+    p, q = _ended(first, dx, dy, second), _ended(second, -dx, -dy, first)
 
     def aside(off: float, back: float = 0.0) -> Tuple[Tuple[float, float], Tuple[float, float]]:
         one, other = (0.0 if first.text else back), (0.0 if second.text else back)

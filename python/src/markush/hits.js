@@ -122,16 +122,25 @@ function placeLabels(mol, atoms) {
     }
   });
 }
-/* Where a bond that leaves an atom in a direction comes out of its label. */
-function ended(atom, dx, dy) {
-  if (!atom.text) return { x: atom.x, y: atom.y };
-  const side = (dx > 0 ? atom.right : atom.left) + 2.5, length = Math.hypot(dx, dy) || 1;
-  let t = Math.min(side / (Math.abs(dx) || 1e-9), HALF_HEIGHT / (Math.abs(dy) || 1e-9));
-  t = Math.min(t, Math.max(0.45, atom.anchor !== "middle" ? (length - 4) / length : 0.45));
+/* How much of a bond that leaves an atom in a direction lies under its label. */
+function covered(atom, dx, dy) {
+  if (!atom.text) return 0;
+  const side = (dx > 0 ? atom.right : atom.left) + 2.5;
+  return Math.min(side / (Math.abs(dx) || 1e-9), HALF_HEIGHT / (Math.abs(dy) || 1e-9));
+}
+/* Where a bond that leaves an atom in a direction comes out of its label; of a short bond between two labels a piece is left. */
+function ended(atom, dx, dy, other) {
+  const length = Math.hypot(dx, dy) || 1, room = atom.anchor !== "middle" ? (length - 4) / length : 0.88 - (other ? covered(other, -dx, -dy) : 0);
+  const t = Math.min(covered(atom, dx, dy), Math.max(0.45, room));
   return { x: atom.x + dx * t, y: atom.y + dy * t };
 }
+/* A member as a small picture has room for it: no hydrogens at its carbons, but at one that is alone, and no notes. */
+function small(mol) {
+  const isSaid = ([n]) => mol.s[n - 1] !== "C" || mol.s.length === 1, held = Object.entries(mol.h || {}).filter(isSaid);
+  return drawing({ ...mol, h: held.length ? Object.fromEntries(held) : undefined, q: undefined, o: undefined }, { hasNotes: false });
+}
 /* The drawing. `parts` gives the part of the claim at an atom's number, for the marks; `pairs` are pairs of numbers that are mapped bonds. */
-function drawing(mol, { parts, pairs = [], hue, label = "", size = 1 } = {}) {
+function drawing(mol, { parts, pairs = [], hue, label = "", size = 1, hasNotes = true } = {}) {
   if (!mol.xy) return null;
   const isClaim = mol.a === undefined && Array.isArray(mol.s);
   const wide = isClaim && (mol.s.some((symbol) => symbol.includes(",")) || mol.q || mol.h || mol.o || mol.b.some((n, i) => i % 3 === 2 && n > 4));
@@ -168,7 +177,7 @@ function drawing(mol, { parts, pairs = [], hue, label = "", size = 1 } = {}) {
     halos.append(shape("circle", { class: "halo", style: hueStyle(hueOf(group)), cx: fix(atoms[n - 1].x), cy: fix(atoms[n - 1].y), r: 12 }));
   for (const bond of bonds) {
     const A = atoms[bond.a], B = atoms[bond.b], dx = B.x - A.x, dy = B.y - A.y, d = Math.hypot(dx, dy) || 1;
-    const ux = dx / d, uy = dy / d, nx = -uy, ny = ux, p = ended(A, dx, dy), q = ended(B, -dx, -dy), type = bond.type;
+    const ux = dx / d, uy = dy / d, nx = -uy, ny = ux, p = ended(A, dx, dy, B), q = ended(B, -dx, -dy, A), type = bond.type;
     const aside = (off, back = 0) => [
       { x: p.x + nx * off + ux * (A.text ? 0 : back), y: p.y + ny * off + uy * (A.text ? 0 : back) },
       { x: q.x + nx * off - ux * (B.text ? 0 : back), y: q.y + ny * off - uy * (B.text ? 0 : back) },
@@ -191,7 +200,7 @@ function drawing(mol, { parts, pairs = [], hue, label = "", size = 1 } = {}) {
       if (side) { line(p, q, dashed); line(...aside(side * GAP, 4), second); }
       else { line(...aside(GAP / 2), dashed); line(...aside(-GAP / 2), second); }
     } else line(p, q, dashed);
-    const words = isClaim ? [BOND_NOTES[type], TOPOLOGY_NOTES[bond.topology]].filter(Boolean).join(" ") : "";
+    const words = isClaim && hasNotes ? [BOND_NOTES[type], TOPOLOGY_NOTES[bond.topology]].filter(Boolean).join(" ") : "";
     if (words) {
       const away = -side || 1, off = 7 + Math.abs(nx) * words.length * 2.6;
       const x = (p.x + q.x) / 2 + nx * away * off, y = (p.y + q.y) / 2 + ny * away * off;
@@ -326,7 +335,7 @@ const facetNodes = [];
 
 function valueNode(facet, v) {
   const { t, s } = facet.v[v];
-  return (t >= 0 && drawing(D.tables[t])) || sign(s);
+  return (t >= 0 && small(D.tables[t])) || sign(s);
 }
 function showFacets(used) {
   const open = new Set(facetNodes.filter(({ node }) => node.open).map(({ f }) => f));
@@ -474,8 +483,8 @@ function fill(card) {
     picture.classList.toggle("lit", part !== null);
     for (const halo of picture.querySelectorAll(".halo")) halo.classList.toggle("on", halo.dataset.part === String(part));
   };
-  const row = (hueAt, head, tail, part, depth, small) => {
-    const node = make("li", { style: `padding-left:${4 + 14 * depth}px` }, chip(hueAt), make("span", { class: "said" }, make("b", {}, `${head}: `), tail), small || "");
+  const row = (hueAt, head, tail, part, depth, pictured) => {
+    const node = make("li", { style: `padding-left:${4 + 14 * depth}px` }, chip(hueAt), make("span", { class: "said" }, make("b", {}, `${head}: `), tail), pictured || "");
     node.addEventListener("mouseenter", () => light(part));
     node.addEventListener("mouseleave", () => light(null));
     list.append(node);
@@ -488,8 +497,8 @@ function fill(card) {
   for (const part of parted(-1)) {
     const [f, v, parent, name] = choice.p[part], value = D.facets[f].v[v], there = standing(part);
     const saidHere = value.x ? there[0] : value.n + (there.length && !D.facets[f].u ? ` (${there.join(", ")})` : "");
-    const small = value.t >= 0 && D.tables[value.t].s.length > 1 ? drawing(D.tables[value.t]) : null;
-    row(hueOfFacet(f), name, saidHere, part, depth(parent), small);
+    const pictured = value.t >= 0 && D.tables[value.t].s.length > 1 ? small(D.tables[value.t]) : null;
+    row(hueOfFacet(f), name, saidHere, part, depth(parent), pictured);
   }
   const inRoot = choice.l.filter(([, part]) => part < 0);
   for (const [n, , label] of inRoot) row(HUES[0], label, symbols[map[n - 1] - 1] || "H", -1, 0);

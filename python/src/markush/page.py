@@ -238,7 +238,7 @@ class _Facets:
         for key, part, link in links:
             unit = link_unit(part, link)
             values = [{"n": repeated(unit, n), "t": -1, "s": f"{n}\u00d7"} for n in range(1, link.most + 1)]
-            where = f": {link.atom}" if not key[1] else f" in R{key[1]} member {key[2]}"
+            where = f": {link.atom}" if not key[1] else f" in R{key[1]} {names[key[1], key[2]]}"
             self._put(key, f"({unit})n{where}", (), unit, values)
 
     def _put(self, key: FacetKey, title: str, groups: Sequence[int], unit: str, values: List[Dict[str, Any]]) -> None:

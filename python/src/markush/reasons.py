@@ -7,8 +7,9 @@ from __future__ import annotations
 
 import os
 import time
+from concurrent.futures import ThreadPoolExecutor
 from dataclasses import dataclass, replace
-from typing import Any, Callable, Iterator, Optional, Protocol, Tuple, Union
+from typing import Any, Callable, Dict, Iterable, Iterator, List, Optional, Protocol, Tuple, Union
 
 from .answers import RawHit, encode, read_page, read_refusal
 from .claim import Claim
@@ -18,7 +19,7 @@ from .refusals import explained
 from .rgfile import Atom, Bond, Group, Logic, Query, Template, write_query
 from .session import CutOff, Session
 
-__all__ = ["Reason", "why_not"]
+__all__ = ["Reason", "why_not", "why_not_each"]
 
 _ANY_RANGE = "0-999"
 
@@ -75,6 +76,14 @@ class _Way:
     said: Callable[[Query, RawHit], Reason]
 
 
+@dataclass(frozen=True)
+class _Ways:
+    """Some ways in order. Whatever one of them hits `weaker` hits too, so where that has no hit none of them is asked."""
+
+    weaker: Optional[Query]
+    ways: Iterable[Union[_Way, _Ways]]
+
+
 def why_not(
     claim: Claim,
     record: _HasText,
@@ -119,6 +128,39 @@ def why_not(
             return Reason("time", "not told in time")
 
 
+def why_not_each(claim: Claim, records: Iterable[_HasText], timeout: float = 10.0, *, jobs: Optional[int] = None) -> Dict[int, Reason]:
+    """Which single demand of a claim keeps each of some records from being a hit, by the record's number.
+
+    Parameters
+    ----------
+    claim : Claim
+    records : iterable of Record, or what has its `number` and `text`
+    timeout : float
+        In seconds, for each.
+    jobs : int or None
+        How many are asked at a time; as many as there are processors where it is None.
+
+    Raises
+    ------
+    Refused
+        The claim or a record is refused.
+
+    Examples
+    --------
+    >>> from markush import Record
+    >>> claim = Claim.from_list("root Clc1ccc(O)cc1")
+    >>> texts = (EXAMPLES / "phenoxy_acids" / "compounds.sdf").read_bytes().split(b"$$$$\\n")
+    >>> {number: str(it) for number, it in why_not_each(claim, [Record(n, texts[n - 1]) for n in (2, 9)], timeout=60).items()}
+    {2: 'it is a hit', 9: "the root's atom 1 (Cl) doesn't lie in it"}
+    """
+    held = list(records)
+    if not held:
+        return {}
+    claim.written  # made once, before there are several threads
+    with ThreadPoolExecutor(jobs or os.cpu_count() or 1) as pool:
+        return dict(zip((it.number for it in held), pool.map(lambda it: why_not(claim, it, timeout), held)))
+
+
 def _load(session: Session, text: bytes) -> None:
     path = session.new_path(".sdf")
     path.write_bytes(text)
@@ -148,24 +190,70 @@ def _why(session: Session, claim: Claim, deadline: float) -> Reason:
     if _hit(session, claim.text, deadline):
         return Reason("hit", "it is a hit")
     query = claim.query
-    for way in _ways(claim):
-        found = _hit_of(session, way.query, deadline)
-        if found is not None:
-            return _placed(way.said(way.query, found), claim, way.query, found)
+    asked = _Asked(session, claim, deadline)
     loose = _all_relaxed(query)
-    if _hit_of(session, loose, deadline) is not None:
-        for first, second in _pairs(claim):
-            found = _hit_of(session, second.query, deadline)
-            if found is not None:
-                return Reason("several", f"several demands: {first}")
-        if len(query.groups) > 1 and _hit_of(session, _open_ranges(query), deadline) is not None:
-            return Reason("logic", "the numbers of the logic aren't met")
-        return Reason("several", "several demands, and no single one")
-    for way in _root_ways(claim, loose):
-        found = _hit_of(session, way.query, deadline)
+    if asked.rules_out(loose):
+        return _why_root(asked, claim, loose)
+    found = asked.first(_single_ways(claim))
+    if found is not None:
+        return found
+    for first, second in _pairs(claim):
+        if asked.hit(second.query) is not None:
+            return Reason("several", f"several demands: {first}")
+    if len(query.groups) > 1 and asked.hit(_open_ranges(query)) is not None:
+        return Reason("logic", "the numbers of the logic aren't met")
+    return Reason("several", "several demands, and no single one")
+
+
+def _why_root(asked: _Asked, claim: Claim, loose: Query) -> Reason:
+    """Where the bare root has no hit: the first atom or bond of it by whose leave the claim has one, else the bare root."""
+    bare: List[Tuple[_Way, RawHit]] = []
+    for way, alone in zip(_root_ways(claim, loose), _root_ways(claim, claim.query)):
+        hit = asked.hit(way.query)
+        if hit is None:
+            continue
+        bare.append((way, hit))
+        found = asked.first((alone,))
         if found is not None:
-            return _placed(way.said(way.query, found), claim, way.query, found)
-    return Reason("root", "the root doesn't lie in it")
+            return found
+    if not bare:
+        return Reason("root", "the root doesn't lie in it")
+    way, hit = bare[0]
+    return _placed(way.said(way.query, hit), claim, way.query, hit)
+
+
+class _Asked:
+    """The session that holds the one record, and is asked for hits of relaxed claims until the deadline."""
+
+    def __init__(self, session: Session, claim: Claim, deadline: float) -> None:
+        self.session, self.claim, self.deadline = session, claim, deadline
+
+    def hit(self, query: Query) -> Optional[RawHit]:
+        """The first hit of a relaxed claim; one that is refused, as too large, tells nothing."""
+        try:
+            return _hit(self.session, write_query(query, tables=self.claim.written), self.deadline)
+        except Refused:
+            return None
+
+    def rules_out(self, query: Query) -> bool:
+        """Whether a claim has no hit; one that is refused rules nothing out."""
+        try:
+            return _hit(self.session, write_query(query, tables=self.claim.written), self.deadline) is None
+        except Refused:
+            return False
+
+    def first(self, ways: Iterable[Union[_Way, _Ways]]) -> Optional[Reason]:
+        """What the first way with a hit says."""
+        for way in ways:
+            if isinstance(way, _Way):
+                hit = self.hit(way.query)
+                if hit is not None:
+                    return _placed(way.said(way.query, hit), self.claim, way.query, hit)
+            elif way.weaker is None or not self.rules_out(way.weaker):
+                found = self.first(way.ways)
+                if found is not None:
+                    return found
+        return None
 
 
 def _placed(reason: Reason, claim: Claim, query: Query, hit: RawHit) -> Reason:
@@ -181,34 +269,35 @@ def _placed(reason: Reason, claim: Claim, query: Query, hit: RawHit) -> Reason:
     return replace(reason, places=tuple(hit.map[atom - 1] for atom in atoms))
 
 
-def _hit_of(session: Session, query: Query, deadline: float) -> Optional[RawHit]:
-    """The first hit of a relaxed claim; one that is refused, as too large, tells nothing."""
-    try:
-        return _hit(session, write_query(query), deadline)
-    except Refused:
-        return None
-
-
 # ---- ways to relax a claim
 
 
-def _ways(claim: Claim) -> Iterator[_Way]:
+def _single_ways(claim: Claim) -> Iterator[_Ways]:
     """Each single demand left out: groups, numbers, hydrogens and neighbours, the root's atoms and bonds."""
     query = claim.query
-    for group in query.groups:
-        if group.members:
-            yield _Way(_free_group(query, group.label), _said_group(claim, group.label))
-    for group in query.groups:
-        yield _Way(_with_open_range(query, group.label), _said_logic(group.label))
+    yield _Ways(None, (_Way(_free_group(query, group.label), _said_group(claim, group.label)) for group in query.groups if group.members))
+    yield _Ways(_open_ranges(query), (_Way(_with_open_range(query, group.label), _said_logic(group.label)) for group in query.groups))
+    yield _Ways(_with_root(query, _open_atoms(query.root)), _root_places(query))
+    yield _Ways(_with_open_members(query), (_member_places(claim, group) for group in query.groups))
+    yield _Ways(None, _root_ways(claim, query))
+
+
+def _root_places(query: Query) -> Iterator[_Way]:
     for number in sorted(atom.number for atom in query.root.atoms if _asks_places(atom)):
-        atom = query.root.atoms[number - 1]
-        yield _Way(_with_root(query, _open_atoms(query.root, number)), _said_place(atom))
-    for group in query.groups:
-        for place, member in enumerate(group.members, 1):
-            if any(_asks_places(atom) for atom in member.atoms):
-                called = claim.member_name(group.label, place)
-                yield _Way(_with_member(query, group.label, place, _open_atoms(member)), _said_member(group.label, called))
-    yield from _root_ways(claim, query)
+        yield _Way(_with_root(query, _open_atoms(query.root, number)), _said_place(query.root.atoms[number - 1]))
+
+
+def _member_places(claim: Claim, group: Group) -> _Ways:
+    """The members of a group, each with its places open in turn."""
+    query, label = claim.query, group.label
+    asking = [place for place, member in enumerate(group.members, 1) if any(_asks_places(atom) for atom in member.atoms)]
+
+    def ways() -> Iterator[_Way]:
+        for place in asking:
+            opened = _with_member(query, label, place, _open_atoms(group.members[place - 1]))
+            yield _Way(opened, _said_member(label, claim.member_name(label, place)))
+
+    return _Ways(_with_open_members(query, label) if asking else None, ways())
 
 
 def _root_ways(claim: Claim, query: Query) -> Iterator[_Way]:
@@ -255,6 +344,14 @@ def _with_member(query: Query, label: int, place: int, member: Template) -> Quer
         label,
         lambda group: replace(group, members=(*group.members[: place - 1], member, *group.members[place:])),
     )
+
+
+def _with_open_members(query: Query, label: Optional[int] = None) -> Query:
+    """All members of a group, or of all, with their places open."""
+    for group in query.groups:
+        if label in (None, group.label):
+            query = _with_group(query, group.label, lambda held: replace(held, members=tuple(map(_open_atoms, held.members))))
+    return query
 
 
 def _with_open_range(query: Query, label: int) -> Query:
@@ -322,10 +419,9 @@ def _free_bond(part: Template, at: int) -> Template:
 
 def _all_relaxed(query: Query) -> Query:
     """All groups free, all places open, all numbers allowed: the bare root is left."""
-    loose = _with_root(query, _open_atoms(query.root))
+    loose = _with_open_members(_with_root(query, _open_atoms(query.root)))
     for group in query.groups:
         if group.members:
-            loose = _with_group(loose, group.label, lambda g: replace(g, members=tuple(map(_open_atoms, g.members))))
             loose = _free_group(loose, group.label)
     return _open_ranges(loose)
 

@@ -7,8 +7,9 @@ No RDKit is taken.
 from __future__ import annotations
 
 import re
-from collections.abc import Iterable, Iterator, Sequence
+from collections.abc import Iterable, Iterator, Mapping, Sequence
 from dataclasses import dataclass, field
+from types import MappingProxyType
 
 from .errors import Refused
 from .spelling import spell
@@ -620,10 +621,11 @@ def _table_lines(part: Template, logic: Iterable[tuple[int, Logic]]) -> Iterator
     yield "M  END"
 
 
-def write_query(query: Query, program: str = "  markush") -> str:
+def write_query(query: Query, program: str = "  markush", tables: Mapping[int, str] = MappingProxyType({})) -> str:
     """The text of an RGfile, with the groups in the order of the query.
 
-    Read again it is the same query, but that titles of members aren't kept.
+    Read again it is the same query, but that titles of members aren't kept. `tables` may have the texts of members that are written
+    already, as `write_table` gives them, by the `id` of each.
     """
     lines = ["$MDL  REV  1", "$MOL", "$HDR", query.title, program, "", "$END HDR", "$CTAB"]
     lines += _table_lines(query.root, [(group.label, group.logic) for group in query.groups if group.logic])
@@ -633,6 +635,6 @@ def write_query(query: Query, program: str = "  markush") -> str:
             continue
         lines += ["$RGP", f"{group.label:3}"]
         for member in group.members:
-            lines += ["$CTAB", *_table_lines(member, ()), "$END CTAB"]
+            lines += ["$CTAB", tables[id(member)][:-1] if id(member) in tables else "\n".join(_table_lines(member, ())), "$END CTAB"]
         lines.append("$END RGP")
     return "\n".join([*lines, "$END MOL", ""])

@@ -6,7 +6,8 @@ import importlib
 import os
 import signal
 import sys
-from typing import List, Optional, Sequence
+import warnings
+from typing import List, Optional, Sequence, TextIO, Type, Union
 
 from ..errors import MarkushError
 from .common import FAULT, Fault, go_on_with_rdkit
@@ -73,6 +74,28 @@ def main(words: Optional[Sequence[str]] = None) -> int:
     given: List[str] = list(sys.argv[1:] if words is None else words)
     args = make_parser().parse_args(given)
     args.words = given
+    with warnings.catch_warnings():
+        _tell_notes(args.command)
+        return _done(args, given)
+
+
+def _tell_notes(command: str) -> None:
+    """Let what the package warns of be told as a line for people, each time."""
+    shown = warnings.showwarning
+
+    def show(
+        message: Union[Warning, str], category: Type[Warning], filename: str, lineno: int, file: Optional[TextIO] = None, line: Optional[str] = None
+    ) -> None:
+        if category.__module__.split(".")[0] == __name__.split(".")[0]:
+            print(f"markush-tools {command}: {message}", file=sys.stderr)
+        else:
+            shown(message, category, filename, lineno, file, line)
+
+    warnings.simplefilter("always", UserWarning)
+    warnings.showwarning = show
+
+
+def _done(args: argparse.Namespace, given: List[str]) -> int:
     try:
         if args.takes_rdkit(args):
             go_on_with_rdkit(given)

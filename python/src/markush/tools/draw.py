@@ -51,7 +51,7 @@ def run(args: argparse.Namespace) -> int:
         from ..claim_list import read_claim_list
 
         folder = None if args.list == "-" else Path(args.list).resolve().parent
-        claim = read_claim_list(text_of(data), folder)
+        claim = read_claim_list(text_of(data), folder, "" if args.list == "-" else args.list)
         with written(args.out) as out:
             out.write(claim.rgfile if claim.rgfile.endswith("\n") else claim.rgfile + "\n")
         return HITS

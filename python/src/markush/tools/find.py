@@ -40,6 +40,9 @@ def add_words(parser: argparse.ArgumentParser) -> None:
     parser.add_argument(
         "--why", type=how_many, default=200, metavar="N", help="of a page: say of so many compounds that aren't hit why; or all"
     )
+    parser.add_argument("--title", metavar="TEXT", help="of a page: its title; the claim's where none is given")
+    parser.add_argument("--name", default="", metavar="ITEM", help="of a page: the data item that names a compound")
+    parser.add_argument("--data", action="append", default=[], metavar="ITEM", help="of a page: a data item that cards show")
     parser.add_argument("--jobs", type=int, metavar="N", help="so many processes for files beyond a library's size")
 
 
@@ -114,7 +117,7 @@ class Found:
 
 
 def is_closed(claim: "Claim") -> bool:
-    """Whether no atom of a claim bears more than is drawn: each has its substitution asked for, but sites.
+    """Whether no atom of a claim bears more than is drawn: each has its substitution asked for, but sites and hydrogens.
 
     Examples
     --------
@@ -125,7 +128,9 @@ def is_closed(claim: "Claim") -> bool:
     tables = [claim.query.root, *(member for group in claim.query.groups for member in group.members)]
     sites = [{site.atom for site in table.sites} for table in tables]
     return all(
-        atom.number in held or atom.substitution is not None for table, held in zip(tables, sites) for atom in table.atoms
+        atom.number in held or atom.substitution is not None or atom.symbol in ("H", "D", "T")
+        for table, held in zip(tables, sites)
+        for atom in table.atoms
     )
 
 
@@ -220,6 +225,8 @@ def _search_files(found: Found, without: Sequence["Claim"], compounds: Compounds
 
 
 def _search_library(found: Found, without: Sequence["Claim"], library: Any) -> None:
+    from ..reasons import why_not_each
+
     excluded = {hit.record for claim in without for hit in library.search(claim, per="record")}
     for place, claim in enumerate(found.claims):
         found.hits += [(place, hit) for hit in library.search(claim, per=found.per) if hit.record not in excluded]
@@ -228,9 +235,10 @@ def _search_library(found: Found, without: Sequence["Claim"], library: Any) -> N
         found.records = list(library)
         hit_records = {hit.record for _, hit in found.hits}
         others = [record.number for record in found.records if record.number not in hit_records]
+        asked = [record for record in found.records if record.number in set(others[: found.why]) - excluded]
+        said = why_not_each(found.claims[0], asked)
         for number in others[: found.why]:
-            said = "a claim of --not has a hit in it" if number in excluded else str(library.why_not(found.claims[0], number))
-            found.reasons[number] = said
+            found.reasons[number] = str(said.get(number, "a claim of --not has a hit in it"))
 
 
 def _scan(found: Found, without: Sequence["Claim"], paths: Sequence[str], jobs: Optional[int]) -> None:
@@ -316,8 +324,8 @@ def write_sdfile(out: IO[str], found: Found, account: Account) -> None:
         account_item = ""
 
 
-def write_html(out: IO[str], found: Found, account: Account) -> None:
-    """The page of hits, with the account as data in it."""
+def write_html(out: IO[str], found: Found, account: Account, args: argparse.Namespace) -> None:
+    """The page of hits, with the account as data in it; its title, names and data are those of the words."""
     from ..page import Made, Source, write_page
 
     made = Made(
@@ -336,6 +344,9 @@ def write_html(out: IO[str], found: Found, account: Account) -> None:
         refused=found.left,
         limits=found.limits,
         reasons=found.reasons,
+        title=args.title,
+        name=args.name,
+        data=args.data,
         made=made,
     )
     out.write(with_account(page.getvalue(), account))
@@ -363,6 +374,8 @@ def run(args: argparse.Namespace) -> int:
         raise Fault(f"--out {args.out}: its ending has to be one of {', '.join(ENDINGS)}")
     if ending == ".html" and args.others:
         raise Fault("a page shows one claim; write a table, an SDfile or JSON of several, or a page of each")
+    if ending != ".html" and (args.title is not None or args.name or args.data):
+        raise Fault("--title, --name and --data say what a page shows: name it by --out, as hits.html")
     if args.out:
         needs_folder(args.out)
     found, claims, compounds = search(args, ending == ".html")
@@ -378,7 +391,7 @@ def run(args: argparse.Namespace) -> int:
     )
     with written(args.out) as out:
         if ending == ".html":
-            write_html(out, found, account)
+            write_html(out, found, account, args)
         elif ending == ".json":
             write_json(out, found, account)
         elif ending == ".sdf":

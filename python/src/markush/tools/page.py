@@ -29,7 +29,7 @@ def add_words(parser: argparse.ArgumentParser) -> None:
     parser.add_argument("--name", default="", metavar="ITEM", help="the data item that names a compound")
     parser.add_argument("--data", action="append", default=[], metavar="ITEM", help="a data item that cards show")
     parser.add_argument("--title", metavar="TEXT", help="the page's title; the claim's where none is given")
-    parser.add_argument("--why", type=how_many, default=0, metavar="N", help="say of so many that aren't hit why; or all")
+    parser.add_argument("--why", type=how_many, default=200, metavar="N", help="say of so many that aren't hit why (200); or all")
     parser.add_argument("--out", metavar="FILE", help="the file that is written; standard output without it")
 
 
@@ -109,11 +109,9 @@ def _records(args: argparse.Namespace) -> List[Any]:
 def _reasons(claim: Any, hits: List[RawHit], records: List[Any], most: int) -> Dict[int, str]:
     hit_records = {hit.record for hit in hits}
     others = [record for record in records if record.number not in hit_records][:most]
-    if not others:
-        return {}
-    from ..reasons import why_not
+    from ..reasons import why_not_each
 
-    return {record.number: str(why_not(claim, record)) for record in others}
+    return {number: str(reason) for number, reason in why_not_each(claim, others).items()}
 
 
 def run(args: argparse.Namespace) -> int:
