@@ -9,6 +9,7 @@ from markush.answers import (
     BadAnswer,
     BadRow,
     Head,
+    HitLines,
     KeptRecords,
     Listing,
     Page,
@@ -23,6 +24,7 @@ from markush.answers import (
     read_head,
     read_listing,
     read_loaded,
+    read_hit_lines,
     read_page,
     read_refusal,
     read_shown,
@@ -86,6 +88,8 @@ GOOD = [
     ("no hit", lambda: read_page(b"end\n"), Page((), "end", None)),
     ("no choice", lambda: read_page(b"hit 1 choice map 1 2\nmore 3\n"), Page((RawHit(1, (), (1, 2)),), "more", 3)),
     ("no map", lambda: read_page(b"hit 1 choice 1 map\npaused 3\n"), Page((RawHit(1, (1,), ()),), "paused", 3)),
+    ("hits as they are written", lambda: read_hit_lines(b"hit 12 choice 3 1 map 4 7\nhit 12 choice map\nmore 3\n"), HitLines((("12", "3 1", "4 7"), ("12", "", "")), "more", 3)),
+    ("no hit as it is written", lambda: read_hit_lines(b"paused 4\n"), HitLines((), "paused", 4)),
     (
         "table",
         lambda: read_table(b"record\tsite 12\tsite 13\n1\t0\t2\n7\t1\t0\nend\n"),
@@ -121,6 +125,14 @@ BAD = [
     ("page without an end", lambda: read_page(b"hit 1 choice map 1 2\n")),
     ("page cut in its end", lambda: read_page(b"hit 1 choice map 1 2\nmor")),
     ("page without map", lambda: read_page(b"hit 1 choice 1 2\nend\n")),
+    ("hits without an end", lambda: read_hit_lines(b"hit 1 choice map 1 2\n")),
+    ("hits cut in their end", lambda: read_hit_lines(b"hit 1 choice map 1 2\nend")),
+    ("hits without map", lambda: read_hit_lines(b"hit 1 choice 1 2\nend\n")),
+    ("hits with another line", lambda: read_hit_lines(b"hit 1 choice map 1\nhip 1 choice map 1\nend\n")),
+    ("hits with a blank line", lambda: read_hit_lines(b"\nend\n")),
+    ("hits with a word that is no number", lambda: read_hit_lines(b"hit 1 choice x map 1\nend\n")),
+    ("hits with a blank behind", lambda: read_hit_lines(b"hit 1 choice map 1 \nend\n")),
+    ("no hits", lambda: read_hit_lines(b"")),
     ("page with a refusal", lambda: read_page(b"refused 8 query q\n")),
     ("table without end", lambda: read_table(b"record\tsite 1\n1\t1\n")),
     ("table with a cell short", lambda: read_table(b"record\tsite 1\tsite 2\n1\t1\nend\n")),
@@ -147,6 +159,9 @@ def test_pages_written_anew_are_the_same() -> None:
         lines = ["hit %d choice%s map %s" % (h.record, "".join(f" {n}" for n in h.choice), *map(str, h.map)) for h in hits]
         text = "\n".join([*lines, ended if cursor is None else f"{ended} {cursor}"]) + "\n"
         assert read_page(text.encode()) == Page(tuple(hits), ended, cursor)
+        lines = read_hit_lines(text.encode())
+        assert [RawHit(int(record), tuple(map(int, choice.split())), tuple(map(int, held.split()))) for record, choice, held in lines.hits] == hits
+        assert (lines.ended, lines.cursor) == (ended, cursor)
 
 
 def test_text_that_is_not_utf_8_is_read_as_latin_1() -> None:

@@ -2,22 +2,29 @@
 from __future__ import annotations
 
 import contextlib
+import csv
 import gzip
 import http.client
+import io
 import json
 import lzma
+import os
 import re
+import signal
 import sqlite3
+import subprocess
 import time
 from pathlib import Path
-from typing import Any, Dict, Iterator, Optional
+from typing import Any, Dict, Iterator, List, Optional
 from urllib.parse import quote
 
 import pytest
 
-from markush.serve.driver import Place
+from markush import Library
 from markush.serve.gate import TOKEN_HEADER
 from markush.serve.opening import Serving
+from markush.serve.places import Place
+from markush.session import Session
 
 TOP = Path(__file__).resolve().parents[2]
 ACIDS = TOP / "examples" / "phenoxy_acids"
@@ -174,13 +181,51 @@ def test_verdicts_are_kept_by_the_text(acids: Client) -> None:
     assert "> <markush verdict>\nrelevant\n" in sdfile and "=look again" in sdfile and sdfile.count("$$$$\n") == 1
 
 
+def test_no_cell_of_a_table_is_a_formula(client: Client) -> None:
+    def record(text: str) -> str:
+        return f"{text}\n\n\n  2  1  0     0  0            999 V2000\n    0.0000    0.0000    0.0000 C   0  0\n    1.4000    0.0000    0.0000 F   0  0\n  1  2  1  0\nM  END\n>  <{text}>\n{text}\n\n$$$$\n"
+
+    signs = ["=1+1", "+1", "-1", "@SUM(A1)", "plain"]
+    assert client.load("".join(map(record, signs)).encode(), "a.sdf")["kept"] == 5
+    client.ask("claim/keep", name="a", text="root C[R1]\nR1 *F =2+2\n")
+    told = client.search("a")
+    client.ask("verdict", id=told["id"], place=0, sha=client.ask("hits", id=told["id"], **{"from": 0}, choices=0)["shas"][0], verdict="not", note="@note")
+    head, *rows = list(csv.reader(io.StringIO(client.export(id=told["id"], kind="csv").decode())))
+    assert len(rows) == 5 and head[-5:] == [*("'" + sign for sign in signs[:4]), "plain"]
+    assert [row[1] for row in rows] == head[-5:] and rows[0][3] == "'@note"
+    assert not [cell for row in [head, *rows] for cell in row if cell[:1] in ("=", "+", "-", "@")]
+
+
+@pytest.mark.parametrize("source", ["store", "file"])
+def test_report_makes_the_json_anew(program: Path, tmp_path: Path, source: str) -> None:
+    held = tmp_path / "compounds.sdf"
+    held.write_bytes((ACIDS / "compounds.sdf").read_bytes())
+    with open_bench(program, tmp_path / "acids.db" if source == "store" else None) as serving:
+        client = Client(serving)
+        if source == "store":
+            client.load(held.read_bytes(), "compounds.sdf")
+        else:
+            serving.bench.compounds.load_file("compounds.sdf", held.read_bytes())
+            client.until(lambda state: [job["state"] for job in state["loads"]] == ["done"])
+        client.ask("claim/keep", name="acids", text=LIST)
+        told = client.search("acids")
+        for kind, ending in (("json", "json"), ("source", "txt")):
+            (tmp_path / f"acids.{ending}").write_bytes(client.export(id=told["id"], kind=kind))
+        if source == "file":
+            client.ask("remove", numbers=[33])
+            assert b"the records" in client.export(id=told["id"], kind="json")
+    ran = subprocess.run([TOP / "bin" / "markush-tools", "report", "acids.json"], cwd=tmp_path, capture_output=True, text=True, env={**os.environ, "PATH": f"/usr/bin:{os.environ['PATH']}"})
+    assert ran.returncode == 0 and ran.stdout == f"the same: {len(json.loads((tmp_path / 'acids.json').read_text())['hits'])} hits in 33 records\n", ran
+
+
 def test_a_page_and_an_account_are_handed_on(acids: Client) -> None:
     told = acids.search("acids")
     page = acids.export(id=told["id"], kind="page").decode()
     assert "acids, version 1" in page and "2,4-D" in page and 'id="account"' in page
     held = json.loads(acids.export(id=told["id"], kind="json"))
     assert held["account"]["hits"] == len(held["hits"]) == 11
-    assert acids.export(id=told["id"], kind="claim").decode() == (ACIDS / "claim.rgf").read_text()
+    for kind in ("claim", "source"):
+        assert acids.export(id=told["id"], kind=kind).decode() == (ACIDS / "claim.rgf").read_text()
 
 
 def test_why_not(acids: Client) -> None:
@@ -256,13 +301,33 @@ def test_a_restart_finds_all(program: Path, tmp_path: Path) -> None:
         again = state["searches"][0]
         assert (again["hits"], again["state"], again["stale"]) == (told["hits"], "ended", False)
         assert client.ask("verdicts", id=again["id"])["verdicts"] == [[0, "not", ""]]
+        records = (ACIDS / "compounds.sdf").read_bytes().split(b"$$$$\n")
         client.ask("remove", numbers=[2])
-        client.load((ACIDS / "compounds.sdf").read_bytes().split(b"$$$$\n")[2] + b"$$$$\n", "one.sdf")
+        client.load(records[2] + b"$$$$\n", "one.sdf")
+        assert client.load(records[2].replace(b"2,4-D", b"other") + b"$$$$\n", "other.sdf", how="replace", number=3)["replaced"] == 1
         assert client.until(lambda state: state["searches"][0]["stale"])
         client.ask("search/again", id=again["id"])
         again = client.ended(again["id"])
-        assert again["changes"] == {"new": 1, "lost": 1, "changed": 0}
-        assert client.ask("search/changes", id=again["id"])["changes"]["lost"] == [[2, "4-chlorophenoxyacetic acid"]]
+        assert again["changes"] == {"new": 1, "lost": 1, "changed": 1}
+        found = client.ask("search/changes", id=again["id"])["changes"]
+        assert found == {"new": [[34, "2,4-D"]], "lost": [[2, "4-chlorophenoxyacetic acid"]], "changed": [[3, "other"]]}
+    with open_bench(program, store) as serving:
+        # and what was told is there after another restart
+        assert Client(serving).ask("search/changes", id=again["id"])["changes"] == found
+
+
+def test_a_store_that_was_changed_in_between_is_seen(program: Path, tmp_path: Path) -> None:
+    store = tmp_path / "acids.db"
+    with open_bench(program, store) as serving:
+        client = Client(serving)
+        client.load((ACIDS / "compounds.sdf").read_bytes(), "compounds.sdf")
+        client.ask("claim/keep", name="acids", text=LIST)
+        client.search("acids")
+        client.until(lambda state: state["library"]["read"] is None and serving.bench.desk.kept.fact("digest"))
+    with Library(store, program=program) as library:
+        library.remove(1)
+    with open_bench(program, store) as serving:
+        Client(serving).until(lambda state: state["searches"][0]["stale"])
 
 
 def test_stop_and_go_on(acids: Client) -> None:
@@ -277,10 +342,49 @@ def test_stop_and_go_on(acids: Client) -> None:
     assert number not in [search["id"] for search in acids.ask("state")["searches"]]
 
 
-def test_the_process_is_ended_and_the_store_opened_again(acids: Client) -> None:
+def test_files_are_loaded_in_turn(client: Client) -> None:
+    numbers = []
+    for name, body in (("a.smi", b"".join(b"C%s a%d\n" % (b"C" * (n % 30), n) for n in range(1_500))), ("b.sdf", (ACIDS / "compounds.sdf").read_bytes())):
+        data = client.raw("load", body, **{"X-Markush-Words": quote(json.dumps({"name": name, "how": "add"}))})[1]
+        numbers.append(json.loads(data)["id"])
+    client.until(lambda state: [job["state"] for job in state["loads"]] == ["done", "done"])
+    rows = client.ask("compounds", **{"from": 1_499}, text="")["rows"]
+    assert numbers == [1, 2] and [row[1] for row in rows[:2]] == ["a1499", "phenoxyacetic acid"] and len(rows) == 34
+
+
+def test_a_command_that_takes_long_is_shown_and_ended(acids: Client, monkeypatch: pytest.MonkeyPatch) -> None:
+    monkeypatch.setattr("markush.serve.bench.LONG", 0.3)
+    whole = acids.search("acids")
+    library = acids.serving.bench.driver.library
+    assert library is not None and library._session.process_id is not None
+    # the program is halted, as one that works for long would be
+    os.kill(library._session.process_id, signal.SIGSTOP)
+    acids.ask("search/again", id=whole["id"])
+    busy = acids.until(lambda state: state["busy"] is not None)["busy"]
+    assert busy["what"] == "the search of 'acids'"
     assert acids.ask("end") == {}
-    time.sleep(0.2)
-    assert acids.search("acids")["state"] == "ended"
+    ended = acids.ended(whole["id"])
+    assert ended["state"] == "failed" and ended["fault"].startswith("the command was ended, and the store is opened again")
+    acids.until(lambda state: state["busy"] is None)
+    acids.ask("search/on", id=whole["id"])
+    again = acids.ended(whole["id"])
+    assert (again["state"], again["hits"], again["records"]) == ("ended", whole["hits"], whole["records"])
+
+
+def test_what_the_session_is_asked(client: Client, monkeypatch: pytest.MonkeyPatch) -> None:
+    asked: List[str] = []
+    ask, at_once = Session.ask, Session.ask_each
+    monkeypatch.setattr(Session, "ask", lambda self, command, deadline=None: (asked.append(command), ask(self, command, deadline))[1])
+    monkeypatch.setattr(Session, "ask_each", lambda self, commands: (asked.extend(commands), at_once(self, commands))[1])
+    data = (ACIDS / "compounds.sdf").read_bytes()
+    client.load(data * 50, "many.sdf")
+    client.ask("claim/keep", name="a", text=(ACIDS / "claim.rgf").read_text())
+    told = client.search("a")
+    assert told["hits"] == 50 * 16 and told["records"] == 50 * 8
+    words = [command.split() for command in asked]
+    limits = [(int(word[2]), int(word[3])) for word in words if word[0] in ("search", "resume")]
+    assert [limit for limit, _ in limits[:3]] == [24, 100, 400] and {turns for _, turns in limits} == {2_048}
+    assert sum(word[0] == "load" for word in words) == 2 and not [word for word in words if word[0] == "table"]
 
 
 def test_requests_are_answered_soon(acids: Client) -> None:
@@ -323,6 +427,11 @@ def test_the_place_of_a_search_is_read_of_the_log(tmp_path: Path) -> None:
             assert place.record(number) == record
         base.execute("INSERT INTO cursors VALUES(7, 'mine', x'00000009')")
         assert place.record(7) is None and place.record(2) == 3
+        # what stood in the log before isn't gone through
+        later = Place(path)
+        assert later.record(2) is None
+        base.execute("UPDATE cursors SET place = x'00000004' WHERE number = 2")
+        assert later.record(2) == place.record(2) == 4
         base.execute("PRAGMA wal_checkpoint(RESTART)")
         base.execute("UPDATE cursors SET place = x'00000005' WHERE number = 2")
         assert place.record(2) == 5

@@ -216,6 +216,52 @@ def test_idle_and_cut_connections(program: Path) -> None:
         assert request(slow)[0] == 200
 
 
+def answers(link: socket.socket, count: int) -> List[bytes]:
+    """So many answers of one connection, or those that came before it was closed."""
+    held, found = b"", []
+    while len(found) < count:
+        head, end, rest = held.partition(b"\r\n\r\n")
+        size = int(head.lower().split(b"content-length: ")[1].split(b"\r\n")[0]) if end else 0
+        if end and len(rest) >= size:
+            found.append(head + end + rest[:size])
+            held = rest[size:]
+            continue
+        piece = link.recv(1 << 16)
+        if not piece:
+            return found
+        held += piece
+    return found
+
+
+def test_a_connection_stays_for_who_has_the_token(program: Path) -> None:
+    with Serving(None, program=program) as kept:
+        kept.server.idle = 1.0
+        right, port = kept.server.gate.token, kept.server.port
+
+        def said(token: str, path: str = "/api/state", more: str = "Connection: keep-alive\r\n", length: int = 0, version: str = "1.1") -> bytes:
+            return f"POST {path} HTTP/{version}\r\nHost: 127.0.0.1:{port}\r\n{TOKEN_HEADER}: {token}\r\n{more}Content-Length: {length}\r\n\r\n".encode()
+
+        with socket.create_connection(("127.0.0.1", port), timeout=20) as link:
+            link.sendall(said(right) + said(right, length=2) + b"{}" + said(right))
+            found = answers(link, 3)
+            assert [each[:12] for each in found] == [b"HTTP/1.1 200"] * 3 and all(b"Connection: keep-alive" in each for each in found)
+            assert all(each.count(b"Content-Security-Policy") == 1 for each in found)
+            # each request is judged by itself
+            link.sendall(said("0" * 32) + said(right))
+            found = answers(link, 2)
+            assert [each[:12] for each in found] == [b"HTTP/1.1 403"] and b"Connection: close" in found[0]
+        for ends in (said("", "/bench.js"), said(right, "/api/nothing"), said(right, more="Transfer-Encoding: chunked\r\nConnection: keep-alive\r\n"),
+                     said(right, more=""), said(right, version="1.0"), said(right, more="Connection: close\r\n"), said(right, length=MOST_BODY + 1)):
+            with socket.create_connection(("127.0.0.1", port), timeout=20) as link:
+                link.sendall(ends + said(right))
+                assert len(answers(link, 2)) == 1, ends
+        with socket.create_connection(("127.0.0.1", port), timeout=20) as link:
+            link.sendall(said(right))
+            assert len(answers(link, 1)) == 1
+            began = time.monotonic()
+            assert link.recv(1) == b"" and time.monotonic() - began < 6  # nothing more came, so it is cut
+
+
 def test_two_hundred_at_once(serving: Serving) -> None:
     found: List[int] = []
 
@@ -243,6 +289,8 @@ def bomb(size: int) -> bytes:
 def test_a_bomb_is_refused(serving: Serving) -> None:
     client = Client(serving)
     began = time.process_time()
+    small = lzma.compress(bomb(10 << 30))
+    assert len(small) < 3_000 and "twice" in client.load(small, "a.sdf.xz.xz")["fault"]
     for data, name in ((bomb(10 << 30), "a.sdf.xz"), (gzip.compress(bytes(200 << 20), 9), "a.sdf.gz")):
         assert "more than 134,217,728 bytes" in client.load(data, name)["fault"]
     assert time.process_time() - began < 30
@@ -276,7 +324,7 @@ def test_no_file_of_the_machine_is_read(serving: Serving, tmp_path: Path) -> Non
 
 def test_faults_name_no_path_of_the_machine(serving: Serving) -> None:
     client = Client(serving)
-    folder = str(serving.bench.folder)
+    folder = str(serving.bench.desk.folder)
     library = serving.bench.driver.library
     assert library is not None
     private = str(library._session.folder)

@@ -8,8 +8,9 @@ import stat
 import subprocess
 import sys
 import threading
+import warnings
 from pathlib import Path
-from typing import Iterator
+from typing import Iterator, List
 
 import pytest
 
@@ -47,6 +48,35 @@ def test_frames_are_answered(session: Session) -> None:
     assert session.ask("say hello") == Frame("done", b"hello\n")
     assert session.ask("refuse") == Frame("refused", b"refused 1 command\n")
     assert session.ask("say " + "x" * 60_000).data == b"x" * 60_000 + b"\n"
+
+
+def test_commands_that_are_written_at_once_are_answered_in_turn(session: Session) -> None:
+    words = [f"say {number}" for number in range(100)]
+    assert session.ask_each(words) == [Frame("done", b"%d\n" % number) for number in range(100)]
+    assert session.ask_each([]) == [] and session.ask_each(["say a", "refuse"])[1].how == "refused"
+    assert session.ask("say b").data == b"b\n"
+    for wrong in (["say a\nsay b"], ["say " + "x" * 4_000]):
+        with pytest.raises(ValueError):
+            session.ask_each(wrong)
+
+
+@pytest.mark.parametrize(
+    "commands, kind",
+    [
+        (["say a", "memory", "say b"], OutOfMemory),
+        (["say a", "unread"], MarkushError),
+        (["say a", "garbage", "say b"], BadAnswer),
+        (["say a", "more"], BadAnswer),
+        (["say a", "end 3", "say b"], ProgramEnded),
+    ],
+)
+def test_what_goes_wrong_among_commands_that_are_written_at_once(session: Session, commands: List[str], kind: type) -> None:
+    with pytest.raises(kind):
+        session.ask_each(commands)
+    # the session goes on, where its process had to be ended by another one
+    with warnings.catch_warnings():
+        warnings.simplefilter("ignore", StoreReopened)
+        assert session.ask_each(["say c", "say d"])[1].data == b"d\n"
 
 
 def test_it_runs_in_a_session_of_its_own_and_a_folder_of_its_own(session: Session) -> None:

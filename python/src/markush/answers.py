@@ -27,6 +27,7 @@ __all__ = [
     "Listing",
     "RawHit",
     "Page",
+    "HitLines",
     "TableAnswer",
     "StructurePage",
     "read_first",
@@ -37,6 +38,7 @@ __all__ = [
     "read_shown",
     "read_listing",
     "read_page",
+    "read_hit_lines",
     "read_table",
     "read_structures",
     "decode",
@@ -217,6 +219,21 @@ class Page:
 
 
 @dataclass(frozen=True)
+class HitLines:
+    """The answer to `search` or `resume` for who needs few of its numbers: the record, the choice and the map of each hit, as they are written.
+
+    Examples
+    --------
+    >>> read_hit_lines(b"hit 1 choice 3 2 map 1 2\\nmore 7\\n").hits
+    (('1', '3 2', '1 2'),)
+    """
+
+    hits: Tuple[Tuple[str, str, str], ...]
+    ended: str
+    cursor: Optional[int]
+
+
+@dataclass(frozen=True)
 class TableAnswer:
     """The answer to `table`: the root's atoms that are sites, and for each record the members at them, 0 for none.
 
@@ -263,6 +280,7 @@ _REFUSALS = [
         r"refused (?P<code>11) (?P<about>records) (?P<number>\d+)",
     )
 ]
+_HIT = re.compile(r"(?m)^hit ([1-9]\d*) choice((?: \d+)*) map((?: \d+)*)$", re.ASCII)
 _LAST = re.compile(rb"(end|(more|paused) (\d+))\Z")
 
 
@@ -458,6 +476,24 @@ def read_page(data: bytes) -> Page:
     except (ValueError, IndexError):
         raise _bad("page of hits", data) from None
     return Page(hits, (last[2] or last[1]).decode(), int(last[3]) if last[3] else None)
+
+
+def read_hit_lines(data: bytes) -> HitLines:
+    """Read the answer to `search` or `resume`, and leave choices and maps as they are written.
+
+    Examples
+    --------
+    >>> read_hit_lines(b"hit 3 choice map 4 1\\nend\\n")
+    HitLines(hits=(('3', '', '4 1'),), ended='end', cursor=None)
+    """
+    front, end, line = data[:-1].rpartition(b"\n")
+    last = _LAST.match(line) if data.endswith(b"\n") else None
+    # one after the other, so that other threads go on in between
+    found = (hit.groups() for hit in _HIT.finditer(front.decode("ascii", "replace")))
+    hits = tuple((record, choice[1:], map[1:]) for record, choice, map in found)
+    if not last or len(hits) != (front.count(b"\n") + 1 if end else 0):
+        raise _bad("page of hits", data)
+    return HitLines(hits, (last[2] or last[1]).decode(), int(last[3]) if last[3] else None)
 
 
 def _read_hit(line: bytes) -> RawHit:

@@ -458,7 +458,9 @@ function cardOf(i, at) {
 }
 function fill(card) {
   const i = +card.dataset.i, data = card.data, mine = [];
-  for (let n = 0; n < D.hits[i].length; n += 2) if (fits(D.hits[i][n])) mine.push(n / 2);
+  // of a search that runs, a card may know fewer choices than were found by now
+  for (let n = 0; n < Math.min(D.hits[i].length, 2 * data.h.length); n += 2) if (fits(D.hits[i][n])) mine.push(n / 2);
+  if (!mine.length) mine.push(0);
   const at = (((stepOf.get(i) || 0) % mine.length) + mine.length) % mine.length;
   const place = mine[at], choice = D.choices[D.hits[i][2 * place]], ways = D.hits[i][2 * place + 1], maps = data.h[place], map = maps[0];
   const parts = new Map(map.map((atom, n) => [atom, choice.a[n]])), pairs = [];

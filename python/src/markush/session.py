@@ -22,7 +22,7 @@ import warnings
 import weakref
 from dataclasses import dataclass
 from pathlib import Path
-from typing import Callable, Optional, Union
+from typing import Callable, List, Optional, Sequence, Union
 
 from .answers import BadAnswer, BadRow, Head, Ready, read_first, read_head
 from .errors import MarkushError, OutOfMemory, ProgramEnded, StoreBad, StoreBusy, StoreReopened
@@ -31,6 +31,7 @@ from .programs import session_command
 __all__ = ["Session", "Frame", "CutOff"]
 
 _LONGEST_HEAD = 200
+_MOST_WRITTEN = 4_000  # bytes of commands that are written at once
 _STEP = 0.25  # seconds between two looks at the clock while a frame is waited for
 
 
@@ -370,29 +371,64 @@ class Session:
         StoreBad, StoreBusy, ProgramEnded
             The process ended.
         """
+        return self._frames([command], deadline)[0]
+
+    def ask_each(self, commands: Sequence[str]) -> List[Frame]:
+        """Do some short commands that are written at once, and give their frames.
+
+        The program answers one after the other without waiting for who reads, which takes less time than to ask each.
+
+        Parameters
+        ----------
+        commands : sequence of str
+            Lines without their LF, of 4,000 bytes at most in all, so that a pipe holds them.
+
+        Raises
+        ------
+        OutOfMemory, StoreBad, StoreBusy, ProgramEnded
+            As `ask` does; all the commands were done, or the process ended.
+
+        Examples
+        --------
+        >>> with Session() as session:
+        ...     [frame.how for frame in session.ask_each(["list", "show 1"])]
+        ['done', 'refused']
+        """
+        if sum(len(command) + 1 for command in commands) > _MOST_WRITTEN:
+            raise ValueError(f"commands that are written at once have {_MOST_WRITTEN} bytes at most")
+        return self._frames(commands, None) if commands else []
+
+    def _frames(self, commands: Sequence[str], deadline: Optional[float]) -> List[Frame]:
         self._check_process()
-        if "\n" in command or "\r" in command:
-            raise ValueError(f"a command is one line, and {command!r} isn't")
+        for command in commands:
+            if "\n" in command or "\r" in command:
+                raise ValueError(f"a command is one line, and {command!r} isn't")
+        command = commands[0]
+        frames: List[Frame] = []
         with self.lock:
             self._open_if_needed()
             self._is_over = False
             try:
                 self._within = True
-                self._put(command.encode("utf-8") + b"\n", command)
-                head = read_head(self._take_line(deadline, command))
-                data = self._take(head, deadline, command)
+                self._put("".join(f"{each}\n" for each in commands).encode("utf-8"), command)
+                for command in commands:
+                    head = read_head(self._take_line(deadline, command))
+                    frames.append(Frame(head.how, self._take(head, deadline, command)))
+                if self._got:
+                    raise BadAnswer(f"the program wrote more than the frame of '{command}'")
                 self._within = False
             except BaseException:
                 self._ended_by = self._ended_by or f"the command '{command.split(' ', 1)[0]}' was cut off"
                 self._drop()
                 raise
-        if head.how == "memory":
-            raise OutOfMemory(
-                f"memory ran out at '{command}'; nothing was changed. Give the program more memory, or it smaller files"
-            )
-        if head.how == "unread":
-            raise MarkushError(f"the program couldn't read the file of '{command}'; nothing was changed")
-        return Frame(head.how, data)
+        for command, frame in zip(commands, frames):
+            if frame.how == "memory":
+                raise OutOfMemory(
+                    f"memory ran out at '{command}'; nothing was changed. Give the program more memory, or it smaller files"
+                )
+            if frame.how == "unread":
+                raise MarkushError(f"the program couldn't read the file of '{command}'; nothing was changed")
+        return frames
 
     def _put(self, data: bytes, command: str) -> None:
         process = self._held.process
@@ -419,10 +455,8 @@ class Session:
     def _take(self, head: Head, deadline: Optional[float], command: str) -> bytes:
         while len(self._got) < head.size:
             self._more(deadline, command, began=True)
-        if len(self._got) > head.size:
-            raise BadAnswer(f"the program wrote more than the frame of '{command}'")
-        data = bytes(self._got)
-        self._got.clear()
+        data = bytes(self._got[: head.size])
+        del self._got[: head.size]
         return data
 
     def _more(self, deadline: Optional[float], command: str, began: bool) -> None:

@@ -87,7 +87,12 @@ document.querySelector("nav").addEventListener("keydown", (event) => {
 
 /* ---- the state, asked for again and again ---- */
 let state = null;
+/* The pause between two looks, which ends where something was asked for that will soon be otherwise. */
+let endPause = () => {};
+const untilNext = (ms) => new Promise((done) => { const timer = setTimeout(done, ms); endPause = () => { clearTimeout(timer); done(); }; });
 const isActive = () => state && (!state.library.isOpen || state.library.read !== null || state.busy || state.searches.some((s) => s.state === "running" || s.state === "waiting") || state.loads.some((l) => !["done", "failed"].includes(l.state)));
+/* A search runs that is shown, and nothing of it is on the screen. */
+const awaitsFirst = () => view === "hits" && current && !D.names.length && state && state.searches.some((s) => s.id === current.id && (s.state === "running" || s.state === "waiting"));
 async function look() {
   const before = state;
   state = await ask("state");
@@ -105,7 +110,7 @@ async function lookOn() {
       if (isLost) { $("library").textContent = ""; return; }
       await pause(2000);
     }
-    await pause(document.hidden ? 2500 : isActive() ? 250 : 1000);
+    await untilNext(document.hidden ? 2500 : awaitsFirst() ? 50 : isActive() ? 250 : 1000);
   }
 }
 function showState(before) {
@@ -184,7 +189,6 @@ async function keepClaim() {
     if (!name) { const title = source.value.match(/^title (.+)$/m); name = $("claim-name").value = title ? title[1].trim().slice(0, 100) : "claim"; }
     const kept = await job("claim/keep", { name, text: source.value });
     claimFault("", 0);
-    await look();
     return kept;
   } catch (fault) {
     if (!(fault instanceof Fault) || isLost) throw fault;
@@ -194,7 +198,7 @@ async function keepClaim() {
 }
 async function keepAndSearch() { const kept = await keepClaim(); if (kept) await search(kept.name, kept.version); }
 on("editor", "submit", keepAndSearch);
-on("keep-only", "click", keepClaim);
+on("keep-only", "click", async () => { if (await keepClaim()) await look(); });
 source.addEventListener("keydown", (event) => { if (event.key === "Enter" && (event.ctrlKey || event.metaKey)) deed(keepAndSearch)(event); });
 
 /* ---- kept claims ---- */
@@ -274,20 +278,24 @@ function tableOf(head, rows) {
 /* ---- searches ---- */
 let current = null; // the search that is shown: its number, run, and what is known of it
 async function search(name, version) {
-  const { id } = await ask("search", { name, version });
+  const [{ id }, { view: claim }] = await Promise.all([ask("search", { name, version }), ask("claim", { name, version })]);
+  begin(id, name, version, claim);
   show("hits");
   await look();
-  await open(id);
+  endPause();
 }
 const EMPTY = { tables: [], groups: [], legend: {}, facets: [], choices: [], names: [], records: [], items: [], values: [], hits: [] };
 const cardData = new Map(), wanted = new Set(), verdicts = new Map();
 let shas = [], verdictFilter = "", itemValues = null, isTable = false, usedCount = 0;
+function begin(id, name, version, claim) {
+  current = { id, run: -1, claim, name, version, isWhole: false };
+  reset();
+}
 async function open(id) {
   const found = state.searches.find((s) => s.id === id);
   if (!found) return;
   const { view: claim } = await ask("claim", { name: found.claim, version: found.version });
-  current = { id, run: -1, claim, name: found.claim, version: found.version, isWhole: false };
-  reset();
+  begin(id, found.claim, found.version, claim);
   await pull();
 }
 function reset() {
@@ -394,6 +402,10 @@ function held(i) {
   fetchCards();
   return null;
 }
+/* A card brings the graphs of its record's choices. */
+function learn(place, card) {
+  card.g.forEach((graph, k) => { const choice = D.choices[D.hits[place][2 * k]]; if (choice) Object.assign(choice, graph); });
+}
 let isFetching = false;
 async function fetchCards() {
   if (isFetching) return;
@@ -407,12 +419,13 @@ async function fetchCards() {
       cards.forEach((card, n) => {
         if (!card) { missing++; return; }
         wanted.delete(places[n]);
+        learn(places[n], card);
         cardData.set(places[n], card.gone ? { m: { s: "", b: [] }, h: card.h, d: {}, gone: true } : card);
       });
       if (cards.length < places.length) for (const place of places.slice(cards.length)) wanted.delete(place);
       if (cardData.size > 3000) for (const key of [...cardData.keys()].slice(0, 1000)) cardData.delete(key);
       for (const rack of document.querySelectorAll(".rack:not(.made)")) { const box = rack.getBoundingClientRect(); if (box.bottom > -1200 && box.top < innerHeight + 1200) fillRack(rack); }
-      if (missing) await pause(100);
+      if (missing) await pause(missing < places.length ? 10 : 60);
     }
   } catch (fault) { showFault(fault.message); } finally { isFetching = false; }
 }
@@ -441,6 +454,8 @@ keeps = (i) => {
   const [verdict, note] = verdicts.get(i) || ["open", ""];
   return verdictFilter === "note" ? Boolean(note) : verdict === verdictFilter;
 };
+/* The keys of the hits go to nothing that is hidden. */
+document.addEventListener("keydown", (event) => { if (view !== "hits" && ["/", "j", "k", "Escape"].includes(event.key)) event.stopImmediatePropagation(); }, true);
 on("by-verdict", "change", () => { verdictFilter = $("by-verdict").value; update(); if (isTable) showTable(); });
 document.addEventListener("keydown", (event) => {
   if (event.target.matches("input, textarea, select") || event.ctrlKey || event.metaKey || event.altKey) return;
@@ -487,7 +502,7 @@ async function showTable() {
   const missing = D.items.length ? rows.filter((i) => !cardData.has(i)) : [];
   for (let at = 0; at < missing.length; at += 100) {
     const places = missing.slice(at, at + 100), { cards } = await ask("cards", { id: current.id, places });
-    cards.forEach((card, n) => { if (card && !card.gone) cardData.set(places[n], card); });
+    cards.forEach((card, n) => { if (card && !card.gone) { learn(places[n], card); cardData.set(places[n], card); } });
   }
   for (const i of rows) {
     const at = D.hits[i].findIndex((choice, n) => n % 2 === 0 && fits(choice)), choice = D.choices[D.hits[i][at]], [verdict, note] = verdicts.get(i) || ["open", ""];
@@ -518,7 +533,8 @@ for (const button of $("exports").querySelectorAll("button")) button.addEventLis
   button.disabled = true;
   try {
     const data = await job("export", { id: mine.id, kind, places: shown.length === size ? null : shown }, (told) => { button.textContent = told || words; });
-    const link = make("a", { href: URL.createObjectURL(data), download: `${mine.name.replace(/[^\w .-]+/g, "_")}.${ENDINGS[kind]}` });
+    const ending = kind === "source" ? (mine.claim.isList ? "txt" : "rgf") : ENDINGS[kind];
+    const link = make("a", { href: URL.createObjectURL(data), download: `${mine.name.replace(/[^\w .-]+/g, "_")}.${ending}` });
     link.click();
     setTimeout(() => URL.revokeObjectURL(link.href), 60000);
     $("exports").open = false;

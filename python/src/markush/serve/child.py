@@ -42,6 +42,7 @@ def claim_read(asked: Dict[str, Any]) -> Dict[str, Any]:
         "rgfile": claim.text,
         "names": [[label, number, name] for (label, number), name in claim.names.items()],
         "title": claim.title,
+        "isList": not is_query_file(text),
         "codes": str(claim.code_count),
         "notes": [str(note.message) for note in notes if issubclass(note.category, UserWarning)],
         "tables": tables,

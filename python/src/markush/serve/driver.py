@@ -8,12 +8,12 @@ import warnings
 from collections import deque
 from concurrent.futures import Future
 from pathlib import Path
-from typing import Any, Callable, Deque, Iterator, List, Optional, Tuple
+from typing import Any, Callable, Deque, Iterator, Optional, Tuple
 
-from ..errors import MarkushError, StoreReopened
+from ..errors import MarkushError, ProgramEnded, StoreReopened
 from ..library import Library
 
-__all__ = ["Driver", "Place"]
+__all__ = ["Driver"]
 
 LONG = 10.0  # seconds after which a command is shown as a long one
 
@@ -51,7 +51,7 @@ class Driver:
         self._last: Optional[Iterator[None]] = None  # what is done when there is nothing else
         self._closing = False
         self._doing: Optional[Tuple[str, float]] = None
-        self.ended_by_user = 0
+        self._is_ended = False  # the command that runs was ended by who looks at the page
         self._thread = threading.Thread(target=self._run, name="driver", daemon=True)
 
     def start(self) -> None:
@@ -99,11 +99,19 @@ class Driver:
         return None if doing is None else (doing[0], time.monotonic() - doing[1])
 
     def end_command(self) -> None:
-        """End the session's process; the next command opens the store again. What was answered is kept."""
+        """End the session's process, and open the store again. What was answered is kept."""
         library = self.library
         if library is not None:
-            self.ended_by_user += 1
+            self._is_ended = True
             library._session.end()
+            if not self._closing:
+                self.do("the store is opened again", lambda library: library._refresh())
+
+    def words(self, fault: Exception) -> str:
+        """What a fault of the command that runs says, to who looks at the page."""
+        if self._is_ended and isinstance(fault, ProgramEnded):
+            return "the command was ended, and the store is opened again; what was answered before is kept"
+        return str(fault.args[0]) if isinstance(fault, KeyError) and fault.args else str(fault)
 
     # ---- the thread
 
@@ -138,10 +146,11 @@ class Driver:
             task = self._tasks.popleft() if self._tasks and deed is None else None
             last = self._last if deed is None and task is None else None
         what = deed[0] if deed else task[0] if task else "the records are read"
+        self._is_ended = False
         self._doing = (what, time.monotonic())
         try:
             if deed is not None:
-                _done(deed, library)
+                self._do(deed, library)
             elif task is not None:
                 if _goes_on(task[1]):
                     with self._ready:
@@ -153,6 +162,12 @@ class Driver:
         finally:
             self._doing = None
         return True
+
+    def _do(self, deed: "Tuple[str, Callable[[Library], Any], Future[Any]]", library: Library) -> None:
+        try:
+            deed[2].set_result(deed[1](library))
+        except Exception as fault:
+            deed[2].set_exception(MarkushError(self.words(fault)) if isinstance(fault, ProgramEnded) else fault)
 
     def _refuse(self) -> None:
         with self._ready:
@@ -167,13 +182,6 @@ class Driver:
                 close()
 
 
-def _done(deed: "Tuple[str, Callable[[Library], Any], Future[Any]]", library: Library) -> None:
-    try:
-        deed[2].set_result(deed[1](library))
-    except Exception as fault:
-        deed[2].set_exception(fault)
-
-
 def _goes_on(steps: Iterator[None]) -> bool:
     """One step of a task, and whether there are others; a task tells its faults itself."""
     try:
@@ -184,81 +192,3 @@ def _goes_on(steps: Iterator[None]) -> bool:
     except Exception:
         traceback.print_exc()
         return False
-
-
-class Place:
-    """The place to which a search has come, as the store's log shows it; the session itself tells none.
-
-    Each pause writes the search's row anew: its number, and a place of four bytes a number, the record's first. What can't
-    be read tells nothing.
-
-    Examples
-    --------
-    >>> Place(Path("/nowhere")).record(1) is None
-    True
-    """
-
-    def __init__(self, store: Path) -> None:
-        self._path = Path(f"{store}-wal")
-        self._salts = b""
-        self._at = 32
-        self._known: "dict[int, int]" = {}
-
-    def record(self, cursor: int) -> Optional[int]:
-        """The record at which a search that paused goes on, if it is known."""
-        try:
-            self._read()
-        except (OSError, ValueError, IndexError):
-            return None
-        return self._known.get(cursor)
-
-    def _read(self) -> None:
-        with open(self._path, "rb") as log:
-            head = log.read(32)
-            if len(head) < 32 or head[:3] != b"\x37\x7f\x06":
-                return
-            size = int.from_bytes(head[8:12], "big")
-            if head[16:24] != self._salts:
-                self._salts, self._at = head[16:24], 32
-                self._known.clear()
-            while True:
-                log.seek(self._at)
-                frame = log.read(24)
-                if len(frame) < 24 or frame[8:16] != self._salts:
-                    return
-                page = log.read(size)
-                if len(page) < size:
-                    return
-                self._at += 24 + size
-                if page[0] == 13:
-                    self._take(page)
-
-    def _take(self, page: bytes) -> None:
-        for at in range(int.from_bytes(page[3:5], "big")):
-            cell = int.from_bytes(page[8 + 2 * at : 10 + 2 * at], "big")
-            _, cell = _number(page, cell)
-            row, cell = _number(page, cell)
-            start = cell
-            length, cell = _number(page, cell)
-            kinds: List[int] = []
-            while cell < start + length and len(kinds) < 4:
-                kind, cell = _number(page, cell)
-                kinds.append(kind)
-            if len(kinds) != 3 or kinds[0] or kinds[1] % 2 == 0 or kinds[1] < 13 or kinds[2] % 2 or kinds[2] < 20:
-                continue
-            name = start + length
-            place = name + (kinds[1] - 13) // 2
-            if page[name : name + 11] == b"markush.py.":
-                self._known[row] = int.from_bytes(page[place : place + 4], "big")
-
-
-def _number(page: bytes, at: int) -> Tuple[int, int]:
-    """A number of one to nine bytes of seven bits, and the place behind it."""
-    found = 0
-    for _ in range(8):
-        byte = page[at]
-        at += 1
-        found = found << 7 | byte & 127
-        if byte < 128:
-            return found, at
-    return found << 8 | page[at], at + 1

@@ -4,20 +4,22 @@ from __future__ import annotations
 import csv
 import hashlib
 import io
-from typing import Callable, Dict, Iterator, List, Mapping, Sequence, Tuple
+import os
+import re
+from typing import Dict, Iterator, List, Sequence, Tuple
 
 from ..answers import RawHit, decode
+from ..claim import is_query_file
 from ..errors import MarkushError
 from ..hits import Hit
 from ..library import Record
 from ..records import items_of
+from .desk import Desk
 from .searches import Search
 from .server import Raw
+from .tickets import Tell
 
 __all__ = ["export", "quoted"]
-
-TextOf = Callable[[int], bytes]
-Verdicts = Mapping[str, Tuple[str, str]]
 
 
 def quoted(cell: str) -> str:
@@ -31,27 +33,19 @@ def quoted(cell: str) -> str:
     return f"'{cell}" if cell.startswith(("=", "+", "-", "@", "\t", "\r", "\n")) else cell
 
 
-def export(
-    kind: str, search: Search, places: Sequence[int], text_of: TextOf, verdicts: Verdicts, numbers: Sequence[int], store: str,
-    told: Callable[[str], None],
-) -> Raw:
+def export(kind: str, search: Search, places: Sequence[int], desk: Desk, told: Tell) -> Raw:
     """What a search has found, as a file.
 
     Parameters
     ----------
     kind : str
-        `csv`, `sdf`, `page`, `json` (with the account for `report`) or `claim` (its RGfile).
+        `csv`, `sdf`, `page`, `json` (with the account for `report`), `claim` (its RGfile) or `source` (the claim as it was
+        pasted, which is what `report` takes).
     search : Search
     places : sequence of int
         Which of the records that are hit.
-    text_of : function
-        Gives a record's text by its number.
-    verdicts : mapping
-        By the sha256 of the text.
-    numbers : sequence of int
-        All records of the library.
-    store : str
-        The store's name, or nothing.
+    desk : Desk
+        Of the records and the verdicts.
     told : function
         Is told how far it is.
 
@@ -62,44 +56,61 @@ def export(
     """
     if kind == "claim":
         return Raw(search.claim.text.encode("utf-8", "surrogateescape"), "chemical/x-mdl-rgfile")
+    if kind == "source":
+        return Raw(_source(search), "text/plain; charset=utf-8")
     if kind == "csv":
-        return Raw(_csv(search, places, text_of, verdicts, told).encode("utf-8"), "text/csv; charset=utf-8")
+        return Raw(_csv(search, places, desk, told).encode("utf-8"), "text/csv; charset=utf-8")
     if kind == "sdf":
-        return Raw(b"".join(_sdf(search, places, text_of, verdicts)), "chemical/x-mdl-sdfile")
+        return Raw(b"".join(_sdf(search, places, desk)), "chemical/x-mdl-sdfile")
     if kind in ("page", "json"):
-        return _with_account(kind, search, places, text_of, numbers, store, told)
-    raise MarkushError("hits are written as csv, sdf, page, json or claim")
+        return _with_account(kind, search, places, desk, told)
+    raise MarkushError("hits are written as csv, sdf, page or json, and their claim as claim or source")
 
 
-def _text(search: Search, at: int, text_of: TextOf) -> bytes:
-    try:
-        text = text_of(search.records[at])
-    except KeyError:
-        text = b""
-    if hashlib.sha256(text).hexdigest() != search.shas[at]:
-        raise MarkushError(f"record {search.records[at]} was changed since it was found; search again")
-    return text
+def file_name(name: str) -> str:
+    """The name of a claim as that of a file; `bench.js` gives files the same.
+
+    Examples
+    --------
+    >>> file_name("acids, 2/3")
+    'acids_ 2_3'
+    """
+    return re.sub(r"[^\w .-]+", "_", name, flags=re.ASCII)
+
+
+def _source(search: Search) -> bytes:
+    """The claim as it was pasted. A list has names of members, which its RGfile hasn't."""
+    return search.version.source.encode("utf-8")
+
+
+def _texts(search: Search, places: Sequence[int], desk: Desk) -> Iterator[Tuple[int, bytes]]:
+    """Places, each with the text of its record, which is still the one that was hit."""
+    records = desk.records([search.records[at] for at in places])
+    for at in places:
+        record = next(records, None)
+        if record is None or record.number != search.records[at] or record.sha256 != search.shas[at]:
+            raise MarkushError(f"record {search.records[at]} was changed since it was found; search again")
+        yield at, record.raw
 
 
 def _hits(search: Search, at: int, text: bytes) -> Iterator[Hit]:
     """The first hit by each choice of a record."""
-    for place, maps in zip(search.held[at][::2], search.maps[at]):
-        yield Hit(search.records[at], search.choices[place], maps[0], search.claim, text)
+    for choice, maps in search.hits_of(at):
+        yield Hit(search.records[at], choice, maps[0], search.claim, text)
 
 
-def _csv(search: Search, places: Sequence[int], text_of: TextOf, verdicts: Verdicts, told: Callable[[str], None]) -> str:
+def _csv(search: Search, places: Sequence[int], desk: Desk, told: Tell) -> str:
     from ..tools.find import cells, columns
 
     sites = columns([search.claim])
     items: Dict[str, None] = {}
     rows: List[Tuple[List[str], Dict[str, str], Dict[str, str]]] = []
-    for count, at in enumerate(places):
+    for count, (at, text) in enumerate(_texts(search, places, desk)):
         if count % 500 == 0:
             told(f"{count:,} of {len(places):,} written")
-        text = _text(search, at, text_of)
         data = items_of(decode(text).split("\n"))
         items.update(dict.fromkeys(data))
-        verdict, note = verdicts.get(search.shas[at], ("open", ""))
+        verdict, note = desk.verdicts.get(search.shas[at], ("open", ""))
         for hit in _hits(search, at, text):
             front = [str(hit.record), hit.name, verdict, note, " ".join(map(str, hit.choice))]
             rows.append((front, cells(search.claim, hit.choice), data))
@@ -112,12 +123,11 @@ def _csv(search: Search, places: Sequence[int], text_of: TextOf, verdicts: Verdi
     return out.getvalue()
 
 
-def _sdf(search: Search, places: Sequence[int], text_of: TextOf, verdicts: Verdicts) -> Iterator[bytes]:
-    for at in places:
-        text = _text(search, at, text_of)
-        verdict, note = verdicts.get(search.shas[at], ("open", ""))
+def _sdf(search: Search, places: Sequence[int], desk: Desk) -> Iterator[bytes]:
+    for at, text in _texts(search, places, desk):
+        verdict, note = desk.verdicts.get(search.shas[at], ("open", ""))
         more = [("markush record", str(search.records[at])), ("markush verdict", verdict), ("markush note", _line(note))]
-        choices = "\n".join(_line(" ".join(map(str, search.choices[place]))) for place in search.held[at][::2])
+        choices = "\n".join(search.choices.written[place] for place in search.held[at][::2])
         more.append(("markush choices", choices))
         yield text + b"".join(f"> <{name}>\n{value}\n\n".encode() for name, value in more if value) + b"$$$$\n"
 
@@ -128,34 +138,26 @@ def _line(value: str) -> str:
     return f" {found}" if found.startswith((">", "$")) else found
 
 
-def _with_account(
-    kind: str, search: Search, places: Sequence[int], text_of: TextOf, numbers: Sequence[int], store: str, told: Callable[[str], None]
-) -> Raw:
+def _with_account(kind: str, search: Search, places: Sequence[int], desk: Desk, told: Tell) -> Raw:
     from ..page import Made, Source, write_page
     from ..tools.account import Named, account_of
     from ..tools.find import Found, with_account, write_json
 
     chosen = set(places)
-    digest, records, found = hashlib.sha256(), [], {search.records[at]: at for at in places}
-    for count, number in enumerate(numbers):
+    digest, found = hashlib.sha256(), {search.records[at]: at for at in places}
+    records: List[Record] = []
+    numbers, store = list(desk.library()._numbers), str(desk.store) if desk.store is not None else ""
+    for count, record in enumerate(desk.records(numbers)):
         if count % 500 == 0:
             told(f"{count:,} of {len(numbers):,} records read")
-        try:
-            text = text_of(number)
-        except KeyError:
-            continue
-        digest.update(b"%d\n" % number + text)
-        records.append(Record(number, text))
-    for at in places:
-        _text(search, at, text_of)
-    raws = [
-        RawHit(search.records[at], search.choices[place], each)
-        for at in places
-        for place, maps in zip(search.held[at][::2], search.maps[at])
-        for each in maps
-    ]
-    named = Named(f"{search.version.name}.rgf", hashlib.sha256(search.claim.text.encode("utf-8", "surrogateescape")).hexdigest())
-    compounds = Named(store or "the records", digest.hexdigest())
+        digest.update(b"%d\n" % record.number + record.raw)
+        records.append(record)
+    for _ in _texts(search, places, desk):
+        pass
+    raws = [RawHit(search.records[at], choice, each) for at in places for choice, maps in search.hits_of(at) for each in maps]
+    ending = "rgf" if is_query_file(search.version.source) else "txt"
+    named = Named(f"{file_name(search.version.name)}.{ending}", hashlib.sha256(_source(search)).hexdigest())
+    compounds = desk.source or Named(store or "the records", digest.hexdigest())
     limits = [] if search.state == "ended" else [f"the search was stopped after {search.done:,} of {search.of:,} records"]
     if len(chosen) < len(search.records):
         limits.append(f"{len(chosen):,} of {len(search.records):,} records that are hit were chosen")
@@ -172,7 +174,7 @@ def _with_account(
         return Raw(out.getvalue().encode("utf-8"), "application/json")
     made = Made(
         program=f"sha256 {account.program}", package=account.package, date=account.date, claim=Source(named.name, named.sha256),
-        compounds=(Source("the store" if store else "the records", compounds.sha256),),
+        compounds=(Source("the store" if store else os.path.basename(compounds.name), compounds.sha256),),
     )
     page = io.StringIO()
     told("the page is written")

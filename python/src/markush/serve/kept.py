@@ -9,7 +9,7 @@ import time
 import zlib
 from dataclasses import dataclass
 from pathlib import Path
-from typing import Any, Dict, List, Optional, Tuple
+from typing import Any, Dict, Iterable, List, Optional, Tuple
 
 from ..claim import Claim
 from ..errors import MarkushError
@@ -134,9 +134,10 @@ class Kept:
         rows = self._do("SELECT id, name, number, date, held FROM searches ORDER BY id")
         return [(at, name, number, date, json.loads(zlib.decompress(held))) for at, name, number, date, held in rows]
 
-    def put_search(self, at: int, name: str, number: int, held: Dict[str, Any]) -> None:
-        """Keep a search as it is."""
-        data = zlib.compress(json.dumps(held, separators=(",", ":")).encode("ascii"), 1)
+    def put_search(self, at: int, name: str, number: int, held: Iterable[str]) -> None:
+        """Keep a search as it is: pieces of JSON, each of which is made and packed while others wait, and so is short."""
+        packer = zlib.compressobj(1)
+        data = b"".join([*(packer.compress(piece.encode("ascii")) for piece in held), packer.flush()])
         self._do("INSERT OR REPLACE INTO searches VALUES(?, ?, ?, ?, ?)", (at, name, number, now(), data))
 
     def drop_search(self, at: int) -> None:

@@ -3,21 +3,26 @@ from __future__ import annotations
 
 import bisect
 import hashlib
+import json
 from pathlib import Path
-from typing import Any, Callable, Dict, Iterator, List, Optional, Tuple
+from typing import Any, Callable, Dict, Iterator, List, Mapping, Optional, Sequence, Tuple
 
-from ..answers import RawHit, read_page, read_refusal
-from ..drawing import member_name
+from ..answers import RawHit, read_hit_lines, read_refusal
 from ..errors import MarkushError
 from ..library import KeptClaim, Library, name_of
-from ..page import MOST_MAPS, _choice_data, _Facets
+from ..page import MOST_MAPS
 from ..refusals import explained
-from .driver import Place
+from .choices import Choices, numbers
 from .kept import Version
+from .places import Place
+from .texts import texts_of
 
-__all__ = ["Search", "BUDGET", "PAGE"]
+__all__ = ["Search", "BUDGET", "PAGES"]
 
-BUDGET, PAGE = 2_048, 1_000
+BUDGET = 2_048  # turns of a command; the program takes no fewer
+# Hits of a search's commands, one after the other, and from the last on the same: what is found first is shown soon.
+PAGES = (24, 100, 400, 1_000)
+SOME = 2_000  # records whose hits are written as JSON in one piece, since others wait for so long
 
 
 class Search:
@@ -43,11 +48,12 @@ class Search:
         self.run = 0  # rises where it begins anew, so that a page forgets what it had
         self.wants_stop = False
         self.changes: Optional[Dict[str, List[List[Any]]]] = None
-        self._before: Optional[Dict[Tuple[int, Tuple[int, ...]], str]] = None
-        self._facets: Optional[_Facets] = None
+        self._before: Optional[Dict[Tuple[int, str], str]] = None
         self._cursor: Optional[int] = None
         self._kept: Optional[KeptClaim] = None
-        self._last: Optional[RawHit] = None
+        self._pages = 0  # commands since it was begun, or gone on with
+        self._names_before: Dict[int, str] = {}
+        self._passes: Optional[RawHit] = None  # hits up to this one are known
         self._clear()
 
     def _clear(self) -> None:
@@ -55,12 +61,9 @@ class Search:
         self.names: List[str] = []
         self.shas: List[str] = []
         self.held: List[List[int]] = []  # for each record its choices and in how many ways each lies, by turns
-        self.maps: List[List[List[Tuple[int, ...]]]] = []
-        self.choices: List[Tuple[int, ...]] = []
-        self._choice_at: Dict[Tuple[int, ...], int] = {}
-        self._told: Dict[int, Dict[str, Any]] = {}
+        self.maps: List[List[List[str]]] = []  # as they are written, of each choice some
+        self._choices: Optional[Choices] = None
         self.count = 0
-        self._last = None
 
     # ---- for the page
 
@@ -83,65 +86,59 @@ class Search:
         }
 
     @property
-    def facets(self) -> _Facets:
-        """What the hits are chosen by."""
-        if self._facets is None:
-            query = self.claim.query
-            parts = [query.root, *(member for group in query.groups for member in group.members)]
-            names = {
-                (group.label, number): member_name(self.claim, group.label, number, member)
-                for group in query.groups
-                for number, member in enumerate(group.members, 1)
-            }
-            self._facets = _Facets(query, {id(part): place for place, part in enumerate(parts)}, names)
-        return self._facets
+    def choices(self) -> Choices:
+        """The choices that were found."""
+        found = self._choices
+        if found is None:
+            found = self._choices = Choices(self.claim)
+        return found
 
-    def choice(self, place: int) -> Dict[str, Any]:
-        """A choice as the page tells it."""
-        known = self._told.get(place)
-        if known is None:
-            known = self._told[place] = _choice_data(self.claim.query, self.facets, self.choices[place])[0]
-        return known
+    def hits_of(self, at: int) -> Iterator[Tuple[Tuple[int, ...], List[Tuple[int, ...]]]]:
+        """Each choice of a record, with the maps that are kept of it."""
+        for place, maps in zip(self.held[at][::2], self.maps[at]):
+            yield numbers(self.choices.written[place]), [numbers(each) for each in maps]
 
     # ---- for the file beside the store
 
-    def to_keep(self) -> Dict[str, Any]:
-        """All of it as JSON."""
-        return {
+    def to_keep(self) -> Iterator[str]:
+        """All of it as JSON, in pieces."""
+        front = {
             "state": "stopped" if self.state in ("waiting", "running") else self.state,
             "fault": self.fault,
             "done": self.done,
             "of": self.of,
             "revision": self.revision,
-            "records": self.records,
-            "names": self.names,
-            "shas": self.shas,
-            "held": self.held,
-            "maps": self.maps,
-            "choices": self.choices,
             "count": self.count,
             "changes": self.changes,
         }
+        yield json.dumps(front)[:-1]
+        lists: Tuple[Tuple[str, List[Any]], ...] = (
+            ("records", self.records), ("names", self.names), ("shas", self.shas), ("held", self.held), ("maps", self.maps),
+            ("choices", self.choices.written),
+        )
+        for name, held in lists:
+            yield f',"{name}":['
+            for start in range(0, len(held), SOME):
+                piece = json.dumps(held[start : start + SOME], separators=(",", ":"))[1:-1]
+                yield f",{piece}" if start else piece
+            yield "]"
+        yield "}"
 
     @classmethod
     def of_kept(cls, number: int, version: Version, held: Dict[str, Any]) -> "Search":
         """A search that was kept."""
         found = cls(number, version)
-        for name in ("state", "fault", "done", "of", "revision", "records", "names", "shas", "held", "count", "changes"):
+        for name in ("state", "fault", "done", "of", "revision", "records", "names", "shas", "held", "maps", "count", "changes"):
             setattr(found, name, held[name])
-        found.maps = [[[tuple(each) for each in maps] for maps in of_record] for of_record in held["maps"]]
-        found.choices = [tuple(choice) for choice in held["choices"]]
-        found._choice_at = {choice: place for place, choice in enumerate(found.choices)}
-        if found.records:
-            found._last = found._last_hit()
+        for choice in held["choices"]:
+            found.choices.place(choice)
         return found
 
-    def _last_hit(self) -> RawHit:
-        """The last hit whose map is kept; what is listed up to it is known."""
-        return max(
-            RawHit(self.records[-1], self.choices[place], maps[-1])
-            for place, maps in zip(self.held[-1][::2], self.maps[-1])
-        )
+    def _last_hit(self) -> Optional[RawHit]:
+        """The last hit whose map is kept, if any; what is listed up to it is known."""
+        if not self.records:
+            return None
+        return max(RawHit(self.records[-1], choice, maps[-1]) for choice, maps in self.hits_of(len(self.records) - 1))
 
     # ---- the search itself, in the driver's thread
 
@@ -149,7 +146,7 @@ class Search:
         """Have the next run begin with nothing, and compare with what there is now."""
         if self.state == "ended" or self._before is None:
             self._before = {
-                (record, self.choices[place]): sha
+                (record, self.choices.written[place]): sha
                 for record, sha, held in zip(self.records, self.shas, self.held)
                 for place in held[::2]
             }
@@ -159,13 +156,16 @@ class Search:
         self.run += 1
         self.done = 0
 
-    def steps(self, library: Library, revision: Callable[[], int], kept: Callable[["Search"], None]) -> Iterator[None]:
-        """Search on, a command a step, until there is no more or a stop is wanted."""
+    def steps(
+        self, library: Library, revision: Callable[[], int], kept: Callable[["Search"], None], words: Callable[[Exception], str] = str
+    ) -> Iterator[None]:
+        """Search on, a command a step, until there is no more or a stop is wanted; `words` says what a fault is."""
         self.state, self.fault, self.wants_stop = "running", "", False
         if self._cursor is None and (not self.records or self.revision == -1):
             self.revision = revision()
         within = False
         place = Place(Path(library._session.store)) if library._session.store is not None else None
+        self._pages = 0
         try:
             self.of = len(library)
             while not self.wants_stop:
@@ -185,7 +185,7 @@ class Search:
                 self.state = "stopped"
         except MarkushError as fault:
             # the page that was cut off may be kept as gone over, so what goes on begins anew and passes what is known
-            self.state, self.fault = "failed", str(fault)
+            self.state, self.fault = "failed", words(fault)
             self._drop()
         except GeneratorExit:
             self.state = "stopped"
@@ -206,8 +206,11 @@ class Search:
         if self._kept is None or self._kept.name is None:
             self._kept, self._cursor = KeptClaim(library._dropped), None
             library._keep(self.claim, self._kept)
+        if self._cursor is None:
+            self._passes = self._last_hit()
         command = f"search {self._kept.name}" if self._cursor is None else f"resume {self._cursor}"
-        command += f" {PAGE} {BUDGET}"
+        command += f" {PAGES[min(self._pages, len(PAGES) - 1)]} {BUDGET}"
+        self._pages += 1
         with session.lock:
             library._settle()
             frame = session.ask(command)
@@ -217,44 +220,45 @@ class Search:
                 self._drop()
                 return False
             raise explained(refusal, command)
-        page = read_page(frame.data)
-        for raw in page.hits:
-            if self._last is None or raw > self._last:
-                self._take(raw, library)
+        page = read_hit_lines(frame.data)
+        fresh = page.hits if self._passes is None else self._unknown(page.hits)
+        texts = texts_of(library, sorted({int(record) for record, _, _ in fresh}))
+        for record, choice, map in fresh:
+            self._take(int(record), choice, map, texts)
         self._cursor = page.cursor
         return page.ended == "end"
 
-    def _take(self, raw: RawHit, library: Library) -> None:
-        if not self.records or self.records[-1] != raw.record:
-            try:
-                text = library._text(raw.record)
-            except KeyError:
+    def _unknown(self, hits: Sequence[Tuple[str, str, str]]) -> Sequence[Tuple[str, str, str]]:
+        """The hits behind those that were found before the search was begun again."""
+        for at, (record, choice, map) in enumerate(hits):
+            if self._passes is None or RawHit(int(record), numbers(choice), numbers(map)) > self._passes:
+                self._passes = None
+                return hits[at:]
+        return ()
+
+    def _take(self, record: int, choice: str, map: str, texts: Mapping[int, bytes]) -> None:
+        is_other = not self.records or self.records[-1] != record
+        if is_other:
+            text = texts.get(record)
+            if text is None:
                 return
             self.names.append(name_of(text))
             self.shas.append(hashlib.sha256(text).hexdigest())
             self.held.append([])
             self.maps.append([])
-            self._add(raw)
-            self.records.append(raw.record)
-        else:
-            self._add(raw)
-        self._last = raw
-        self.count += 1
-
-    def _add(self, raw: RawHit) -> None:
-        place = self._choice_at.get(raw.choice)
-        if place is None:
-            place = self._choice_at[raw.choice] = len(self.choices)
-            self._told[place] = _choice_data(self.claim.query, self.facets, raw.choice)[0]
-            self.choices.append(raw.choice)
+        place = self.choices.place(choice)
         held, maps = self.held[-1], self.maps[-1]
         if held and held[-2] == place:
             held[-1] += 1
             if len(maps[-1]) < MOST_MAPS:
-                maps[-1].append(raw.map)
+                maps[-1].append(map)
         else:
-            maps.append([raw.map])
+            maps.append([map])
             held += [place, 1]
+        if is_other:
+            # others count by this list, so it grows last
+            self.records.append(record)
+        self.count += 1
 
     def _drop(self) -> None:
         if self._kept is not None:
@@ -266,7 +270,7 @@ class Search:
         if self._before is None:
             return
         now = {
-            (record, self.choices[place]): (sha, name)
+            (record, self.choices.written[place]): (sha, name)
             for record, sha, name, held in zip(self.records, self.shas, self.names, self.held)
             for place in held[::2]
         }

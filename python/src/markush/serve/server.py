@@ -29,7 +29,6 @@ LONGEST = 600.0  # seconds of a request, all in all
 MOST_AT_ONCE = 256
 MOST_LARGE = 2  # bodies of more than a megabyte that are read at once
 LARGE = 1 << 20
-MOST_JSON = 16 << 20
 _MOST_LEFT = 1 << 20  # bytes of a refused body that are read, so that the answer arrives
 
 
@@ -159,6 +158,8 @@ class _Handler(BaseHTTPRequestHandler):
     server: BenchServer
 
     command = ""
+    disable_nagle_algorithm = True
+    keeps = False  # whether the connection stays for the next request
 
     def setup(self) -> None:
         self.request.settimeout(self.server.idle)
@@ -174,7 +175,7 @@ class _Handler(BaseHTTPRequestHandler):
         self._answer(int(code))
 
     def handle_one_request(self) -> None:
-        self.close_connection = True
+        self.close_connection, self.keeps = True, False
         try:
             self.raw_requestline = self.rfile.readline(65537)
             if not self.raw_requestline:
@@ -183,9 +184,12 @@ class _Handler(BaseHTTPRequestHandler):
                 self.requestline = self.request_version = self.command = ""
                 self._answer(414)
             elif self.parse_request():
-                self.close_connection = True
                 self._answer_request()
-            self._let_rest_come()
+                self.close_connection = not self.keeps
+            if self.close_connection:
+                self._let_rest_come()
+            else:
+                self.server.ends(self.connection, self.server.idle)
         except (socket.timeout, ConnectionError):
             return
 
@@ -199,6 +203,7 @@ class _Handler(BaseHTTPRequestHandler):
             raise
         except Exception:
             traceback.print_exc(file=sys.stderr)
+            self.keeps = False
             self._answer(500)
             return
         self._answer(200, data, kind)
@@ -221,7 +226,10 @@ class _Handler(BaseHTTPRequestHandler):
         if self.command != "POST":
             raise _Ends(405)
         words = headers.get_all("X-Markush-Words") or [""]
-        found = _answered(route, self._body(), words[0])
+        body = self._body()
+        # what is whole and bears the token may be followed by another request, so that a page needn't come in anew for each
+        self.keeps = self.request_version == "HTTP/1.1" and (headers.get("Connection") or "").lower() == "keep-alive"
+        found = _answered(route, body, words[0])
         if isinstance(found, Raw):
             return found.data, found.kind
         text = json.dumps(found, ensure_ascii=True, separators=(",", ":"))
@@ -260,7 +268,7 @@ class _Handler(BaseHTTPRequestHandler):
             phrase = HTTPStatus(status).phrase
         except ValueError:
             phrase = "Error"
-        lines = [f"HTTP/1.1 {status} {phrase}", f"Content-Length: {len(data)}", "Connection: close"]
+        lines = [f"HTTP/1.1 {status} {phrase}", f"Content-Length: {len(data)}", f"Connection: {'keep-alive' if self.keeps else 'close'}"]
         lines += [f"{name}: {value}" for name, value in HEADERS]
         if kind:
             lines.append(f"Content-Type: {kind}")
@@ -289,27 +297,3 @@ def _answered(route: Route, body: bytes, words: str) -> Any:
         return route(body, words)
     except MarkushError as fault:
         return {"fault": str(fault), "line": getattr(fault, "line", None)}
-
-
-def read_json(body: bytes) -> Dict[str, Any]:
-    """The object that a body is.
-
-    Raises
-    ------
-    MarkushError
-        It is none.
-
-    Examples
-    --------
-    >>> read_json(b'{"a": 1}'), read_json(b"")
-    ({'a': 1}, {})
-    """
-    if not body:
-        return {}
-    try:
-        found = json.loads(body.decode("utf-8")) if len(body) <= MOST_JSON else None
-    except (ValueError, RecursionError):
-        found = None
-    if not isinstance(found, dict):
-        raise MarkushError("the page asked for something in a way that isn't understood; load it again")
-    return found

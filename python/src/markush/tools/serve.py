@@ -12,7 +12,6 @@ import signal
 import sys
 from pathlib import Path
 from typing import Any
-from urllib.parse import quote
 
 from .common import HITS, Fault, go_on_with_rdkit
 
@@ -68,13 +67,12 @@ def run(args: argparse.Namespace) -> int:
 
 
 def _load(bench: Any, bodies: Any) -> None:
-    import json
     import time
 
     while bodies and not bench.is_ready and not bench.driver.fault:
         time.sleep(0.02)
     for path, body in bodies:
-        bench.load(body, quote(json.dumps({"how": "add", "name": os.path.basename(path)})))
+        bench.compounds.load_file(path, body)
 
 
 def _interrupt(*_: object) -> None:
