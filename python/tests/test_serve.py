@@ -20,7 +20,9 @@ from urllib.parse import quote
 
 import pytest
 
-from markush import Library
+from markush import Claim, Library
+from markush.page import _choice_data
+from markush.serve.choices import Choices, numbers
 from markush.serve.gate import TOKEN_HEADER
 from markush.serve.opening import Serving
 from markush.serve.places import Place
@@ -437,3 +439,18 @@ def test_the_place_of_a_search_is_read_of_the_log(tmp_path: Path) -> None:
         assert place.record(2) == 5
     (tmp_path / "store.db-wal").write_bytes(b"7\x7f\x06" + bytes(5_000))
     assert Place(path).record(1) is None
+
+
+@pytest.mark.parametrize("name", sorted(path.parent.name for path in (TOP / "examples").glob("*/answer")))
+def test_parts_are_those_of_the_expansion(name: str) -> None:
+    """A choice's parts are told without its graph; they are those that the page of hits makes of the whole expansion."""
+    folder = TOP / "examples" / name
+    claim = Claim.read(folder / "claim.rgf")
+    choices = Choices(claim)
+    lines = [line for line in (folder / "answer").read_text().splitlines() if line.startswith("hit")]
+    for line in lines:
+        written = line[line.index("choice") + 6 : line.index(" map")].strip()
+        place = choices.place(written)
+        whole, _ = _choice_data(claim.query, choices.facets, numbers(written))
+        assert {**choices.told(place, 1)[0], **choices.graph(place)} == whole
+    assert lines and len(choices.written) == len(set(choices.written)) == len(choices.told(0, 10_000))

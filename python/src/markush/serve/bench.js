@@ -413,7 +413,8 @@ async function fetchCards() {
   await pause(0);
   try {
     while (wanted.size && current) {
-      const mine = current, places = [...wanted].slice(-48), { run, cards } = await ask("cards", { id: mine.id, places });
+      // a rack at a time, and of those that were scrolled to last first
+      const mine = current, places = [...wanted].slice(-4 * PER).slice(0, PER), { run, cards } = await ask("cards", { id: mine.id, places });
       if (current !== mine || run !== mine.run) break;
       let missing = 0;
       cards.forEach((card, n) => {

@@ -45,6 +45,7 @@ class Driver:
         self.library: Optional[Library] = None
         self.fault = ""  # why the library isn't open
         self.opened = threading.Event()
+        self.ended = threading.Event()  # the thread has let all go; `Thread.join` takes it for ended where Ctrl-C comes within it
         self._ready = threading.Condition()
         self._deeds: Deque[Tuple[str, Callable[[Library], Any], "Future[Any]"]] = deque()
         self._tasks: Deque[Tuple[str, Iterator[None]]] = deque()
@@ -63,10 +64,9 @@ class Driver:
         with self._ready:
             self._closing = True
             self._ready.notify_all()
-        self._thread.join(timeout=LONG)
-        if self._thread.is_alive():
+        if self._thread.ident is not None and not self.ended.wait(LONG):
             self.end_command()
-            self._thread.join(timeout=LONG)
+            self.ended.wait(LONG)
 
     # ---- what others ask
 
@@ -116,6 +116,12 @@ class Driver:
     # ---- the thread
 
     def _run(self) -> None:
+        try:
+            self._work()
+        finally:
+            self.ended.set()
+
+    def _work(self) -> None:
         warnings.simplefilter("ignore", StoreReopened)
         self._doing = ("the store is opened", time.monotonic())
         try:

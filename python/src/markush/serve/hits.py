@@ -20,7 +20,7 @@ __all__ = ["Hits"]
 MOST_HITS = 2_000  # records of an answer
 MOST_CARDS = 100
 MOST_NOTE = 10_000  # letters
-SOON = 0.03  # seconds
+SOON = 0.03  # seconds of a processor
 LOOKED_AT = 50  # records whose data items are named
 
 
@@ -166,16 +166,16 @@ class Hits:
         asked = read_json(body)
         search = self._asked(asked)
         places = [at for at in many(asked, "places") if isinstance(at, int) and 0 <= at < len(search.records)][:MOST_CARDS]
-        cards, end = [], time.monotonic() + SOON
+        cards, end = [], time.thread_time() + SOON
         for at in places:
-            cards.append(self._card(search, at, end) if time.monotonic() < end else None)
+            cards.append(self._card(search, at, end) if time.thread_time() < end else None)
         return {"run": search.run, "cards": cards}
 
     def _card(self, search: Search, at: int, end: float) -> Any:
         number, sha, desk, graphs = search.records[at], search.shas[at], self._desk, []
         for place in search.held[at][::2]:
             graphs.append(search.choices.graph(place))
-            if time.monotonic() > end:
+            if time.thread_time() > end:
                 return None  # those that were made are there when it is asked for again
         hit = {"h": [maps for _, maps in search.hits_of(at)][: len(graphs)], "g": graphs}
         raw = desk.text_soon(number)

@@ -57,8 +57,8 @@ def run(args: argparse.Namespace) -> int:
             _load(serving.bench, bodies)
             if not args.no_browser:
                 serving.open_browser()
-            while driver._thread.is_alive():
-                driver._thread.join(timeout=0.5)
+            while not driver.ended.wait(0.5):
+                pass
             if driver.fault:
                 raise Fault(driver.fault)
         except KeyboardInterrupt:
