@@ -154,7 +154,7 @@ class Search:
         self._drop()
         self._clear()
         self.run += 1
-        self.done = 0
+        self.done, self.changes = 0, None
 
     def steps(
         self, library: Library, revision: Callable[[], int], kept: Callable[["Search"], None], words: Callable[[Exception], str] = str
