@@ -431,9 +431,13 @@ async function fetchCards() {
   } catch (fault) { showFault(fault.message); } finally { isFetching = false; }
 }
 const VERDICTS = ["relevant", "not", "open"];
+let lastVerdict = Promise.resolve();
 async function judge(i, verdict, note) {
   if (verdict === "open" && !note) verdicts.delete(i); else verdicts.set(i, [verdict, note]);
-  await ask("verdict", { id: current.id, place: i, sha: shas[i], verdict, note });
+  const words = { id: current.id, place: i, sha: shas[i], verdict, note };
+  // one after the other, since of two on the way the earlier may come last
+  lastVerdict = lastVerdict.catch(() => {}).then(() => ask("verdict", words));
+  await lastVerdict;
 }
 cardMore = (card, i) => {
   const [verdict, note] = verdicts.get(i) || ["open", ""], name = D.names[i] || `record ${D.records[i]}`;
