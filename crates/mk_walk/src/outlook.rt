@@ -11,7 +11,8 @@ use mk_model::{Graph, Memory, Mol};
 use mk_tests::bond_fits;
 use std::alloc::Global;
 
-// How many steps a look ahead takes at most, and how many it takes even where it gave up before.
+// How many steps a look ahead takes at most, and how many it takes even where it gave up before. An
+// atom that is tried is a step, and one more for each bond of the graph's atom behind the third.
 const MOST_STEPS: u32 = 65_536;
 
 const LEAST_STEPS: u32 = 256;
@@ -171,6 +172,7 @@ fn has_none(
             return None;
         }
         *left -= 1;
+        pay_bonds(graph, order[d], left);
         let anchor = anchor_of(graph, mol, first, order, ranks, &chosen[..d], order[d]);
         let Some(a) = next_atom(mol, anchor, above) else {
             if d == 0 {
@@ -203,6 +205,16 @@ fn has_none(
         d += 1;
         above = 0;
     }
+}
+
+// Takes the steps off for the bonds of an atom behind the third.
+fn pay_bonds(graph: &Graph, x: u32, left: &mut u32)
+    requires least { 1 ≤ x }
+    requires most { x ≤ length graph.now.atoms }
+    ensures { left.new ≤ left.old }
+{
+    let bonds = graph.bonds_at(x).len().min(1_000) as u32;
+    *left = left.saturating_sub(bonds.saturating_sub(3));
 }
 
 // Tells whether all are atoms of the graph behind so many first ones.
