@@ -28,7 +28,7 @@ between-more atoms edge is = record {
 }
 
 -- one hydrogen more
-graph-more : (atoms : ℕ) (bonds : List Edge) (owner : ℕ) → IsSimple atoms bonds → 1 ≤ owner → owner ≤ atoms
+pub graph-more : (atoms : ℕ) (bonds : List Edge) (owner : ℕ) → IsSimple atoms bonds → 1 ≤ owner → owner ≤ atoms
     → IsSimple (atoms + 1) (bonds ++ record { first = owner; second = atoms + 1; kind = 1 } ∷ [])
 graph-more atoms bonds owner is least most =
     graph (atoms + 1) (bonds ++ last ∷ [])

@@ -4,6 +4,7 @@ pub mod WrittenAtomsLemmas
 pub mod HydrogenLemmas
 pub mod GainLemmas
 pub mod FilledLemmas
+pub mod PendantLemmas
 pub mod LawLemmas
 pub mod MolOnLiterals
 pub mod ForCallers

@@ -1,17 +1,17 @@
 // The hydrogens that the written atoms gain, and their bonds.
-ghost use Rattle.std.specs.Prelude.{◌≡◌, ◌≤◌, ◌<◌, ◌+◌, ◌++◌, ◌^◌, All, IfOk, OnOk, Some, length, replicate, slice_get, sum, take};
+ghost use Rattle.std.specs.Prelude.{◌≡◌, ◌≤◌, ◌<◌, ◌+◌, ◌++◌, ◌^◌, All, IfOk, OnOk, Some, length, map, replicate, slice_get, sum, take};
 ghost use Rattle.mk_tables.specs.declared.raw.RawAtom.{RawAtom as Line};
 ghost use Rattle.mk_demands.specs.Numbers.{natural};
 ghost use Rattle.mk_valence.specs.Hydrogens.{added_hydrogens};
 ghost use Rattle.mk_mol.specs.Filled.{AreGains, gained_by, hydrogen_atom, hydrogen_bonds, owners};
 ghost use Rattle.mk_mol.specs.Checks.{IsKnownAtom};
 ghost use Rattle.mk_mol.specs.FirstFault.{MeetsAllChecks};
-ghost use Rattle.mk_mol.specs.Putting.{IsSound, kinds_of};
+ghost use Rattle.mk_mol.specs.Putting.{IsSound, kinds_of, unmarked};
 ghost use Rattle.mk_mol.specs.Search.{IsDrawn};
 
 use crate::bond_checks::Drawn;
 use mk_demands::byte;
-use mk_model::{Atom, Edge, Memory};
+use mk_model::{Atom, Edge, Memory, MolBond};
 use mk_tables::{RawAtom, RawTable};
 use mk_valence::hydrogens;
 use std::alloc::Global;
@@ -163,4 +163,27 @@ fn add_to(
         })?;
     }
     Ok(())
+}
+
+/// Adds bonds that have neither mark. All memory for them is taken first.
+pub fn add_unmarked(bonds: &mut Vec<MolBond>, more: &[Edge]) -> Result<(), Memory>
+    ensures { OnOk result (bonds.new.items ≡ bonds.old.items ++ map unmarked more.now) }
+{
+    bonds.reserve_exact(more.len())?;
+    for i in 0..more.len() {
+        bonds.push(without_marks(more[i]))?;
+    }
+    Ok(())
+}
+
+fn without_marks(edge: Edge) -> MolBond
+    ensures { result ≡ unmarked edge }
+{
+    MolBond {
+        first: edge.first,
+        second: edge.second,
+        kind: edge.kind,
+        ring: false,
+        aromatic: false,
+    }
 }
