@@ -3,7 +3,7 @@
 --     asked_now, asked_named      a range that is surely asked for
 --     served_drop, known_drop     one slot less
 --     misses                      less is served than is wanted, as it is counted
-use Rattle.std.proofs.Common.{◌≡◌, ℕ, zero, suc, ◌+◌, ◌-◌, ◌*◌, ◌<◌, ◌≤◌, inl, inr, Bool, true, false, cond, List, [], ◌∷◌, drop, length, replicate, set, Some, refl, sym, ap, subst, ◌∙◌, arith, All}
+use Rattle.std.proofs.Common.{◌≡◌, ℕ, zero, suc, ◌+◌, ◌-◌, ◌*◌, ◌<◌, ◌≤◌, inr, Bool, true, false, cond, List, [], ◌∷◌, drop, length, replicate, set, Some, refl, ap, ◌∙◌, arith, All}
 use Rattle.std.specs.Prelude.{◌==◌, IsTrue, slice_get, slice_index}
 use Rattle.std.proofs.lemmas.Bool.Decides.{nat_tests}
 use Rattle.std.proofs.lemmas.Grind.{get_or-set_at}
@@ -13,14 +13,14 @@ use Rattle.mk_model.specs.declared.group.Group.{Group}
 use Rattle.mk_model.specs.declared.query.Count.{Count}
 use Rattle.mk_model.specs.declared.template.Slot.{Slot}
 use Rattle.mk_model.specs.Labels.{site_labels}
-use Rattle.mk_model.specs.Logic.{IsAsked, filled_of, is_in_range}
+use Rattle.mk_model.specs.Logic.{filled_of, is_in_range}
 use Rattle.mk_model.specs.OpenSlots.{standing_by}
 use Rattle.mk_model.specs.Queries.{QueryView}
 use Rattle.mk_model.specs.Sizes.{greatest}
 use Rattle.mk_logic.specs.Counts.{filled_at, is_asked, sites_at}
 use Rattle.mk_logic.proofs.ForCallers.{asked_found, group_at}
 use Rattle.mk_choice.specs.declared.pending.Ahead.{Ahead}
-use Rattle.mk_choice.specs.Search.{Completes, IsKnown, filled_with, sites_with}
+use Rattle.mk_choice.specs.Search.{IsKnown, sites_with}
 use Rattle.mk_choice.specs.Together.{AsksFor, InEach, KeepsTo, MissTogether, free_in, is_capped, served_at, served_by, served_to_ends, total}
 use Rattle.mk_choice.proofs.LostLemmas.{asked_more, sites_stand}
 use Rattle.mk_choice.proofs.SlotLemmas.{known_others}

@@ -75,6 +75,7 @@ module _ (query : QueryView) (most : List ℕ) where
         above = above;
         once = frames.once;
         together = frames.together;
+        idle = frames.idle;
       }) kept (length place) 0
   ready_dead frames above are place kept room within is depth once dead below =
       let none : numbers_of frames ≡ [] = ap (λ (n : ℕ). take n frames.numbers.items) depth in
@@ -166,6 +167,7 @@ module _ (query : QueryView) (most : List ℕ) where
           above = last;
           once = mid.once;
           together = mid.together;
+          idle = mid.idle;
         })
     went_back mid last are numbers once = record {
       are = record {

@@ -2,16 +2,16 @@
 --     total_add, total_le, total_has      sums
 --     served_within       what is chosen serves no more than the slots do
 --     lost_together       where less is served than is wanted, nothing keeps to it
-use Rattle.std.proofs.Common.{◌≡◌, ℕ, zero, suc, ◌+◌, ◌-◌, ◌*◌, ◌<◌, ◌≤◌, Bool, true, false, cond, List, [], ◌∷◌, ◌++◌, length, refl, sym, ap, subst, arith, All, max}
+use Rattle.std.proofs.Common.{◌≡◌, ℕ, zero, suc, ◌+◌, ◌-◌, ◌*◌, ◌<◌, ◌≤◌, Bool, true, false, cond, List, [], ◌∷◌, ◌++◌, length, refl, ap, arith, All}
 use native.Mathlib.Nat.{add-mul}
-use Rattle.std.specs.Prelude.{◌==◌, Contains, nat_le, nat_lt, slice_index}
+use Rattle.std.specs.Prelude.{◌==◌, slice_index}
 use Rattle.std.proofs.lemmas.Nat.{mul-le}
 use Rattle.std.proofs.lemmas.Bool.Decides.{nat_tests}
 use Rattle.std.proofs.lemmas.List.Sums.{sum_by-append, sum_by-cons}
 use Rattle.mk_model.specs.declared.template.Slot.{Slot}
-use Rattle.mk_model.specs.Queries.{QueryView, members_of, slots_of}
+use Rattle.mk_model.specs.Queries.{QueryView}
 use Rattle.mk_model.specs.QueryFits.{QueryFits}
-use Rattle.mk_model.specs.Labels.{holds_member_of, is_filled_by, is_member_of, site_labels, member, members_at}
+use Rattle.mk_model.specs.Labels.{holds_member_of, is_filled_by, site_labels, members_at}
 use Rattle.mk_model.specs.Logic.{filled_of}
 use Rattle.mk_model.specs.OpenSlots.{opened, standing_at, standing_by, Chooses}
 use Rattle.mk_model.specs.Sizes.{greatest}

@@ -22,7 +22,8 @@ use std::alloc::Global;
 /// The frames of the first `depth` numbers. The slots that are open behind them stand in `waiting`
 /// from `first` on. What is still to come goes on with a number above `above`; but where `once`
 /// says so, the numbers themselves come first. Where groups can bear on each other, `together` says
-/// that they are looked at together; that bears on time alone.
+/// that they are looked at together, but only where no code was found at the last `idle` nodes; that
+/// bears on time alone.
 #[derive(Debug, Drop)]
 pub struct Frames<'a> {
     pub counts: [Count; 32],
@@ -35,7 +36,12 @@ pub struct Frames<'a> {
     pub above: u32,
     pub once: bool,
     together: bool,
+    idle: u32,
 }
+
+// So many nodes are gone through without a code before groups are looked at together: it takes as long
+// as to go through twenty.
+const PATIENCE: u32 = 16;
 
 impl<'a> Frames<'a> {
     /// The frames of no numbers. Only numbers behind them are still to come.
@@ -62,6 +68,7 @@ impl<'a> Frames<'a> {
             above: 0,
             once: false,
             together,
+            idle: PATIENCE,
         })
     }
 
@@ -152,9 +159,16 @@ impl<'a> Frames<'a> {
         }
         self.above = 0;
         if self.first < self.waiting.len() {
+            self.idle = self.idle.saturating_add(1);
             return false;
         }
-        allowed(query, &self.counts)
+        let found = allowed(query, &self.counts);
+        self.idle = if found {
+            0
+        } else {
+            self.idle.saturating_add(1)
+        };
+        found
     }
 
     /// Nothing that is chosen behind the numbers makes the counts allowed. Where it answers false,
@@ -166,7 +180,7 @@ impl<'a> Frames<'a> {
         if cant_complete(query, &self.counts, &self.ahead) {
             return true;
         }
-        if !self.together {
+        if !self.together || self.idle < PATIENCE {
             return false;
         }
         cant_together(

@@ -34,8 +34,8 @@ returns-then-self-len-clause-moved c = λ _.
 
 -- ---- where none is
 
-pub allowed-requires-clause-few : goal.allowed-requires-clause-few
-allowed-requires-clause-few c = (counts_within c.args.query.now c.args.most.now c.args.self.now c.requires.frames 512 c.requires.frames.within).few
+pub allowed-found-requires-clause-few : goal.allowed-found-requires-clause-few
+allowed-found-requires-clause-few c = (counts_within c.args.query.now c.args.most.now c.args.self.now c.requires.frames 512 c.requires.frames.within).few
 
 pub returns-clause-on : goal.returns-clause-on
 returns-clause-on c = rw c.requires.passed (below_more (numbers_of c.args.self.now) 1 [])
@@ -45,7 +45,7 @@ returns-clause-valid c = λ yes.
     let f = c.args.self.now in
     let is = c.requires.frames.stands in
     let none : open_of f ≡ [] = drop_all f.first f.waiting (omega (arith, c.if-self-len.false)) in
-    allowed_valid c.args.query.now c.args.most.now (numbers_of f) (take f.depth f.slots) (open_of f) f.counts f.ahead is none (c.allowed.ensures.0 yes)
+    allowed_valid c.args.query.now c.args.most.now (numbers_of f) (take f.depth f.slots) (open_of f) f.counts f.ahead is none (c.allowed-found.ensures.0 yes)
 
 pub returns-clause-over : goal.returns-clause-over
 returns-clause-over c = λ _. rw c.requires.passed (below_next (numbers_of c.args.self.now) 0 1 [] [] (omega arith))
@@ -63,5 +63,5 @@ returns-clause-moved c = λ not_allowed.
     rw c.requires.passed
     (settled_open c.args.query.now c.args.most.now (numbers_of f) (take f.depth f.slots) (open_of f) f.counts f.ahead is
     (λ valid.
-    let never = c.allowed.ensures.1 (valid_allowed c.args.query.now c.args.most.now (numbers_of f) (take f.depth f.slots) (open_of f) f.counts f.ahead is none valid) in
+    let never = c.allowed-found.ensures.1 (valid_allowed c.args.query.now c.args.most.now (numbers_of f) (take f.depth f.slots) (open_of f) f.counts f.ahead is none valid) in
     absurd cc))
