@@ -1,21 +1,17 @@
-// Expansions, and those that are kept for the next record.
-ghost use Rattle.std.specs.Prelude.{◌≡◌, ◌<◌, ◌↔◌, ◌∷◌, ◌++◌, [], ℕ, false, All, IfNone, IfOk, IfSome, IsTrue, drop};
+// The expansion by a code, and whether a molecule may hold it.
+ghost use Rattle.std.specs.Prelude.{◌≡◌, false, IfOk, IsTrue};
 ghost use Rattle.mk_model.specs.Codes.{IsCode};
-ghost use Rattle.mk_model.specs.Queries.{QueryView};
 ghost use Rattle.mk_model.specs.Screens.{Covers, IsNeedOf, IsScreenOf};
 ghost use Rattle.mk_counts.specs.Asked.{AreAsked};
 ghost use Rattle.mk_counts.specs.Counts.{HasNoHit};
-ghost use Rattle.mk_expansions.specs.Kept.{IsKept};
+ghost use Rattle.mk_expansions.specs.Kept.{AreKept, IsKept};
 
+use crate::kept::Kept;
 use mk_counts::{Asked, cannot_hold, counts_asked, counts_there};
 use mk_expand::expand;
 use mk_model::{Graph, Memory, Mol, Query};
 use mk_screen::{Screen, is_covered, need_of};
 use std::alloc::Global;
-use std::collections::VecDeque;
-
-// How many expansions are kept at most.
-const MOST_KEPT: usize = 64;
 
 /// The graph of a code, what it asks for, and what it needs of a screen.
 #[derive(Drop)]
@@ -26,26 +22,28 @@ pub struct Expansion {
     pub need: Screen,
 }
 
-/// The expansion by a code, out of those that are kept where it is the first of them.
-///
-/// Each record is searched by the same codes in the same order. What is used is put behind the
-/// others, so the next to be used stands in front.
+/// The expansion by a code, out of those that are kept where it is among them. It is kept no more then.
 pub fn expansion_by(
     alloc: Global,
     query: &Query,
     code: &[u32],
-    kept: &mut VecDeque<Expansion>,
+    kept: &mut Kept,
 ) -> Result<Expansion, Memory>
-    requires kept { All (IsKept query.now) kept.old.items }
+    requires kept { AreKept query.now kept.old }
     requires code { IsCode query.now 0 code.now }
-    ensures kept { All (IsKept query.now) kept.new.items }
+    ensures kept { AreKept query.now kept.new }
     ensures is { IfOk result (IsKept query.now) }
     ensures code { IfOk result (λ expansion. expansion.code.items ≡ code.now) }
 {
-    if let Some(expansion) = taken(code, kept) {
-        return Ok(expansion);
-    }
     let own = Vec::from_slice(alloc, code)?;
+    if let Some(plan) = kept.take(code) {
+        return Ok(Expansion {
+            code: own,
+            graph: plan.graph,
+            asked: plan.asked,
+            need: plan.need,
+        });
+    }
     let graph = expand(alloc, query, code)?;
     match counts_asked(alloc, &graph) {
         Ok(asked) => {
@@ -63,40 +61,6 @@ pub fn expansion_by(
             Err(memory)
         }
     }
-}
-
-// Takes the first of those that are kept, where it is that of the code.
-fn taken(code: &[u32], kept: &mut VecDeque<Expansion>) -> Option<Expansion>
-    ensures some { IfSome result (λ first. kept.old.items ≡ first ∷ kept.new.items) }
-    ensures code { IfSome result (λ first. first.code.items ≡ code.now) }
-    ensures none { IfNone result (kept.new.items ≡ kept.old.items) }
-{
-    let Some(first) = kept.front() else {
-        return None;
-    };
-    if first.code.as_slice() != code {
-        return None;
-    }
-    kept.pop_front()
-}
-
-/// Puts an expansion behind the others that are kept, where memory allows.
-pub fn keep(expansion: Expansion, kept: &mut VecDeque<Expansion>) -> Result<(), Memory>
-    ensures { (query : QueryView) → All (IsKept query) kept.old.items → IsKept query expansion → All (IsKept query) kept.new.items }
-{
-    make_room(kept);
-    kept.push_back(expansion)?;
-    Ok(())
-}
-
-// Drops the first of those that are kept, where they are as many as may be.
-fn make_room(kept: &mut VecDeque<Expansion>)
-    ensures { (n : ℕ) × (kept.new.items ≡ drop n kept.old.items) }
-{
-    if kept.len() < MOST_KEPT {
-        return;
-    }
-    let _oldest = kept.pop_front();
 }
 
 // ---- whether an expansion is searched for

@@ -13,15 +13,12 @@ ghost use Rattle.mk_fronts.specs.Told.{IsPlaceAt};
 
 use crate::choices::{choices, place_of, put_alone, starts};
 use crate::stores::Stores;
-use crate::told::{Told, forget, nothing, put, told_at};
+use crate::told::{Told, forget, put, told_at};
 use mk_counts::{Counts, counts_there};
 use mk_model::{Memory, Mol, Query, Screen};
 use mk_open_codes::{alone_fronts_hold_none, fronts_hold_none, slots_hold_none};
 use std::alloc::Global;
 use std::marker::Model;
-
-// How many answers on numbers alone are kept at most.
-const MOST_TOLD: usize = 65_536;
 
 // So many steps are in a purse where something is asked. What is cut off with fewer would tell little.
 const LEAST_STEPS: u64 = 4_096;
@@ -35,13 +32,14 @@ pub struct Seen {
 }
 
 /// The graphs that are kept, how many numbers may stand for each slot of the root, and of one
-/// molecule what it has and what was told of numbers alone. Of the slots, so many were asked, from the
-/// first one on that is asked in this molecule, and in a circle.
+/// molecule what it has and what was told of numbers alone, with an index to it. Of the slots, so many
+/// were asked, from the first one on that is asked in this molecule, and in a circle.
 #[derive(Drop)]
 pub struct Known<'a> {
     stores: Stores<'a>,
     there: Option<Counts>,
     told: Vec<Told>,
+    index: Vec<u32>,
     most: Vec<u32>,
     starts: Vec<usize>,
     key: Vec<u32>,
@@ -68,12 +66,12 @@ impl<'a> Known<'a> {
     {
         let most = choices(alloc, query)?;
         let starts = starts(alloc, &most)?;
-        let room = starts.last().copied().unwrap_or(0).min(MOST_TOLD);
-        let told = vec![in alloc; nothing(); room]?;
+        let index = vec![in alloc; 0u32; starts.last().copied().unwrap_or(0)]?;
         Ok(Known {
             stores: Stores::new(alloc, query),
             there: None,
-            told,
+            told: Vec::new(alloc),
+            index,
             most,
             starts,
             key: Vec::new(alloc),
@@ -237,7 +235,7 @@ impl<'a> Known<'a> {
                     held: n,
                 });
             }
-            if !self.may_hold_front(alloc, &code[..n + 1], mol, screen, purse)? {
+            if self.refuses_front(alloc, code, n, mol, screen, purse)? {
                 return Ok(Seen {
                     refused: Some(n + 1),
                     held: n,
@@ -283,6 +281,33 @@ impl<'a> Known<'a> {
         Ok(!may)
     }
 
+    // Tells that the molecule can't hold the front of a code that ends at a place. The whole code isn't
+    // asked for: where no front before it is refused it is searched for its hits, and that tells.
+    fn refuses_front(
+        &mut self,
+        alloc: Global,
+        code: &[u32],
+        n: usize,
+        mol: &Mol,
+        screen: &Screen,
+        purse: &mut u64,
+    ) -> Result<bool, Memory>
+        requires code { IsCode self.old.query 0 code.now }
+        requires within { n < length code.now }
+        requires known { IsKnownOf mol.now self.old }
+        requires screen { IsScreenOf mol.now screen.now }
+        ensures none { IfOk result (λ no. IsTrue no → HoldsNone self.old.query mol.now (take (n + 1) code.now)) }
+        ensures known { IsKnownOf mol.now self.new }
+        ensures query { self.new.query ≡ self.old.query }
+        ensures paid { purse.new ≤ purse.old }
+    {
+        if n + 1 == code.len() {
+            return Ok(false);
+        }
+        let may = self.may_hold_front(alloc, &code[..n + 1], mol, screen, purse)?;
+        Ok(!may)
+    }
+
     // Tells whether the molecule may hold a number alone at a slot of the root, and remembers it.
     fn may_hold_alone(
         &mut self,
@@ -307,7 +332,7 @@ impl<'a> Known<'a> {
             return Ok(true);
         }
         let at = place_of(&self.starts, slot, number);
-        if let Some(may) = told_at(&self.told, at, slot, number) {
+        if let Some(may) = told_at(&self.told, &self.index, at, slot, number) {
             return Ok(may);
         }
         let there = self.counts(mol);
@@ -315,7 +340,12 @@ impl<'a> Known<'a> {
         let may = self
             .stores
             .may_hold_alone(alloc, slot, number, &self.key, mol, screen, &there, purse)?;
-        put(&mut self.told, at, Told { slot, number, may });
+        put(
+            &mut self.told,
+            &mut self.index,
+            at,
+            Told { slot, number, may },
+        )?;
         Ok(may)
     }
 

@@ -10,7 +10,7 @@
 --     IsOpened .. more                the next code, or all codes behind a front that holds none,
 --                                     are passed; or there is none
 --     TakesNext .. found              the next occurrence is taken, or there is none
-use Rattle.std.specs.Prelude.{◌≡◌, ◌⊎◌, ℕ, Bool, true, false, List, [], ◌∷◌, ◌++◌, Option, Some, None, All}
+use Rattle.std.specs.Prelude.{◌≡◌, ◌⊎◌, ℕ, Bool, true, false, List, [], ◌∷◌, ◌++◌, Option, Some, None}
 use Rattle.mk_text.specs.Rising.{Holds, IsBelow, IsLeast, IsLeastFrom}
 use Rattle.mk_model.specs.Expansions.{IsExpansion}
 use Rattle.mk_model.specs.Graphs.{GraphView}
@@ -24,7 +24,7 @@ use Rattle.mk_search.specs.declared.occurrences.Occurrences.{Occurrences}
 use Rattle.mk_search.specs.declared.occurrences.Open.{Open}
 use Rattle.mk_search.specs.Begins.{IsLeftBy}
 use Rattle.mk_search.specs.Begun.{Begun, IsCovered}
-use Rattle.mk_expansions.specs.Kept.{IsKept}
+use Rattle.mk_expansions.specs.Kept.{AreKept, IsKept}
 use Rattle.mk_search.specs.Levels.{AtBacks, AtFronts}
 use Rattle.mk_search.specs.Passing.{FrontsOf}
 
@@ -69,7 +69,7 @@ pub record BelongsTo (query : QueryView) (all : Occurrences) : Type 0 where
   pub query_is : all.query.now ≡ query
   pub codes_of : all.codes.query ≡ query
   pub fronts_of : FrontsOf query all.fronts
-  pub kept_are : All (IsKept query) all.kept.items
+  pub kept_are : AreKept query all.kept
 
 -- a code is open
 abbrev pub is_open : Option Open → Bool

@@ -1,20 +1,19 @@
 // What the expansions of all codes need of a screen.
-ghost use Rattle.std.specs.Prelude.{◌≡◌, [], All, IfOk, IfSome};
+ghost use Rattle.std.specs.Prelude.{◌≡◌, [], IfOk, IfSome};
 ghost use Rattle.mk_model.specs.Screens.{Covers};
 ghost use Rattle.mk_screen.specs.Covering.{CoversBits, CoversCounts};
-ghost use Rattle.mk_expansions.specs.Kept.{IsKept};
+ghost use Rattle.mk_expansions.specs.Kept.{AreKept};
 ghost use Rattle.mk_search.specs.Passing.{FrontsOf};
 ghost use Rattle.mk_open_codes.specs.Fronts.{IsNeedOfAll};
 
 use crate::passing::{fronts_of, need_by};
 use mk_choice::Codes;
-use mk_expansions::{Expansion, expansion_by, keep};
+use mk_expansions::{Kept, expansion_by, keep};
 use mk_fronts::Fronts;
 use mk_model::{Memory, Query, Screen, Turn};
 use std::alloc::Global;
-use std::collections::VecDeque;
 
-// How many codes may share a need at most: as many as there are expansions that are kept.
+// How many codes may share a need at most.
 const MOST_CODES: usize = 64;
 
 // How many turns of the codes are taken at most before all of them are known, times the slots of a
@@ -38,13 +37,13 @@ pub fn fronts_and_need<'a>(
     alloc: Global,
     query: &'a Query,
     codes: &mut Codes<'_>,
-    kept: &mut VecDeque<Expansion>,
+    kept: &mut Kept,
 ) -> Result<(Option<Fronts<'a>>, Option<Screen>), Memory>
     requires query { codes.old.query ≡ query.now }
     requires first { codes.old.place ≡ [] }
-    requires kept { All (IsKept query.now) kept.old.items }
+    requires kept { AreKept query.now kept.old }
     ensures query { IfOk result (λ _. codes.new.query ≡ query.now) }
-    ensures kept { IfOk result (λ _. All (IsKept query.now) kept.new.items) }
+    ensures kept { IfOk result (λ _. AreKept query.now kept.new) }
     ensures fronts { IfOk result (λ found. FrontsOf query.now found.0) }
     ensures need { IfOk result (λ found. IfSome found.1 (IsNeedOfAll query.now)) }
 {
@@ -60,13 +59,13 @@ fn need_of_all(
     alloc: Global,
     query: &Query,
     codes: &mut Codes<'_>,
-    kept: &mut VecDeque<Expansion>,
+    kept: &mut Kept,
 ) -> Result<(Option<Screen>, bool), Memory>
     requires query { codes.old.query ≡ query.now }
     requires first { codes.old.place ≡ [] }
-    requires kept { All (IsKept query.now) kept.old.items }
+    requires kept { AreKept query.now kept.old }
     ensures query { IfOk result (λ _. codes.new.query ≡ query.now) }
-    ensures kept { IfOk result (λ _. All (IsKept query.now) kept.new.items) }
+    ensures kept { IfOk result (λ _. AreKept query.now kept.new) }
     ensures need { IfOk result (λ found. IfSome found.0 (IsNeedOfAll query.now)) }
 {
     // The reader's clause says what every query keeps.

@@ -14,12 +14,11 @@ use crate::passing::{forget, passed, put_behind_front};
 use crate::stages::Row;
 use mk_choice::Codes;
 use mk_counts::Asked;
-use mk_expansions::{Expansion, behind, expansion_by, keep, may_hold, start};
+use mk_expansions::{Expansion, Kept, behind, expansion_by, keep, may_hold, start};
 use mk_fronts::Fronts;
 use mk_match::Maps;
 use mk_model::{Memory, Query, Screen, Steps};
 use std::alloc::Global;
-use std::collections::VecDeque;
 use std::mem;
 use std::sync::ledger::Ledger;
 
@@ -43,7 +42,7 @@ pub struct Occurrences<'a> {
     pub codes: Codes<'a>,
     pub open: Option<Open<'a>>,
     pub fronts: Option<Fronts<'a>>,
-    pub kept: VecDeque<Expansion>,
+    pub kept: Kept,
     pub numbers: Vec<u32>,
     pub query: &'a Query,
     pub owed: usize,
@@ -56,7 +55,7 @@ impl<'a> Occurrences<'a> {
         ensures need { IfOk result (λ made. IfSome made.1 (IsNeedOfAll query.now)) }
     {
         let mut codes = Codes::from_place(alloc, query, &[])?;
-        let mut kept = VecDeque::new(alloc);
+        let mut kept = Kept::new(alloc);
         match fronts_and_need(alloc, query, &mut codes, &mut kept) {
             Ok((fronts, need)) => {
                 let all = Occurrences {

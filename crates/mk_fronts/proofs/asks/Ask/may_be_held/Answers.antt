@@ -1,4 +1,4 @@
-use Rattle.std.proofs.Common.{Bool, false, Err, IfOk, List, Ok, Result, refl, subst, ℕ, ◌≡◌}
+use Rattle.std.proofs.Common.{false, Err, IfOk, Ok, Result, refl, subst, ◌≡◌}
 use Rattle.mk_model.specs.Graphs.{GraphView}
 use Rattle.mk_model.specs.Hits.{HasNoEmbedding}
 use Rattle.mk_model.proofs.ForCallers.{no_embedding}

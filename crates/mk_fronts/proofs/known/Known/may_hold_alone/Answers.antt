@@ -23,3 +23,13 @@ returns-clause-known c =
       there = known.there;
       told = subst (λ (q : QueryView). All (IsSo q c.args.mol.now) c.put.new.told.items) (sym c.in_ok-may.ensures.query) told;
     }
+
+pub returns-in_err-put-clause-known : goal.returns-in_err-put-clause-known
+returns-in_err-put-clause-known c =
+    let known = subst (IsKnownOf c.args.mol.now) (sym c.self-2.view_is) c.counts-there.ensures.known in
+    let told : All (IsSo c.self-2.inside.stores c.args.mol.now) c.put.new.told.items =
+    c.put.ensures c.self-2.inside.stores c.args.mol.now known.told c.in_ok-may.ensures.none in
+    record {
+      there = known.there;
+      told = subst (λ (q : QueryView). All (IsSo q c.args.mol.now) c.put.new.told.items) (sym c.in_ok-may.ensures.query) told;
+    }
