@@ -15,6 +15,7 @@ import sqlite3
 import subprocess
 import time
 from pathlib import Path
+from types import SimpleNamespace
 from typing import Any, Dict, Iterator, List, Optional
 from urllib.parse import quote
 
@@ -26,6 +27,7 @@ from markush.serve.choices import Choices, numbers
 from markush.serve.gate import TOKEN_HEADER
 from markush.serve.opening import Serving
 from markush.serve.places import Place
+from markush.serve.searches import Search
 from markush.session import Session
 
 TOP = Path(__file__).resolve().parents[2]
@@ -36,7 +38,7 @@ LIST = "title acids\nroot OC(=O)[CH2]Oc1ccc([R1])cc1\nR1 *Cl chlorine\nR1 *[CH3]
 class Client:
     """A page, as far as it asks."""
 
-    def __init__(self, serving: Serving) -> None:
+    def __init__(self, serving: Any) -> None:
         self.serving = serving
 
     def raw(self, path: str, body: bytes = b"", **headers: str) -> "tuple[int, bytes]":
@@ -199,25 +201,29 @@ def test_no_cell_of_a_table_is_a_formula(client: Client) -> None:
 
 
 @pytest.mark.parametrize("source", ["store", "file"])
-def test_report_makes_the_json_anew(program: Path, tmp_path: Path, source: str) -> None:
-    held = tmp_path / "compounds.sdf"
-    held.write_bytes((ACIDS / "compounds.sdf").read_bytes())
+def test_report_makes_the_json_and_the_page_anew(program: Path, tmp_path: Path, source: str) -> None:
+    compounds = tmp_path / "compounds.sdf"
+    compounds.write_bytes((ACIDS / "compounds.sdf").read_bytes())
     with open_bench(program, tmp_path / "acids.db" if source == "store" else None) as serving:
         client = Client(serving)
         if source == "store":
-            client.load(held.read_bytes(), "compounds.sdf")
+            client.load(compounds.read_bytes(), "compounds.sdf")
         else:
-            serving.bench.compounds.load_file("compounds.sdf", held.read_bytes())
+            serving.bench.compounds.load_file("compounds.sdf", compounds.read_bytes())
             client.until(lambda state: [job["state"] for job in state["loads"]] == ["done"])
         client.ask("claim/keep", name="acids", text=LIST)
         told = client.search("acids")
-        for kind, ending in (("json", "json"), ("source", "txt")):
+        for kind, ending in (("json", "json"), ("page", "html"), ("source", "txt")):
             (tmp_path / f"acids.{ending}").write_bytes(client.export(id=told["id"], kind=kind))
         if source == "file":
             client.ask("remove", numbers=[33])
             assert b"the records" in client.export(id=told["id"], kind="json")
-    ran = subprocess.run([TOP / "bin" / "markush-tools", "report", "acids.json"], cwd=tmp_path, capture_output=True, text=True, env={**os.environ, "PATH": f"/usr/bin:{os.environ['PATH']}"})
-    assert ran.returncode == 0 and ran.stdout == f"the same: {len(json.loads((tmp_path / 'acids.json').read_text())['hits'])} hits in 33 records\n", ran
+    held = len(json.loads((tmp_path / "acids.json").read_text())["hits"])
+    for name in ("acids.json", "acids.html"):
+        ran = subprocess.run(
+            [TOP / "bin" / "markush-tools", "report", name], cwd=tmp_path, capture_output=True, text=True, env={**os.environ, "PATH": f"/usr/bin:{os.environ['PATH']}"}
+        )
+        assert ran.returncode == 0 and ran.stdout == f"the same: {held} hits in 33 records\n", ran
 
 
 def test_a_page_and_an_account_are_handed_on(acids: Client) -> None:
@@ -318,6 +324,49 @@ def test_a_restart_finds_all(program: Path, tmp_path: Path) -> None:
         assert Client(serving).ask("search/changes", id=again["id"])["changes"] == found
 
 
+def test_what_was_answered_is_there_after_a_kill(program: Path, tmp_path: Path) -> None:
+    store = tmp_path / "acids.db"
+    words = [TOP / "bin" / "markush-tools", "serve", "--no-browser", "--store", store]
+    ran = subprocess.Popen(words, stdout=subprocess.PIPE, text=True, env={**os.environ, "MARKUSH_SESSION": str(program), "PATH": f"/usr/bin:{os.environ['PATH']}"})
+    assert ran.stdout is not None
+    found = re.search(r":(\d+)/#(\w+)", ran.stdout.readline())
+    assert found is not None
+    client = Client(SimpleNamespace(server=SimpleNamespace(port=int(found[1]), gate=SimpleNamespace(token=found[2]))))
+    try:
+        client.until(lambda state: state["library"]["isOpen"])
+        client.load((ACIDS / "compounds.sdf").read_bytes(), "compounds.sdf")
+        client.ask("claim/keep", name="acids", text=LIST)
+        told = client.search("acids")
+        sha = client.ask("hits", id=told["id"], **{"from": 0}, choices=0)["shas"][0]
+        assert client.ask("verdict", id=told["id"], place=0, sha=sha, verdict="relevant", note="kept") == {}
+    finally:
+        ran.kill()
+        ran.wait()
+        ran.stdout.close()
+    with open_bench(program, store) as serving:
+        client = Client(serving)
+        assert [(search["hits"], search["state"]) for search in client.ask("state")["searches"]] == [(told["hits"], "ended")]
+        assert client.ask("verdicts", id=told["id"])["verdicts"] == [[0, "relevant", "kept"]]
+
+
+def test_a_port_that_is_taken(client: Client) -> None:
+    words = [TOP / "bin" / "markush-tools", "serve", "--no-browser", "--port", str(client.serving.server.port)]
+    ran = subprocess.run(words, capture_output=True, text=True, env={**os.environ, "PATH": f"/usr/bin:{os.environ['PATH']}"}, timeout=60)
+    assert ran.returncode == 2 and f"port {client.serving.server.port} is another program's" in ran.stderr and not ran.stdout
+
+
+def test_where_there_is_no_rdkit(client: Client, monkeypatch: pytest.MonkeyPatch, tmp_path: Path) -> None:
+    """What is drawn is taken, and of the rest it is said what to install."""
+    (tmp_path / "rdkit").mkdir()
+    (tmp_path / "rdkit" / "__init__.py").write_text("raise ImportError('none')")
+    monkeypatch.setenv("PYTHONPATH", str(tmp_path))
+    assert client.load((ACIDS / "compounds.sdf").read_bytes(), "compounds.sdf")["kept"] == 33
+    client.ask("claim/keep", name="acids", text=(ACIDS / "claim.rgf").read_text())
+    assert client.search("acids")["hits"]
+    for fault in (client.load(b"CCO ethanol\n", "list.smi"), client.ask("claim/read", text=LIST), client.ask("covers", smiles="CCO")):
+        assert "takes RDKit, which this Python doesn't have: install" in fault["fault"]
+
+
 def test_a_store_that_was_changed_in_between_is_seen(program: Path, tmp_path: Path) -> None:
     store = tmp_path / "acids.db"
     with open_bench(program, store) as serving:
@@ -342,6 +391,47 @@ def test_stop_and_go_on(acids: Client) -> None:
     assert acids.ended(number)["hits"] == whole["hits"]
     acids.ask("search/drop", id=number)
     assert number not in [search["id"] for search in acids.ask("state")["searches"]]
+
+
+def test_a_search_goes_on_within_a_record(program: Path, tmp_path: Path, monkeypatch: pytest.MonkeyPatch) -> None:
+    """It is stopped after each of the first hits, of which two are of one record, once with a restart."""
+    page = Search._page
+
+    def paged(self: Search, library: Library) -> bool:
+        before, is_end = self.count, page(self, library)
+        self.wants_stop = self.wants_stop or before != self.count < 7
+        return is_end
+
+    store, told = tmp_path / "acids.db", {"state": "", "hits": 0, "id": 1}
+    with open_bench(program, store) as serving:
+        client = Client(serving)
+        client.load((ACIDS / "compounds.sdf").read_bytes(), "compounds.sdf")
+        client.ask("claim/keep", name="whole", text=(ACIDS / "claim.rgf").read_text())
+        client.ask("claim/keep", name="parts", text=(ACIDS / "claim.rgf").read_text())
+        whole = client.search("whole")
+        wanted = client.ask("hits", id=whole["id"], **{"from": 0}, choices=0)
+        monkeypatch.setattr("markush.serve.searches.PAGES", (1,))
+        monkeypatch.setattr(Search, "_page", paged)
+        told = client.search("parts")
+        for count in (1, 2, 3):
+            assert (told["state"], told["hits"]) == ("stopped", count)
+            client.ask("search/on", id=told["id"])
+            told = client.ended(told["id"])
+    with open_bench(program, store) as serving:
+        client = Client(serving)
+        for count in (4, 5, 6):
+            assert (told["state"], told["hits"]) == ("stopped", count)
+            client.ask("search/on", id=told["id"])
+            told = client.ended(told["id"])
+        assert told["state"] == "ended"
+        found = client.ask("hits", id=told["id"], **{"from": 0}, choices=0)
+        for word in ("records", "names", "shas", "hits", "choices"):
+            assert found[word] == wanted[word], word
+        cards = [client.ask("cards", id=number, places=list(range(8)))["cards"] for number in (whole["id"], told["id"])]
+        assert [card["h"] for card in cards[0]] == [card["h"] for card in cards[1]]
+        # nothing that Python's collector would look through is left of each record
+        for search in serving.bench.desk.searches.values():
+            assert all(type(each) is tuple for each in [*search.held, *search.maps, *(maps for held in search.maps for maps in held)])
 
 
 def test_files_are_loaded_in_turn(client: Client) -> None:
@@ -452,5 +542,5 @@ def test_parts_are_those_of_the_expansion(name: str) -> None:
         written = line[line.index("choice") + 6 : line.index(" map")].strip()
         place = choices.place(written)
         whole, _ = _choice_data(claim.query, choices.facets, numbers(written))
-        assert {**choices.told(place, 1)[0], **choices.graph(place)} == whole
+        assert {**json.loads(choices.told(place, 1)[0]), **choices.graph(place)} == whole
     assert lines and len(choices.written) == len(set(choices.written)) == len(choices.told(0, 10_000))

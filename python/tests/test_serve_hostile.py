@@ -4,6 +4,7 @@ from __future__ import annotations
 import gzip
 import json
 import lzma
+import resource
 import socket
 import threading
 import time
@@ -15,12 +16,21 @@ import pytest
 
 from markush import Refused
 from markush.serve.drawer import Drawer
-from markush.serve.gate import HEADERS, TOKEN_HEADER
+from markush.serve.gate import TOKEN_HEADER
 from markush.serve.opening import Serving, shell
-from markush.serve.server import MOST_BODY
 from markush.serve.unpacking import unpacked
 
 from test_serve import ACIDS, Client, open_bench
+
+MOST_BODY, IDLE = 64 * 1024 * 1024, 10.0  # bytes, seconds
+HEADERS = {
+    "Content-Security-Policy": "default-src 'none'; script-src 'self'; style-src 'self'; connect-src 'self'; img-src 'self' data: blob:; "
+    "base-uri 'none'; form-action 'none'; frame-ancestors 'none'",
+    "X-Content-Type-Options": "nosniff",
+    "Referrer-Policy": "no-referrer",
+    "Cache-Control": "no-store",
+    "Cross-Origin-Resource-Policy": "same-origin",
+}
 
 
 @pytest.fixture(scope="module")
@@ -71,11 +81,12 @@ def test_every_answer_bears_the_headers(serving: Serving) -> None:
         ("/", "PUT", "right"), ("/api/state", "GET", "right"), ("/%00", "GET", None), ("/api/state", "OPTIONS", None),
     ):
         _, headers, _ = request(serving, path, method, token=token)
-        assert {name: headers.get(name) for name, _ in HEADERS} == dict(HEADERS), (path, method)
+        assert {name: headers.get(name) for name in HEADERS} == HEADERS, (path, method)
         assert not [name for name in headers if name.startswith("Access-Control") or name in ("Set-Cookie", "Server")]
     for said in (b"\0\0\0\r\n\r\n", b"GET /\r\n\r\n", b"GET / HTTP/9.9\r\n\r\n", b"GET / HTTP/1.1\r\nHost: x\r\n\r\n", b"A" * 70_000 + b"\r\n\r\n"):
         answer = talk(serving, said)
-        assert b"200" not in answer.split(b"\r\n")[0] and b"Content-Security-Policy: default-src 'none'" in answer and answer.endswith(b"\r\n\r\n")
+        assert b"200" not in answer.split(b"\r\n")[0] and answer.endswith(b"\r\n\r\n")
+        assert all(f"\r\n{name}: {value}\r\n".encode() in answer for name, value in HEADERS.items()), said[:20]
     assert f"localhost:{port}" in serving.server.gate.hosts
 
 
@@ -175,6 +186,12 @@ def test_lengths(serving: Serving) -> None:
     assert talk(serving, two.encode()).startswith(b"HTTP/1.1 400")
 
 
+def test_a_body_of_64_mib_is_taken(serving: Serving) -> None:
+    # it is no object, which is told once it was read
+    status, _, content = request(serving, "/api/hits", body=bytes(MOST_BODY))
+    assert status == 200 and "isn't understood" in json.loads(content)["fault"]
+
+
 def test_a_body_without_the_token_isnt_read(serving: Serving) -> None:
     began = time.monotonic()
     assert request(serving, "/api/load", token=None, body=b"a", Content_Length=str(MOST_BODY))[0] == 403
@@ -193,6 +210,7 @@ def test_bodies_that_arent_objects(serving: Serving) -> None:
 
 def test_idle_and_cut_connections(program: Path) -> None:
     with Serving(None, program=program) as slow:
+        assert slow.server.idle == IDLE
         slow.server.idle = 1.0
         began = time.monotonic()
         assert talk(slow, b"POST /api/state HT", wait=20) == b""
@@ -280,22 +298,30 @@ def test_two_hundred_at_once(serving: Serving) -> None:
 # ---- what is unpacked and drawn
 
 
+TEN_GB = 10 << 30
+
+
 def bomb(size: int) -> bytes:
-    """A .xz of few bytes that unpacks to many zeros: blocks that are alike, each a stream."""
+    """A .xz that unpacks to so many zeros: streams that are alike, one behind the other, which is one file."""
     piece = lzma.compress(bytes(64 << 20), preset=0)
+    assert len(lzma.decompress(piece)) == 64 << 20 and size % (64 << 20) == 0
     return piece * (size // (64 << 20))
 
 
 def test_a_bomb_is_refused(serving: Serving) -> None:
     client = Client(serving)
-    began = time.process_time()
-    small = lzma.compress(bomb(10 << 30))
+    large = bomb(TEN_GB)
+    # LZMA takes 0.3 bits at least for 273 bytes, so 10 GB can't have less than 1.4 MB, and a kilobyte unpacks to 7 MB at most
+    assert 1_400_000 < len(large) < 1_700_000
+    began, before = time.process_time(), resource.getrusage(resource.RUSAGE_SELF).ru_maxrss
+    small = lzma.compress(large)
     assert len(small) < 3_000 and "twice" in client.load(small, "a.sdf.xz.xz")["fault"]
-    for data, name in ((bomb(10 << 30), "a.sdf.xz"), (gzip.compress(bytes(200 << 20), 9), "a.sdf.gz")):
+    for data, name in ((large, "a.sdf.xz"), (gzip.compress(bytes(200 << 20), 9), "a.sdf.gz")):
         assert "more than 134,217,728 bytes" in client.load(data, name)["fault"]
     assert time.process_time() - began < 30
+    assert resource.getrusage(resource.RUSAGE_SELF).ru_maxrss - before < 1 << 20  # kilobytes: far from 10 GB
     with pytest.raises(Refused):
-        unpacked(bomb(10 << 30), 1 << 20)
+        unpacked(large, 1 << 20)
     for broken in (b"\x1f\x8b\x08\0\0\0\0\0", lzma.compress(b"abc")[:-5], gzip.compress(b"abc")[:-3] + b"x", b"\xfd7zXZ\0" + b"\xff" * 50):
         assert "can't be unpacked" in client.load(broken, "a.sdf")["fault"]
 

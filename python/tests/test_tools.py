@@ -6,6 +6,7 @@ import gzip
 import io
 import json
 import os
+import re
 import subprocess
 import sys
 from hashlib import sha256
@@ -369,10 +370,15 @@ def test_a_list_is_drawn(tmp_path: Path) -> None:
     assert ran.stderr.decode() == f"{listed}: line 2 ethylamine: the formula is C2H7N and not C2H6O\n"
 
 
-def test_where_this_python_has_no_rdkit_debians_goes_on(tmp_path: Path) -> None:
-    """A Python of its own packages: a venv that sees no others."""
-    subprocess.run(["/usr/bin/python3", "-m", "venv", "--without-pip", tmp_path / "bare"], check=True)
-    bare = str(tmp_path / "bare/bin/python3")
+@pytest.fixture(scope="session")
+def bare(tmp_path_factory: pytest.TempPathFactory) -> str:
+    """A Python of its own packages, and so without RDKit: a venv that sees no others."""
+    folder = tmp_path_factory.mktemp("bare")
+    subprocess.run(["/usr/bin/python3", "-m", "venv", "--without-pip", folder], check=True)
+    return str(folder / "bin/python3")
+
+
+def test_where_this_python_has_no_rdkit_debians_goes_on(tmp_path: Path, bare: str) -> None:
     listed = tmp_path / "list.smi"
     listed.write_text("CCO\tethanol\n")
     ran = tools(["draw", listed], python=bare)
@@ -381,10 +387,60 @@ def test_where_this_python_has_no_rdkit_debians_goes_on(tmp_path: Path) -> None:
     # what takes none goes on by itself, and says nothing
     ran = tools(["show"], b"record 1 1\na\n", python=bare)
     assert ran.stdout == b"a\n$$$$\n" and ran.stderr == b""
+    # `report` goes on as a whole, since it compares what was made
+    (tmp_path / "claim.txt").write_text("root OC(=O)[CH2]Oc1ccc([R1])cc1\nR1 *Cl\n")
+    for word in ("found.html", "found.json"):
+        assert tools(["find", tmp_path / "claim.txt", COMPOUNDS, "--out", tmp_path / word], python=bare).returncode == 0
+        ran = tools(["report", tmp_path / word], python=bare)
+        assert ran.returncode == 0 and re.fullmatch(r"the same: \d+ hits in 33 records\n", ran.stdout.decode()), ran
     # where the other one hasn't it either, both are named
     ran = tools(["draw", listed], python=bare, MARKUSH_TOOLS_WENT_ON="1")
     assert ran.returncode == 2 and f"neither this Python has, {bare}, nor /usr/bin/python3" in ran.stderr.decode()
     assert "apt-get install python3-rdkit" in ran.stderr.decode()
+
+
+GOES_ON = "has no RDKit, so /usr/bin/python3 goes on, which has"
+
+
+@pytest.mark.parametrize("words", [["find", CLAIM], ["scan", CLAIM], ["why", CLAIM, "--timeout", "60"], ["table", CLAIM]], ids=lambda words: words[0])
+def test_report_goes_on_with_the_python_that_has_rdkit(program: Path, tmp_path: Path, bare: str, words: List[str]) -> None:
+    """Of a list of SMILES a result is made anew by `report` itself, and not by the tool that made it."""
+    listed, out, spare = tmp_path / "a list.smi", tmp_path / "hits.tsv", tmp_path / "spare"
+    spare.mkdir()
+    listed.write_text("OC(=O)COc1ccc(Cl)cc1Cl\t2,4-D\nCCO\tethanol\n")
+    made = tools([*words, listed, "--out", out], python=bare)
+    assert made.returncode == 0 and lines(made)[1:] == [] and f"{bare} {GOES_ON}" in made.stderr.decode()
+    held = out.read_bytes()
+    same = tools(["report", out], python=bare, TMPDIR=str(spare))
+    assert (same.returncode, len(lines(same))) == (0, 1) and lines(same)[0].startswith("the same: "), (same.stdout, same.stderr)
+    assert same.stderr.decode() == f"markush-tools: {bare} {GOES_ON}\n"
+    assert out.read_bytes() == held and list(spare.iterdir()) == []
+    listed.write_text("CCO\tethanol\n")
+    other = tools(["report", out], python=bare)
+    assert other.returncode == 1 and f"{listed} is another file by now" in other.stdout.decode()
+    neither = tools(["report", out], python=bare, MARKUSH_TOOLS_WENT_ON="1")
+    assert neither.returncode == 2 and neither.stdout == b"" and f"neither this Python has, {bare}, nor /usr/bin/python3" in neither.stderr.decode()
+
+
+def test_report_says_which_words_are_none(program: Path, tmp_path: Path) -> None:
+    out = tmp_path / "hits.tsv"
+    assert tools(["find", CLAIM, COMPOUNDS, "--out", out]).returncode == 0
+    bad = tmp_path / "bad.tsv"
+    for words, said in (('["find", "--frob"', "unrecognized arguments: --frob"), ('["find", "--help"', "they ask for help")):
+        bad.write_text(out.read_text().replace('["find"', words))
+        ran = tools(["report", bad])
+        assert ran.returncode == 2 and ran.stdout == b""
+        assert ran.stderr.decode() == f"markush-tools report: {bad} says that it was made by words that are none: {said}\n"
+
+
+def test_a_list_on_standard_input_goes_on_with_rdkit(program: Path, bare: str) -> None:
+    listed = b"OC(=O)COc1ccc(Cl)cc1Cl\t2,4-D\nCCO\tethanol\n"
+    ran = tools(["find", CLAIM, "-"], listed, python=bare)
+    assert ran.returncode == 0, ran.stderr
+    assert [row[:2] for row in rows(ran.stdout.decode())[1:]] == [["1", "2,4-D"], ["1", "2,4-D"]]
+    assert ran.stderr.decode() == f"markush-tools: {bare} {GOES_ON}\n"
+    ran = tools(["find", CLAIM, "-"], listed, python=bare, MARKUSH_TOOLS_WENT_ON="1")
+    assert ran.returncode == 2 and f"neither this Python has, {bare}, nor /usr/bin/python3" in ran.stderr.decode()
 
 
 # ---- several claims, and claims under watch
@@ -420,6 +476,15 @@ def test_a_claim_under_watch_tells_what_is_new(program: Path, tmp_path: Path) ->
     # vendors' files that have no such item go by their names
     ran = tools(["watch", store, "--update", COMPOUNDS, "--by-name"])
     assert lines(ran)[0] == f"{COMPOUNDS}: 25 added, 8 replaced, 0 the same, 0 missing, 0 refused"
+    # a record that is replaced out of a hit, and one that is removed
+    other = tmp_path / "other.sdf"
+    texts = Path(COMPOUNDS).read_text().split("$$$$\n")[:-1]
+    phenol = [text for text in texts if text.startswith("4-fluorophenoxyacetic acid\n")]
+    other.write_text("$$$$\n".join(["MCPA" + phenol[0][phenol[0].index("\n") :], *texts[4:], ""]))
+    ran = tools(["watch", store, "--update", other, "--by-name", "--missing", "remove"])
+    assert ran.returncode == 0 and lines(ran)[0] == f"{other}: 0 added, 1 replaced, 29 the same, 3 missing, 0 refused", ran.stdout
+    lost = [line.split("\t") for line in lines(ran)[1:]]
+    assert [row[1:4] for row in lost] == [["lost", "1", ""], ["lost", "2", ""], ["lost", "3", ""], ["lost", "3", ""], ["lost", "4", "MCPA"], ["lost", "4", "MCPA"]]
 
 
 def test_the_manual_names_each_tool() -> None:

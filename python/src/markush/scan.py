@@ -359,7 +359,8 @@ def scan(
         What has `submit`, as those of `concurrent.futures` and dask's `Client.get_executor()`; else a pool of threads of this
         scan's own, one a processor.
     window : int or None
-        How many blocks are under way at most; twice the executor's workers.
+        How many blocks are under way at most; twice the executor's workers, or twice this machine's processors where an
+        executor doesn't say how many it has, as dask's.
     bad : {"skip", "refuse"}
         Whether bad records are passed over, and named in `refused`, or the first ends the scan.
     per : {"choice", "record", "map"}

@@ -217,7 +217,7 @@ function showKept() {
     const buttons = [button(found ? "Hits" : "Search", () => search(name, v.number)), button("Edit", () => edit(name, v.number))];
     if (at === 0 && versions.length > 1) buttons.push(button("Compare", () => openCompare(name)));
     if (at === 0) buttons.push(button("Forget", async () => { if (confirm(`Forget the claim '${name}' with its versions and searches?`)) { await ask("claim/forget", { name }); await look(); } }));
-    rows.push(make("tr", {}, make("td", {}, at ? "" : name), make("td", {}, `${v.number}, ${v.date}`), make("td", {}, BigInt(v.codes).toLocaleString("en")), make("td", {}, found ? farOf(found) : "not searched yet"), make("td", {}, ...buttons.flatMap((b) => [b, " "]))));
+    rows.push(make("tr", {}, make("td", {}, ...(at ? [] : [name])), make("td", {}, make("span", { class: "narrow" }, "version "), `${v.number}, ${v.date}`), make("td", {}, BigInt(v.codes).toLocaleString("en"), make("span", { class: "narrow" }, " structural codes")), make("td", {}, found ? farOf(found) : "not searched yet"), make("td", {}, ...buttons.flatMap((b) => [b, " "]))));
   });
   const body = $("kept").querySelector("tbody");
   const at = [...body.querySelectorAll("button")].indexOf(document.activeElement);
@@ -612,7 +612,7 @@ function showLoads(before) {
     const [told, details] = node.children, parts = [];
     if (each.state === "reading") parts.push(each.of ? `${said(each.done)} of ${said(each.of)} lines drawn` : "it is read");
     if (each.state === "waiting" || each.state === "loading") parts.push(`${said(each.done)} of ${plural(each.of, "record")}`);
-    if (each.kept || each.state === "done") parts.push(`${said(each.kept)} loaded`);
+    if (each.kept || (each.state === "done" && !each.replaced)) parts.push(`${said(each.kept)} loaded`);
     if (each.replaced) parts.push(`${said(each.replaced)} replaced`);
     if (each.how === "update" && each.state === "done") parts.push(`${said(each.same)} the same, ${said(each.missing)} taken out`);
     if (each.fault) parts.push(each.fault);

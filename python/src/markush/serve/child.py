@@ -59,8 +59,10 @@ def smiles_drawn(asked: Dict[str, Any]) -> Dict[str, Any]:
     >>> smiles_drawn({"lines": ["CCO ethanol", "C("]})["refused"]
     [[2, '', 'RDKit reads no SMILES in C(']]
     """
+    from ..molecules import rdkit
     from ..tools.common import drawn_smiles
 
+    rdkit("SMILES")
     records: List[List[Any]] = []
     refused: List[List[Any]] = []
     for drawn in drawn_smiles(line.encode("utf-8", "replace") for line in asked["lines"]):

@@ -1,6 +1,7 @@
 """Choices as the page tells them: their parts at once, since hits are chosen by them, and the graph where a card is drawn."""
 from __future__ import annotations
 
+import json
 from typing import Any, Dict, Iterator, List, Tuple, Union
 
 from ..claim import Claim
@@ -35,7 +36,7 @@ class Choices:
     >>> choices.place("2"), choices.place("1"), choices.place("2")
     (0, 1, 0)
     >>> choices.told(0, 1)[0]
-    {'n': '2', 'p': [[0, 1, -1, 'R1 at 2']]}
+    '{"n":"2","p":[[0,1,-1,"R1 at 2"]]}'
     >>> choices.graph(0)
     {'a': [-1, 0], 'b': [1, 2], 'l': []}
     """
@@ -51,7 +52,7 @@ class Choices:
         self.facets = _Facets(query, {id(part): place for place, part in enumerate(parts)}, names)
         self.written: List[str] = []
         self._places: Dict[str, int] = {}
-        self._told: List[Dict[str, Any]] = []
+        self._told: List[str] = []
         self._graphs: Dict[int, Dict[str, Any]] = {}
         self._slots: Dict[int, _Slots] = {}
 
@@ -60,12 +61,12 @@ class Choices:
         place = self._places.get(written)
         if place is None:
             place = self._places[written] = len(self.written)
-            self._told.append({"n": written, "p": self._parts(numbers(written))})
+            self._told.append(json.dumps({"n": written, "p": self._parts(numbers(written))}, separators=(",", ":")))
             self.written.append(written)
         return place
 
-    def told(self, start: int, most: int) -> List[Dict[str, Any]]:
-        """Choices from a place on, with their parts: the facet, the value's place in it, the part in which it is, and a name."""
+    def told(self, start: int, most: int) -> List[str]:
+        """Choices from a place on as JSON, with their parts: the facet, the value's place in it, the part in which it is, a name."""
         return self._told[start : min(len(self.written), start + most)]
 
     def graph(self, place: int) -> Dict[str, Any]:
@@ -87,7 +88,8 @@ class Choices:
         for slot, members in self._slots_of(part):
             value, at = next(values), len(parts)
             if isinstance(slot, Link):
-                parts.append([facets[(), *owner, slot.atom], value - 1, parent, f"link at {slot.atom}"])
+                link = ((), *owner, slot.atom)
+                parts.append([facets[link], value - 1, parent, f"link at {slot.atom}"])
                 continue
             label = _labels(slot.groups)
             parts.append([facets[slot.groups, owner[0], 0, 0], value - 1, parent, f"{label} at {slot.atom}" if parent < 0 else label])

@@ -1,10 +1,9 @@
-"""Hits to hand on: a table, an SDfile, a page of hits, and JSON that `markush-tools report` makes anew."""
+"""Hits to hand on: a table, an SDfile, and a page of hits and JSON that `markush-tools report` makes anew."""
 from __future__ import annotations
 
 import csv
 import hashlib
 import io
-import os
 import re
 from typing import Dict, Iterator, List, Sequence, Tuple
 
@@ -39,7 +38,7 @@ def export(kind: str, search: Search, places: Sequence[int], desk: Desk, told: T
     Parameters
     ----------
     kind : str
-        `csv`, `sdf`, `page`, `json` (with the account for `report`), `claim` (its RGfile) or `source` (the claim as it was
+        `csv`, `sdf`, `page` or `json` (with the account for `report`), `claim` (its RGfile) or `source` (the claim as it was
         pasted, which is what `report` takes).
     search : Search
     places : sequence of int
@@ -161,11 +160,11 @@ def _with_account(kind: str, search: Search, places: Sequence[int], desk: Desk, 
     limits = [] if search.state == "ended" else [f"the search was stopped after {search.done:,} of {search.of:,} records"]
     if len(chosen) < len(search.records):
         limits.append(f"{len(chosen):,} of {len(search.records):,} records that are hit were chosen")
-    by_choice = [hit for at in places for hit in _hits(search, at, b"")] if kind == "json" else []
-    account = account_of(
-        ["find", named.name, compounds.name], [named], [compounds], searched=len(records), refused=0,
-        hits=len(by_choice) if kind == "json" else len(raws), limits=limits,
-    )
+    by_choice = [hit for at in places for hit in _hits(search, at, b"")]
+    title = f"{search.version.name}, version {search.version.number}"
+    # reasons, which `find` asks for where it makes a page, would take a while of each record
+    words = ["find", named.name, compounds.name, *(["--why", "0", f"--title={title}"] if kind == "page" else [])]
+    account = account_of(words, [named], [compounds], searched=len(records), refused=0, hits=len(by_choice), limits=limits)
     if kind == "json":
         texts = {record.number: record.raw for record in records}
         listed = Found([search.claim], [(0, Hit(hit.record, hit.choice, hit.map, hit.claim, texts[hit.record])) for hit in by_choice])
@@ -174,12 +173,12 @@ def _with_account(kind: str, search: Search, places: Sequence[int], desk: Desk, 
         return Raw(out.getvalue().encode("utf-8"), "application/json")
     made = Made(
         program=f"sha256 {account.program}", package=account.package, date=account.date, claim=Source(named.name, named.sha256),
-        compounds=(Source("the store" if store else os.path.basename(compounds.name), compounds.sha256),),
+        compounds=(Source(compounds.name, compounds.sha256),),
     )
     page = io.StringIO()
     told("the page is written")
     # records that are hit and weren't chosen don't stand among those that are no hits
     hidden = set(search.records) - set(found)
     kept = [record for record in records if record.number not in hidden]
-    write_page(page, search.claim, raws, kept, limits=limits, title=f"{search.version.name}, version {search.version.number}", made=made)
+    write_page(page, search.claim, raws, kept, limits=limits, title=title, made=made)
     return Raw(with_account(page.getvalue(), account).encode("utf-8", "replace"), "text/html; charset=utf-8")

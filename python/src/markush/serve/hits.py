@@ -2,6 +2,8 @@
 from __future__ import annotations
 
 import hashlib
+import json
+import threading
 import time
 from typing import Any, Callable, Dict, Iterator, Mapping
 
@@ -13,6 +15,7 @@ from .desk import Desk
 from .exports import export
 from .kept import VERDICTS
 from .searches import Search
+from .server import Raw
 from .tickets import Tell
 
 __all__ = ["Hits"]
@@ -41,6 +44,7 @@ class Hits:
     def __init__(self, desk: Desk) -> None:
         self._desk = desk
         self.verdict_changes = 0
+        self._judging = threading.Lock()
 
     @property
     def routes(self) -> Mapping[str, Callable[[bytes, str], Any]]:
@@ -128,8 +132,8 @@ class Hits:
 
     # ---- hits
 
-    def hits(self, body: bytes, words: str) -> Dict[str, Any]:
-        """The records that are hit from a place on, and the choices from another one on."""
+    def hits(self, body: bytes, words: str) -> Raw:
+        """The records that are hit from a place on, and the choices from another one on; both are ready to be sent, or nearly."""
         asked = read_json(body)
         search = self._asked(asked)
         run, start, known = search.run, max(0, whole(asked, "from")), max(0, whole(asked, "choices"))
@@ -147,7 +151,7 @@ class Hits:
         if search.run != run:
             end, held, choices = start, [], []
         verdicts = self._desk.verdicts
-        return {
+        found = {
             "run": run,
             "from": start,
             "count": len(search.records),
@@ -155,11 +159,12 @@ class Hits:
             "names": search.names[start:end],
             "shas": [sha[:16] for sha in search.shas[start:end]],
             "hits": held,
-            "choices": choices,
             "facets": search.choices.facets.found if start == 0 else None,
             "isMore": search.run == run and end < len(search.records),
             "verdicts": [[at, *verdicts[search.shas[at]]] for at in range(start, end) if search.shas[at] in verdicts],
         }
+        front = json.dumps(found, separators=(",", ":"))[:-1]
+        return Raw(f'{front},"choices":[{",".join(choices)}]}}'.encode("ascii"), "application/json")
 
     def cards(self, body: bytes, words: str) -> Dict[str, Any]:
         """Pictures, maps and the choices' graphs of some records that are hit; null where one isn't there yet."""
@@ -223,13 +228,15 @@ class Hits:
         sha = search.shas[at]
         if sha[:16] != text(asked, "sha"):
             raise MarkushError("the hits are others by now; look at the card again")
-        with desk.lock:
+        # the file has the last of two that come at once, as the memory has; others don't wait for the file
+        with self._judging:
             kept.put_verdict(sha, verdict, note)
-            if verdict == "open" and not note:
-                desk.verdicts.pop(sha, None)
-            else:
-                desk.verdicts[sha] = (verdict, note)
-            self.verdict_changes += 1
+            with desk.lock:
+                if verdict == "open" and not note:
+                    desk.verdicts.pop(sha, None)
+                else:
+                    desk.verdicts[sha] = (verdict, note)
+                self.verdict_changes += 1
         return {}
 
     def verdicts(self, body: bytes, words: str) -> Dict[str, Any]:

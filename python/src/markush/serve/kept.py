@@ -1,6 +1,7 @@
 """What a bench keeps beside its store: claims with all their versions, searches with what they found, and verdicts."""
 from __future__ import annotations
 
+import contextlib
 import json
 import os
 import sqlite3
@@ -17,6 +18,8 @@ from ..errors import MarkushError
 __all__ = ["Kept", "Version", "VERDICTS"]
 
 VERDICTS = ("relevant", "not", "open")
+# The log is brought into the file by `_settle`; by a request not before it has 40 MB.
+_LOG = "PRAGMA journal_mode = WAL; PRAGMA synchronous = NORMAL; PRAGMA wal_autocheckpoint = 10000;"
 _TABLES = """
 CREATE TABLE IF NOT EXISTS claims(
     name TEXT NOT NULL, number INTEGER NOT NULL, date TEXT NOT NULL, source TEXT NOT NULL, view TEXT NOT NULL, PRIMARY KEY(name, number));
@@ -62,7 +65,10 @@ class Version:
 
 
 class Kept:
-    """The file beside a store; each change is on the disk when a call returns.
+    """The file beside a store; each change is in it when a call returns, and stays there however the server ends.
+
+    A request waits for no disk: SQLite writes to its log, `-wal`, and the log is brought into the file by who has time. Where the
+    machine itself stops, the last changes may be lost.
 
     Parameters
     ----------
@@ -91,7 +97,7 @@ class Kept:
         try:
             os.close(os.open(path, os.O_RDWR | os.O_CREAT | os.O_CLOEXEC, 0o600))
             self._base = sqlite3.connect(path, check_same_thread=False, isolation_level=None)
-            self._base.executescript(_TABLES)
+            self._base.executescript(_LOG + _TABLES)
         except (OSError, sqlite3.Error) as fault:
             raise MarkushError(f"{path}: what the page keeps can't be read or written there: {fault}") from None
 
@@ -106,6 +112,14 @@ class Kept:
                 return self._base.execute(words, values).fetchall()
             except sqlite3.Error as fault:
                 raise MarkushError(f"what the page keeps can't be read or written: {fault}") from None
+
+    def _settle(self) -> None:
+        """Bring the log into the file, while others go on; where that fails, it is for the next time."""
+        try:
+            with contextlib.closing(sqlite3.connect(self.path, isolation_level=None)) as other:
+                other.execute("PRAGMA wal_checkpoint(PASSIVE)").fetchall()
+        except sqlite3.Error:
+            return
 
     # ---- claims
 
@@ -139,6 +153,7 @@ class Kept:
         packer = zlib.compressobj(1)
         data = b"".join([*(packer.compress(piece.encode("ascii")) for piece in held), packer.flush()])
         self._do("INSERT OR REPLACE INTO searches VALUES(?, ?, ?, ?, ?)", (at, name, number, now(), data))
+        self._settle()
 
     def drop_search(self, at: int) -> None:
         """Forget a search."""

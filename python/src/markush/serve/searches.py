@@ -54,14 +54,17 @@ class Search:
         self._pages = 0  # commands since it was begun, or gone on with
         self._names_before: Dict[int, str] = {}
         self._passes: Optional[RawHit] = None  # hits up to this one are known
-        self._clear()
+        self._clear()  # the lists
 
     def _clear(self) -> None:
         self.records: List[int] = []
         self.names: List[str] = []
         self.shas: List[str] = []
-        self.held: List[List[int]] = []  # for each record its choices and in how many ways each lies, by turns
-        self.maps: List[List[List[str]]] = []  # as they are written, of each choice some
+        # Lists are looked through by Python's collector again and again, and others wait for it, which tuples of numbers
+        # and texts aren't; so a record has lists as long as it may get further hits, and tuples then.
+        self.held: List[Sequence[int]] = []  # for each record its choices and in how many ways each lies, by turns
+        self.maps: List[Sequence[Sequence[str]]] = []  # as they are written, of each choice some
+        self._last: Optional[Tuple[List[int], List[List[str]]]] = None  # of the last record, while it has lists
         self._choices: Optional[Choices] = None
         self.count = 0
 
@@ -132,6 +135,8 @@ class Search:
             setattr(found, name, held[name])
         for choice in held["choices"]:
             found.choices.place(choice)
+        found.held = [tuple(each) for each in found.held]
+        found.maps = [tuple(map(tuple, each)) for each in found.maps]
         return found
 
     def _last_hit(self) -> Optional[RawHit]:
@@ -198,6 +203,7 @@ class Search:
         finally:
             if within:
                 self._drop()
+            self._seal()
             kept(self)
 
     def _page(self, library: Library) -> bool:
@@ -242,12 +248,13 @@ class Search:
             text = texts.get(record)
             if text is None:
                 return
+            self._seal()
             self.names.append(name_of(text))
             self.shas.append(hashlib.sha256(text).hexdigest())
-            self.held.append([])
-            self.maps.append([])
+            self.held.append(())
+            self.maps.append(())
         place = self.choices.place(choice)
-        held, maps = self.held[-1], self.maps[-1]
+        held, maps = self._unsealed()
         if held and held[-2] == place:
             held[-1] += 1
             if len(maps[-1]) < MOST_MAPS:
@@ -259,6 +266,19 @@ class Search:
             # others count by this list, so it grows last
             self.records.append(record)
         self.count += 1
+
+    def _unsealed(self) -> Tuple[List[int], List[List[str]]]:
+        """What is held of the last record, as lists."""
+        if self._last is None:
+            self._last = list(self.held[-1]), [list(each) for each in self.maps[-1]]
+            self.held[-1], self.maps[-1] = self._last
+        return self._last
+
+    def _seal(self) -> None:
+        """Have no lists for the last record any more."""
+        if self._last is not None:
+            self.held[-1], self.maps[-1] = tuple(self._last[0]), tuple(tuple(each) for each in self._last[1])
+            self._last = None
 
     def _drop(self) -> None:
         if self._kept is not None:

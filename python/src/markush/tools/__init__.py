@@ -10,7 +10,7 @@ import warnings
 from typing import List, Optional, Sequence, TextIO, Type, Union
 
 from ..errors import MarkushError
-from .common import FAULT, Fault, go_on_with_rdkit
+from .common import FAULT, Fault, WantsRdkit, go_on_with_rdkit
 
 __all__ = ["main"]
 
@@ -97,9 +97,13 @@ def _tell_notes(command: str) -> None:
 
 def _done(args: argparse.Namespace, given: List[str]) -> int:
     try:
-        if args.takes_rdkit(args):
+        try:
+            if args.takes_rdkit(args):
+                go_on_with_rdkit(given)
+            status = int(args.run(args))
+        except WantsRdkit:
             go_on_with_rdkit(given)
-        status = int(args.run(args))
+            raise
         sys.stdout.flush()
         return status
     except BrokenPipeError:

@@ -34,6 +34,16 @@ class Fault(Exception):
     """
 
 
+class WantsRdkit(Fault):
+    """What is drawn turned out to be so when standard input was read, which stands on descriptor 0 again from its begin.
+
+    Examples
+    --------
+    >>> isinstance(WantsRdkit("a list of SMILES takes RDKit"), Fault)
+    True
+    """
+
+
 # ---- RDKit
 
 
@@ -58,7 +68,7 @@ def go_on_with_rdkit(words: Sequence[str]) -> None:
 
     Examples
     --------
-    >>> go_on_with_rdkit([])  # doctest: +SKIP
+    >>> go_on_with_rdkit([]) if has_rdkit() else None
     """
     if has_rdkit():
         return
@@ -375,7 +385,10 @@ class Compounds:
         digest = sha256_of(path)
         if drawn:
             if not has_rdkit():
-                raise Fault(f"{shown} is a list of SMILES, for which this takes RDKit: /usr/bin/python3 with Debian's python3-rdkit")
+                if name == "-":
+                    with open(path, "rb") as again:
+                        os.dup2(again.fileno(), 0)
+                raise WantsRdkit(f"{shown} is a list of SMILES, which takes RDKit")
             path = self._draw(path, shown, number)
         return Source(shown, path, digest)
 

@@ -60,20 +60,43 @@ def ending_of(path: str) -> str:
     return {"{": ".json", "<": ".html"}.get(first, ".tsv")
 
 
+def takes_rdkit(args: argparse.Namespace) -> bool:
+    """Whether what made the file draws something, so that the Python that has RDKit does the whole of `report`."""
+    try:
+        made = _made_by(read_account(args.file)[0], args.file)
+    except (Fault, OSError, ValueError):
+        return False  # which `run` says
+    return bool(made.takes_rdkit(made))
+
+
+def _made_by(account: Account, file: str) -> argparse.Namespace:
+    """The words by which a file was made, as the tool's parser has them."""
+    from . import make_parser
+
+    words = account.words
+    if not words or words[0] not in MADE_ANEW:
+        raise Fault(
+            f"{file} was made by '{' '.join(words[:1])}' of answers on standard input; what {', '.join(MADE_ANEW)} made of "
+            f"a claim and compounds can be made anew"
+        )
+    said = io.StringIO()
+    try:
+        with contextlib.redirect_stderr(said), contextlib.redirect_stdout(io.StringIO()):
+            return make_parser().parse_args(words)
+    except SystemExit:
+        why = said.getvalue().strip().rpartition("error: ")[2] or "they ask for help"
+        raise Fault(f"{file} says that it was made by words that are none: {why}") from None
+
+
 def run(args: argparse.Namespace) -> int:
     """Make it anew, and say what differs."""
     account, before = read_account(args.file)
-    words = list(account.words)
-    if not words or words[0] not in MADE_ANEW:
-        raise Fault(
-            f"{args.file} was made by '{' '.join(words[:1])}' of answers on standard input; what {', '.join(MADE_ANEW)} made of "
-            f"a claim and compounds can be made anew"
-        )
+    _made_by(account, args.file)
     said = changed_files(account)
     from . import main
 
     with tempfile.TemporaryDirectory(prefix="markush-tools-") as folder:
-        given, out = _without_out(words)
+        given, out = _without_out(account.words)
         anew = str(Path(folder) / f"anew{Path(out).suffix if out else ending_of(args.file)}")
         with contextlib.redirect_stdout(io.StringIO()), contextlib.redirect_stderr(io.StringIO()) as errors:
             status = main([*given, "--out", anew])

@@ -7,13 +7,18 @@ printed lets in whoever has it; end the server by Ctrl-C.
 from __future__ import annotations
 
 import argparse
+import errno
+import gc
 import os
 import signal
 import sys
 from pathlib import Path
-from typing import Any
+from typing import TYPE_CHECKING, Any, Optional, Sequence
 
 from .common import HITS, Fault, go_on_with_rdkit
+
+if TYPE_CHECKING:
+    from ..serve.opening import Serving
 
 
 def add_words(parser: argparse.ArgumentParser) -> None:
@@ -39,19 +44,22 @@ def run(args: argparse.Namespace) -> int:
         go_on_with_rdkit(args.words)
     except Fault as fault:
         print(f"markush-tools serve: {fault}; lists of SMILES aren't drawn without it", file=sys.stderr)
-    from ..serve.opening import Serving
-
-    # requests are answered soon, also while the driver's thread takes hits up
+    # requests are answered soon, also while the driver's thread takes hits up: they wait neither for it, nor for a collector that
+    # looks through all that was there when the library was open
     sys.setswitchinterval(0.0005)
+    gc.disable()
     signal.signal(signal.SIGTERM, _interrupt)
     bodies = [(path, Path(path).read_bytes()) for path in args.compounds]
     store = None if args.store is None else Path(os.path.abspath(args.store))
-    with Serving(store, args.port, args.host) as serving:
+    with _served(store, args.port, args.host) as serving:
         print(f"Open {serving.link}", flush=True)
         print("Whoever has this link may do all that the page does. Ctrl-C ends the server.", flush=True)
         driver = serving.bench.driver
         try:
             driver.opened.wait()
+            gc.collect()
+            gc.freeze()
+            gc.enable()
             if driver.fault:
                 raise Fault(driver.fault)
             _load(serving.bench, bodies)
@@ -64,6 +72,19 @@ def run(args: argparse.Namespace) -> int:
         except KeyboardInterrupt:
             print("\nThe server is stopped.", file=sys.stderr)
     return HITS
+
+
+def _served(store: Optional[Path], port: int, hosts: Sequence[str]) -> "Serving":
+    from ..serve.opening import Serving
+
+    try:
+        return Serving(store, port, hosts)
+    except OSError as fault:
+        if fault.errno == errno.EADDRINUSE:
+            raise Fault(f"port {port} is another program's; name another one by --port, or none, and one that is free is taken") from None
+        if fault.errno == errno.EACCES:
+            raise Fault(f"port {port} is none that this user may take; name one from 1024 on by --port, or none") from None
+        raise
 
 
 def _load(bench: Any, bodies: Any) -> None:

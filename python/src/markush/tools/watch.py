@@ -6,7 +6,7 @@
     watch STORE                                what is new since the last time
 
 A line for each hit has the claim's name, `new`, `lost` or `changed`, the record's number, its name and the choice, with
-tabs between. The status is 0 where something is new and 1 where nothing is.
+tabs between. A record that isn't held any more has no name. The status is 0 where something is new and 1 where nothing is.
 """
 from __future__ import annotations
 
@@ -60,7 +60,8 @@ def run(args: argparse.Namespace) -> int:
                 for hit in hits:
                     print(name, kind, hit.record, hit.name, " ".join(map(str, hit.choice)), sep="\t")
             for lost in change.lost:
-                print(name, "lost", lost.record, "", " ".join(map(str, lost.choice)), sep="\t")
+                called = library[lost.record].name if lost.record in library else ""
+                print(name, "lost", lost.record, called, " ".join(map(str, lost.choice)), sep="\t")
         for name, claim in claims:
             print(f"{name}: {keep(library, name, claim)} hits")
     tell(left)
