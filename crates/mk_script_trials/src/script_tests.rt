@@ -86,6 +86,20 @@ static STEPS: [(&str, &str); 4] = [
     ),
 ];
 
+// What is left of the script after none, one, two and all of its commands, and what that writes.
+static RESTS: [(&str, &str); 4] = [
+    (
+        "load coc\nquery q co\nsearch q 1\n",
+        "loaded 1 first 1\nkept q\nhit 1 choice map 1 2\nmore 1\n",
+    ),
+    (
+        "query q co\nsearch q 1\n",
+        "kept q\nhit 1 choice map 1 2\nmore 1\n",
+    ),
+    ("search q 1\n", "hit 1 choice map 1 2\nmore 1\n"),
+    ("", ""),
+];
+
 // How many commands wrote this.
 fn answered(answers: &[u8]) -> Option<usize> {
     STEPS
@@ -117,29 +131,60 @@ fn commands_answered<K: Keeper>(alloc: Global, keeper: &mut K) -> Result<Option<
     })
 }
 
-// Whether the keeper holds what so many commands made, or one more.
-fn is_listed<K: Keeper>(alloc: Global, keeper: &mut K, commands: usize) -> Result<bool, Memory> {
+// How many commands made what the keeper holds: so many, or one more. None where it is neither.
+fn commands_kept<K: Keeper>(
+    alloc: Global,
+    keeper: &mut K,
+    commands: usize,
+) -> Result<Option<usize>, Memory> {
     if is_listed_once(alloc, keeper, commands)? {
-        return Ok(true);
+        return Ok(Some(commands));
     }
-    is_listed_once(alloc, keeper, commands.saturating_add(1))
+    let more = commands.saturating_add(1);
+    Ok(if is_listed_once(alloc, keeper, more)? {
+        Some(more)
+    } else {
+        None
+    })
+}
+
+// Whether the rest of the script, after so many commands, writes what the whole would have written
+// there, and leaves the tables of the whole.
+fn ends_whole<K: Keeper>(alloc: Global, keeper: &mut K, kept: usize) -> Result<bool, Memory> {
+    match RESTS.get(kept) {
+        Some((rest, wanted)) => {
+            let (answers, ended) = ran(alloc, keeper, rest)?;
+            if ended != Status::Done || answers.as_slice() != wanted.as_bytes() {
+                return Ok(false);
+            }
+            is_listed_once(alloc, keeper, 3)
+        }
+        None => Ok(false),
+    }
+}
+
+// Whether the keeper holds what so many commands made, or one more, and goes on from there.
+fn goes_on<K: Keeper>(alloc: Global, keeper: &mut K, commands: usize) -> Result<bool, Memory> {
+    match commands_kept(alloc, keeper, commands)? {
+        Some(kept) => ends_whole(alloc, keeper, kept),
+        None => Ok(false),
+    }
 }
 
 #[derive(Clone, Copy)]
 enum Scripts {
     /// A script of three commands is run.
     Run,
-    /// The tables are listed, which so many commands made, or one more: 1 where they are, else 0.
-    List { commands: usize },
+    /// The tables are listed, which so many commands made, or one more, and the rest of the script
+    /// is run: 1 where it writes and leaves what the whole would, else 0.
+    GoOn { commands: usize },
 }
 
 impl Task for Scripts {
     fn done<K: Keeper>(&self, alloc: Global, keeper: &mut K) -> Result<Done, Memory> {
         let count = match self {
             Scripts::Run => commands_answered(alloc, keeper)?,
-            Scripts::List { commands } => {
-                Some(usize::from(is_listed(alloc, keeper, *commands)?))
-            }
+            Scripts::GoOn { commands } => Some(usize::from(goes_on(alloc, keeper, *commands)?)),
         };
         Ok(Done {
             count,
@@ -149,11 +194,12 @@ impl Task for Scripts {
 }
 
 // How many of the commands are answered over files that stop after so many calls. Fails where the
-// store then holds neither what they made nor that of one command more.
+// store then holds neither what they made nor that of one command more, and where the rest of the
+// script, run over it, doesn't write and leave what the whole would.
 fn stopped(alloc: Global, log: u64, db: u64) -> Result<usize, Fail> {
     let (commands, files) = count_in(alloc, files(alloc, log, db), &Scripts::Run)?;
-    if done_again(alloc, files, &Scripts::List { commands })?.count != Some(1) {
-        return Err(Fail::new("the tables of no number of commands"));
+    if done_again(alloc, files, &Scripts::GoOn { commands })?.count != Some(1) {
+        return Err(Fail::new("the tables of no number of commands, or another end of the script"));
     }
     Ok(commands)
 }
@@ -178,7 +224,7 @@ fn stop_each(alloc: Global) -> Result<[u32; 4], Fail> {
 }
 
 #[test]
-fn a_stopped_script_leaves_whole_commands(rt: HostRuntime) -> Result<(), Fail> {
+fn a_stopped_script_goes_on_after_whole_commands(rt: HostRuntime) -> Result<(), Fail> {
     let seen = stop_each(rt.alloc())?;
     assert!(rt; seen[0] > 1 && seen[1] > 1 && seen[2] > 1 && seen[3] == 1);
     Ok(())
