@@ -256,6 +256,28 @@ def test_refused_records_have_the_status_3(program: Path) -> None:
     assert "record 4" in told and "chloromethyl resin" in told and str(TOP / "examples/vendor/vendor.sdf") in told
 
 
+def refused_of(page: Path) -> List[List[object]]:
+    data = json.loads(re.search(r'id="data">(.*?)</script>', page.read_text(), re.S)[1])
+    count = len(data["refused"])
+    assert f" {count} records refused." in data["sum"] and ["records refused", str(count)] in data["origin"]
+    return data["refused"]
+
+
+def test_refused_records_stand_in_columns_on_a_page(program: Path, tmp_path: Path) -> None:
+    (tmp_path / "list.smi").write_text("OC(=O)COc1ccc(Cl)cc1Cl\t2,4-D\nC(C\tbroken\n*CC\ta class\n")
+    ran = tools(["find", CLAIM, tmp_path / "list.smi", TOP / "examples/vendor/vendor.sdf", "--out", tmp_path / "hits.html"])
+    assert ran.returncode == 3 and b"list.smi: line 3 a class: atom 1 has the symbol" in ran.stderr
+    rows_of = refused_of(tmp_path / "hits.html")
+    assert [row[:3] + row[4:] for row in rows_of] == [
+        [None, 2, "broken", "list.smi"], [None, 3, "a class", "list.smi"], [4, 124, "chloromethyl resin", "vendor.sdf"],
+        [6, 215, "4-chlorophenoxyacetic acid", "vendor.sdf"], [7, 242, "2-chlorophenoxyacetic acid", "vendor.sdf"], [8, 260, "discontinued", "vendor.sdf"],
+    ]
+    assert [str(row[3])[:24] for row in rows_of] == [
+        "RDKit reads no SMILES in", "atom 1 has the symbol R,", "atom 1 has the symbol R,", "the line of bond 12 is d", "bond 4, of the atoms 4 a", "the record ends too earl",
+    ]
+    assert not any("vendor.sdf" in str(row[3]) or "record 4" in str(row[3]) for row in rows_of)
+
+
 def test_claims_are_joined_by_record(program: Path, tmp_path: Path) -> None:
     chain = tmp_path / "ether.mol"
     chain.write_bytes((TOP / "crates/markush/data/q.mol").read_bytes())

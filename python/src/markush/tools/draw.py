@@ -59,7 +59,7 @@ def run(args: argparse.Namespace) -> int:
     with written(args.out) as out:
         for drawn in drawn_smiles(iter(data.splitlines(keepends=True))):
             if drawn.text is None:
-                left.append(Left(args.list, f"line {drawn.line}", drawn.name, drawn.why))
+                left.append(Left(args.list, drawn.name, drawn.why, line=drawn.line))
             else:
                 out.write(drawn.text)
                 count += 1
