@@ -256,6 +256,13 @@ def test_refused_records_have_the_status_3(program: Path) -> None:
     assert "record 4" in told and "chloromethyl resin" in told and str(TOP / "examples/vendor/vendor.sdf") in told
 
 
+def test_a_page_of_several_claims_is_refused_with_what_to_do(program: Path, tmp_path: Path) -> None:
+    ran = tools(["find", CLAIM, COMPOUNDS, "--or", CLAIM, "--out", tmp_path / "hits.html"])
+    told = ran.stderr.decode()
+    assert ran.returncode == 2 and "one claim, so it doesn't take --or: write a page of each claim" in told and "--out hits.tsv" in told
+    assert not (tmp_path / "hits.html").exists()
+
+
 def refused_of(page: Path) -> List[List[object]]:
     data = json.loads(re.search(r'id="data">(.*?)</script>', page.read_text(), re.S)[1])
     count = len(data["refused"])

@@ -372,7 +372,10 @@ def run(args: argparse.Namespace) -> int:
     if ending not in ENDINGS:
         raise Fault(f"--out {args.out}: its ending has to be one of {', '.join(ENDINGS)}")
     if ending == ".html" and args.others:
-        raise Fault("a page shows one claim; write a table, an SDfile or JSON of several, or a page of each")
+        raise Fault(
+            "a page draws the atoms and choices of one claim, so it doesn't take --or: write a page of each claim, or one file of them all by "
+            "--out hits.tsv, hits.csv, hits.sdf or hits.json"
+        )
     if ending != ".html" and (args.title is not None or args.name or args.data):
         raise Fault("--title, --name and --data say what a page shows: name it by --out, as hits.html")
     if args.out:
