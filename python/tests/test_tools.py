@@ -385,6 +385,17 @@ def test_several_files_are_split_at_a_time(command_program: Path, tmp_path: Path
         assert ran.returncode == 2 and ran.stdout == b"" and said in ran.stderr.decode()
 
 
+def test_a_list_that_is_refused_is_named_by_each_tool(tmp_path: Path) -> None:
+    listed = tmp_path / "claim.txt"
+    listed.write_text("root C[R1]\nR1 alkyl 1 - 4\n")
+    for words in (["draw", listed], ["find", listed, COMPOUNDS], ["why", listed, COMPOUNDS], ["page", listed, COMPOUNDS]):
+        ran = tools(words, python="/usr/bin/python3")
+        assert (ran.returncode, ran.stdout) == (2, b"")
+        assert ran.stderr.decode() == f"markush-tools {words[0]}: {listed}: line 2: a range of carbons has no blanks: write `alkyl 1-4`; here stands `alkyl 1 - 4`\n"
+    ran = tools(["draw", "-"], listed.read_bytes(), python="/usr/bin/python3")
+    assert ran.returncode == 2 and ran.stderr.startswith(b"markush-tools draw: line 2: ")
+
+
 def test_what_is_normalized_may_be_typed(tmp_path: Path) -> None:
     """A list of SMILES, an SDfile, and one that is packed, by standard input as by a file."""
     listed = b"CC(=O)[O-].[Na+]\tsodium acetate\nC(C\tbroken\n"
