@@ -1,4 +1,6 @@
 """Records drawn as claims draw them: each mend by a pair before and after, and RDKit's process with its limits."""
+import random
+import re
 import sys
 from pathlib import Path
 from typing import List, Optional, Tuple
@@ -150,6 +152,50 @@ ALSO = [
 def test_what_rdkit_changes_besides_is_told(name: str, before: RecordText, asked: dict, told: List[str]) -> None:
     made = one(list(normalize([before], **asked)))
     assert list(made.changes[1:]) == told
+
+
+# what may stand in three columns of an atom's line, and in further lines
+MARKS = {39: "stereo parity", 45: "stereo care box", 48: "valence", 60: "map number", 63: "inversion mark", 66: "exact change mark"}
+LINES = (["M  ISO  1   1  13"], ["M  XYZ"], ["A    1", "Label"], ["V    1 value"], ["M  STY  1   1 DAT", "M  SAL   1  1   1", "M  SDT   1 F", "M  SED   1 v"])
+
+
+def test_whatever_differs_in_a_changed_record_is_told() -> None:
+    """Compounds with a nitro group to mend and marks drawn by chance: the lines before and after are compared column by column."""
+    draw, records = random.Random(73), [it for path in sorted(TOP.glob("examples/*/compounds.sdf")) for it in read_records(path)]
+    befores = []
+    for number, held in enumerate(draw.sample(records, 60), 1):
+        mol = Chem.CombineMols(Chem.MolFromMolBlock(held.text, removeHs=False), Chem.MolFromMolBlock(NITRO.decode(), sanitize=False))
+        mol.UpdatePropertyCache(False)
+        lines = Chem.MolToMolBlock(mol, kekulize=draw.random() < 0.3).split("\n")
+        atoms, bonds = int(lines[3][:3]), int(lines[3][3:6])
+        for _ in range(draw.randint(0, 4)):
+            at, column = draw.randrange(4, 4 + atoms - 5), draw.choice([39, 45, 60, 63, 66])
+            lines[at] = lines[at][:column] + f"{draw.randint(1, 3):3d}" + lines[at][column + 3 :]
+        for at in draw.sample(range(4 + atoms, 4 + atoms + bonds), draw.randint(0, 3)):
+            lines[at] = lines[at][:9] + f"{3 if lines[at][6:9] == '  2' else draw.choice([1, 4, 6]):3d}"
+        lines[-2:-2] = [line for some in draw.sample(LINES, draw.randint(0, 2)) for line in some]
+        befores.append(RecordText(number, ("\n".join(lines) + "$$$$\n").encode(), 1))
+    changed = 0
+    for before, made in zip(befores, normalize(befores)):
+        changed += bool(made.changes)
+        was, now, told = before.lines, made.raw.decode().split("\n"), " | ".join(made.changes)
+        atoms, bonds = int(was[3][:3]), int(was[3][3:6])
+        assert now[3][:6] == was[3][:6]
+        for n in range(atoms):
+            one, other = was[4 + n], now[4 + n]
+            assert one[:34] == other[:34]
+            for at, what in MARKS.items():
+                if one[at : at + 3] != other[at : at + 3] and made.changes:
+                    assert f"{what} of {one[31:34].strip()}{n + 1}: " in told
+        for one, other in zip(was[4 + atoms : 4 + atoms + bonds], now[4 + atoms : 4 + atoms + bonds]):
+            ends = [int(one[:3]), int(one[3:6])]
+            if one[:6] != other[:6] or one[9:12] != other[9:12]:
+                assert re.search(rf"stereo mark of the bond [A-Z][a-z]?{ends[0]}-[A-Z][a-z]?{ends[1]}:", told)
+            if one[6:9] != other[6:9]:
+                assert "aromatic bonds of the atoms" in told if one[6:9] == "  4" else max(ends) > atoms - 5
+        for line in was[4 + atoms + bonds : was.index("M  END")]:
+            assert line[:6] == "M  CHG" or any(it.startswith(line) for it in now) or f"left out: the line '{line}'" in told
+    assert changed > 50
 
 
 def test_a_v3000_table_tells_what_it_loses() -> None:
