@@ -31,6 +31,10 @@ def lines(ran: "subprocess.CompletedProcess[bytes]") -> List[str]:
     return ran.stdout.decode().splitlines()
 
 
+def lines_of_faults(ran: "subprocess.CompletedProcess[bytes]") -> List[str]:
+    return ran.stderr.decode().splitlines()
+
+
 def rows(text: str, delimiter: str = "\t") -> List[List[str]]:
     held = [line for line in text.splitlines() if not line.startswith("# ")]
     return list(csv.reader(io.StringIO("\n".join(held)), delimiter=delimiter))
@@ -51,6 +55,29 @@ def test_each_tool_tells_its_words() -> None:
 def test_words_that_are_none_have_the_status_2(words: List[str]) -> None:
     ran = tools(words)
     assert ran.returncode == 2 and ran.stdout == b"" and b"usage: markush-tools" in ran.stderr
+
+
+@pytest.mark.parametrize(
+    "words, said",
+    [
+        (["scan", CLAIM, COMPOUNDS, "--jobs", "0"], "argument --jobs: 0 is no whole number from 1 on"),
+        (["find", CLAIM, COMPOUNDS, "--jobs=-1"], "argument --jobs: -1 is no whole number from 1 on"),
+        (["find", CLAIM, COMPOUNDS, "--why=-3"], "argument --why: -3 is no whole number from 0 on"),
+        (["find", CLAIM, COMPOUNDS, "--why", "some"], "argument --why: some is no whole number from 0 on"),
+        (["split", COMPOUNDS, "good.sdf", "bad.sdf", "--jobs", "two"], "argument --jobs: two is no whole number from 1 on"),
+        (["structures", CLAIM, "--limit=-1"], "argument --limit: -1 is no whole number from 0 on"),
+        (["page", CLAIM, COMPOUNDS, "--first", "0"], "argument --first: 0 is no whole number from 1 on"),
+        (["why", CLAIM, COMPOUNDS, "--record", "0"], "argument --record: 0 is no whole number from 1 on"),
+        (["why", CLAIM, COMPOUNDS, "--timeout", "nan"], "argument --timeout: nan is no number of seconds above 0"),
+        (["covers", COMPOUNDS, CLAIM, "--timeout", "0"], "argument --timeout: 0 is no number of seconds above 0"),
+        (["show", "store.db", "1e3"], "argument N: 1e3 is no whole number from 1 on"),
+        (["normalize", COMPOUNDS, "out.sdf", "--megabytes", "0"], "argument --megabytes: 0 is no whole number from 1 on"),
+    ],
+)
+def test_a_number_that_is_none_is_named(words: List[str], said: str) -> None:
+    ran = tools(words)
+    assert ran.returncode == 2 and ran.stdout == b""
+    assert lines_of_faults(ran)[-1] == f"markush-tools {words[0]}: error: {said}"
 
 
 @pytest.mark.parametrize(

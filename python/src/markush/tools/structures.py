@@ -12,13 +12,13 @@ import sys
 from itertools import islice
 from typing import Iterable, Iterator, List
 
-from .common import HITS, NONE, Fault, open_bytes, text_of
+from .common import HITS, NONE, Fault, open_bytes, text_of, whole
 
 
 def add_words(parser: argparse.ArgumentParser) -> None:
     """The words of the tool."""
     parser.add_argument("claim", nargs="?", metavar="CLAIM", help="an RGfile, a molfile or a list")
-    parser.add_argument("--limit", type=int, metavar="N", help="so many structures at the most")
+    parser.add_argument("--limit", type=whole, metavar="N", help="so many structures at the most")
     parser.add_argument("--start", metavar="P", help="begin with the first choice that isn't below P, as 1,0")
     parser.add_argument("--sdf", action="store_true", help="write them as the program does, as an SDfile, which takes no RDKit")
 
