@@ -129,6 +129,29 @@ def test_answers_of_another_file_are_at_fault() -> None:
     assert ran.returncode == 2 and b"the answers have record" in ran.stderr
 
 
+@pytest.mark.parametrize(
+    "words, typed, said",
+    [
+        (["table", "--hits", COMPOUNDS], b"hit 1 choice 1 map 1 2\nhit 1 choice", "the line 'hit 1 choice', which is no whole hit"),
+        (["table", "--hits", COMPOUNDS], b"hit 1 map\n", "the line 'hit 1 map', which is no whole hit"),
+        (["table", COMPOUNDS], "record\tsite 1\n²\t1\nend\n".encode(), "the answers have record ²"),
+        (["structures"], b"choice 1\n\n\n  1  0", "the answers end within the structure of 'choice 1'"),
+        (["structures"], b"choice 1\n\n\n\n$$$$\nend\n", "the structure of 'choice 1' has no counts line"),
+        (["show"], b"record 2 4\na\n", "the answers end within record 2"),
+    ],
+)
+def test_answers_that_were_cut_off_are_at_fault(words: List[str], typed: bytes, said: str) -> None:
+    ran = tools(words, typed)
+    assert ran.returncode == 2 and ran.stderr.decode().startswith(f"markush-tools {words[0]}: ") and said in ran.stderr.decode()
+
+
+def test_what_no_tool_wrote_is_not_made_anew(tmp_path: Path) -> None:
+    for name, data in (("picture.png", b"\x89PNG\r\n\x1a\n"), ("empty.tsv", b""), ("other.json", b"{\"account\": 3}"), ("cut.json", b"{")):
+        (tmp_path / name).write_bytes(data)
+        ran = tools(["report", tmp_path / name])
+        assert ran.returncode == 2 and ran.stderr.decode() == f"markush-tools report: {tmp_path / name} has no account of markush-tools, so it can't be made anew\n"
+
+
 def test_shown_records_become_an_sdfile() -> None:
     ran = tools(["show"], b"kept q\nrecord 2 2\na\n$$$ b\nrecord 5 1\nc\nend\n")
     assert ran.returncode == 0 and ran.stdout == b"a\n$$$ b\n$$$$\nc\n$$$$\n"
