@@ -79,3 +79,23 @@ def test_faults_name_the_file_and_the_line(tmp_path: Path, program: Path) -> Non
     assert (fault.value.code, fault.value.atom, fault.value.line, fault.value.file) == (3, 1, 5, str(path))
     with pytest.raises(FileNotFoundError):
         Claim.read(tmp_path / "none.rgf")
+
+
+@pytest.mark.parametrize("start", ["x", "1,", "1 3", "1,3\nlist", (1, -3), "1" * 10])
+def test_structures_begin_with_a_choice(start: object) -> None:
+    with pytest.raises(ValueError, match="start is a choice, as '1,3'"):
+        next(Claim.from_list("root C[1*]\nR1 *F").structures(start))  # type: ignore[arg-type]
+
+
+@pytest.mark.parametrize("page", [0, -1, 1_001])
+def test_structures_come_by_pages_of_a_size(page: int) -> None:
+    with pytest.raises(ValueError, match="page is a number from 1 to 1,000"):
+        next(Claim.from_list("root C[1*]\nR1 *F").structures(page=page))
+
+
+def test_a_column_is_that_of_a_site() -> None:
+    claim = Claim.from_list("root C[1*]\nR1 *F")
+    assert claim.column(2) == "R1"
+    for number in (1, 0, 9):
+        with pytest.raises(KeyError):
+            claim.column(number)

@@ -59,6 +59,7 @@ def cover_rows(compounds: Compounds, claims: Claims, why: bool = True, timeout: 
     Parameters
     ----------
     compounds : Library, path, molecule of RDKit or sequence of them
+        What `Library.load` takes, or a library.
     claims : mapping of name to Claim, or iterable of Claim
         Claims without a name are called by their titles.
     why : bool
@@ -114,6 +115,13 @@ def covers(compounds: Compounds, claims: Claims, why: bool = True, timeout: floa
     -------
     DataFrame
         A row for each compound and claim: `record`, `name`, `claim`, `hit` (bool), `choice` (in words), `why`.
+
+    Raises
+    ------
+    Refused
+        A claim or a compound is refused.
+    MarkushError
+        There is no pandas.
 
     Examples
     --------

@@ -86,6 +86,7 @@ class Hit:
         The atoms of the record, from 1, on which those of the claim's expansion lie; hydrogens that the program added
         count behind those that are drawn.
     claim : Claim
+        The claim that was searched for.
     raw : bytes
         The record's text as it was searched.
 
@@ -181,6 +182,21 @@ class Hit:
         ----------
         width : int
             In pixels.
+
+        Raises
+        ------
+        MarkushError
+            There is no RDKit.
+        Refused
+            RDKit can't read the record.
+
+        Examples
+        --------
+        >>> claim = Claim.read(EXAMPLES / "phenoxy_acids" / "claim.rgf")
+        >>> with Library() as lib:
+        ...     loaded = lib.load(EXAMPLES / "phenoxy_acids" / "compounds.sdf")
+        ...     print("<svg" in next(lib.search(claim)).svg(width=300))
+        True
         """
         from .drawing import hit_svg
 
@@ -428,6 +444,13 @@ class Hits(Iterator[Hit]):
         DataFrame
             `record`, `name`, `choice` (numbers with blanks between), and a column for each site of the root.
 
+        Raises
+        ------
+        SearchTimeout
+            The seconds of `Library.search` are over.
+        MarkushError
+            There is no pandas.
+
         Examples
         --------
         >>> claim = Claim.read(EXAMPLES / "phenoxy_acids" / "claim.rgf")
@@ -534,6 +557,15 @@ def _write(path: Path, held: Dict[str, Any]) -> None:
 class FoundHit:
     """A hit as a saved search keeps it: the record, the digest of its text, and the choice.
 
+    Attributes
+    ----------
+    record : int
+        The record's number.
+    sha256 : str
+        The digest of its text as it was then, 64 hexadecimal digits.
+    choice : tuple of int
+        Which member stands at each site, and how often each link stands.
+
     Examples
     --------
     >>> FoundHit(3, "0" * 64, (1, 3)).record
@@ -578,6 +610,7 @@ class SavedSearch:
     Attributes
     ----------
     name : str
+        What it is called.
     query : str or None
         The name of its claim in the store, where the search isn't at its end.
 
@@ -640,6 +673,19 @@ class SavedSearch:
         Raises
         ------
         SearchTimeout
+            The seconds are over.
+
+        Examples
+        --------
+        >>> claim = Claim.read(EXAMPLES / "phenoxy_acids" / "claim.rgf")
+        >>> with Library() as lib:
+        ...     hits = lib.search(claim)
+        ...     nothing = list(hits)
+        ...     hits.save("acids")
+        ...     loaded = lib.load(EXAMPLES / "phenoxy_acids" / "compounds.sdf")
+        ...     changes = lib.saved("acids").again()
+        ...     print(len(changes.new), changes.lost, changes.changed)
+        11 () ()
         """
         library = self._library
         hits = Hits(library, self.claim, per=self._held["per"], timeout=timeout)

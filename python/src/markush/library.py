@@ -105,7 +105,9 @@ class Loaded:
     Attributes
     ----------
     count : int
+        How many records were kept.
     first : int or None
+        The number of the first, or None where none was.
     refused : tuple of Refused
         With `bad="skip"`, a refusal for each record that was left out.
 
@@ -210,7 +212,16 @@ class Library:
 
     Raises
     ------
-    StoreBusy, StoreBad, OutOfMemory, ProgramEnded, MarkushError
+    StoreBusy
+        Another run has the store.
+    StoreBad
+        The file is no store, can't be opened or made, or has a bad row.
+    OutOfMemory
+        Memory ran out in the program.
+    ProgramEnded
+        The program ended by itself; what was answered is kept.
+    MarkushError
+        There is no program; or it was closed, or is used in a forked child.
 
     Examples
     --------
@@ -362,7 +373,7 @@ class Library:
         Parameters
         ----------
         file : path or sequence of RDKit molecules
-            An SDfile, also packed as `.gz` or `.xz`, or molecules with their properties.
+            An SDfile or a list of SMILES (`.smi`, `.smiles`), also packed as `.gz` or `.xz`, or molecules with their properties.
         bad : {"refuse", "skip"}
             Whether one bad record refuses the file, or is left out and named in the answer.
 
@@ -372,6 +383,10 @@ class Library:
             Nothing is kept; the message names the record, the line and the atom.
         OSError
             The file can't be read.
+        TypeError
+            The list has something else than molecules.
+        MarkushError
+            SMILES or molecules, and there is no RDKit.
 
         Examples
         --------
@@ -451,6 +466,13 @@ class Library:
     def replace(self, number: int, file: PathOrMols) -> None:
         """Put the one record of a file, or one molecule, in the place of a record.
 
+        Parameters
+        ----------
+        number : int
+            The record's number.
+        file : path or RDKit molecule
+            What `load` takes, of one record.
+
         Raises
         ------
         KeyError
@@ -488,6 +510,7 @@ class Library:
         Parameters
         ----------
         numbers : int, range or iterable of int
+            The numbers of records, in any order.
 
         Raises
         ------
@@ -524,6 +547,7 @@ class Library:
         Parameters
         ----------
         file : path or sequence of RDKit molecules
+            What `load` takes.
         key : str or None
             The name of the data item; None for the records' names.
         missing : {"keep", "remove"}
@@ -637,6 +661,11 @@ class Library:
         **items : str
             Values of data items, by their names.
 
+        Raises
+        ------
+        MarkushError
+            An InChIKey is asked for, and there is neither an RDKit that makes it nor Open Babel.
+
         Examples
         --------
         >>> with Library() as lib:
@@ -671,6 +700,11 @@ class Library:
         ----------
         by : str
             `"text"`, `"inchikey"` (by RDKit or Open Babel), or the name of a data item; records without it are left out.
+
+        Raises
+        ------
+        MarkushError
+            InChIKeys are asked for, and there is neither an RDKit that makes them nor Open Babel.
 
         Examples
         --------
@@ -762,6 +796,7 @@ class Library:
         Parameters
         ----------
         claim : Claim
+            What is searched for.
         per : {"choice", "record", "map"}
             One hit a record and choice, one a record, or one for each way in which the claim lies.
         limit : int or None
@@ -773,10 +808,12 @@ class Library:
 
         Raises
         ------
+        ValueError
+            `per` or `limit` is none of these.
         Refused
-            The program refuses the claim.
+            The program refuses the claim; from the iterator.
         SearchTimeout
-            From the iterator.
+            The seconds are over; from the iterator.
 
         Examples
         --------
@@ -792,6 +829,11 @@ class Library:
 
     def saved(self, name: str) -> "SavedSearch":
         """A search that was saved by `Hits.save`.
+
+        Parameters
+        ----------
+        name : str
+            What it is called.
 
         Raises
         ------
@@ -844,6 +886,7 @@ class Library:
         Parameters
         ----------
         claim : Claim
+            Whose sites are the columns.
         timeout : float or None
             In seconds; a `SearchTimeout` without hits comes where the table isn't made by then.
 
@@ -852,6 +895,15 @@ class Library:
         DataFrame
             A row for each record with a hit: `record`, `name`, its data items, and a column for each site of the root
             with the member's name or SMILES, or None where the site isn't filled.
+
+        Raises
+        ------
+        Refused
+            The program refuses the claim.
+        SearchTimeout
+            The seconds are over.
+        MarkushError
+            There is no pandas.
 
         Examples
         --------
@@ -871,6 +923,7 @@ class Library:
         Parameters
         ----------
         claim : Claim
+            The claim that the record doesn't fall under, or may not.
         record : int
             The number of a record that is held.
         timeout : float

@@ -374,6 +374,7 @@ def scan(
     files : path, stream or iterable of them
         SDfiles, packed as `.gz` or `.xz` or not. Records count over all of them, from 1.
     claim : Claim
+        What is searched for.
     executor : Executor or None
         What has `submit`, as those of `concurrent.futures` and dask's `Client.get_executor()`; else a pool of threads of this
         scan's own, one a processor.
