@@ -537,6 +537,13 @@ def test_a_claim_under_watch_tells_what_is_new(program: Path, tmp_path: Path) ->
     assert [row[1:4] for row in lost] == [["lost", "1", ""], ["lost", "2", ""], ["lost", "3", ""], ["lost", "3", ""], ["lost", "4", "MCPA"], ["lost", "4", "MCPA"]]
 
 
+def test_a_claim_under_watch_has_a_name_that_can_be_one(tmp_path: Path) -> None:
+    (tmp_path / "x.db").write_bytes(b"")
+    ran = tools(["watch", tmp_path / "x.db", "--keep", "a b", CLAIM])
+    assert ran.returncode == 2 and ran.stdout == b"" and (tmp_path / "x.db").read_bytes() == b""
+    assert ran.stderr.decode() == "markush-tools watch: --keep a b: a saved search is called by 1 to 64 letters, digits, '.', '-' and '_', and not 'a b'\n"
+
+
 def test_the_manual_names_each_tool() -> None:
     from markush.tools import COMMANDS
 

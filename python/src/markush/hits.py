@@ -488,8 +488,7 @@ class Hits(Iterator[Hit]):
         3
         ('acids',)
         """
-        if not _NAME.fullmatch(name):
-            raise ValueError(f"a saved search is called by 1 to 64 letters, digits, '.', '-' and '_', and not {name!r}")
+        check_name(name)
         library = self.library
         with library._session.lock:
             place = self._last.record if self._last is not None else 0
@@ -518,6 +517,24 @@ class Hits(Iterator[Hit]):
                 library._mine.pop(str(self._query.name), None)
                 self._query.name, self._query.cursor = None, None
                 self._uncertain = not self._ended
+
+
+def check_name(name: str) -> None:
+    """Say it where a saved search can't be called so.
+
+    Raises
+    ------
+    ValueError
+        It is no such name.
+
+    Examples
+    --------
+    >>> check_name("a b")
+    Traceback (most recent call last):
+    ValueError: a saved search is called by 1 to 64 letters, digits, '.', '-' and '_', and not 'a b'
+    """
+    if not _NAME.fullmatch(name):
+        raise ValueError(f"a saved search is called by 1 to 64 letters, digits, '.', '-' and '_', and not {name!r}")
 
 
 def _bar(total: int) -> Any:

@@ -4,7 +4,7 @@ from __future__ import annotations
 from typing import Dict, Optional, Tuple
 
 from .claim import Claim
-from .hits import Changes
+from .hits import Changes, check_name
 from .library import Library
 
 __all__ = ["keep", "watch"]
@@ -44,6 +44,7 @@ def keep(library: Library, name: str, claim: Claim, per: str = "choice") -> int:
     ...     print(keep(lib, "acids", claim))
     11
     """
+    check_name(name)
     with library.search(claim, per=per) as hits:
         count = sum(1 for _ in hits)
         hits.save(name)
