@@ -7,7 +7,7 @@ from pathlib import Path
 
 import pytest
 
-from markush import Claim, Refused
+from markush import Claim, Refused, scan
 from markush.rgfile import Logic
 
 LIST = "title ethers\nroot c1ccccc1[1*]\nR1 *Cl\nR1 *O[2*] oxy\nR2 *[CH3] methyl\nlogic R2 0-1 rest\n"
@@ -97,5 +97,17 @@ def test_a_column_is_that_of_a_site() -> None:
     claim = Claim.from_list("root C[1*]\nR1 *F")
     assert claim.column(2) == "R1"
     for number in (1, 0, 9):
-        with pytest.raises(KeyError):
+        with pytest.raises(KeyError, match=f"the root has no site at atom {number}"):
             claim.column(number)
+
+
+@pytest.mark.parametrize("label, number", [(1, 0), (1, 2), (2, 1)])
+def test_a_member_that_is_not_there(label: int, number: int) -> None:
+    with pytest.raises(KeyError, match=f"R{label} has no member {number}"):
+        Claim.from_list("root C[1*]\nR1 *F").member_name(label, number)
+
+
+@pytest.mark.parametrize("given", ["claim.rgf", Path("claim.rgf"), None])
+def test_the_name_of_a_file_is_no_claim(fake: Path, given: object) -> None:
+    with pytest.raises(TypeError, match="a claim is what Claim.read gives"):
+        scan("compounds.sdf", given, program=fake)  # type: ignore[arg-type]

@@ -251,7 +251,7 @@ class Claim:
             return known
         group = self.query.group(label)
         if group is None or not 1 <= number <= len(group.members):
-            raise KeyError((label, number))
+            raise KeyError(f"R{label} has no member {number}")
         member = group.members[number - 1]
         return member.name or member.smiles
 
@@ -273,7 +273,9 @@ class Claim:
         >>> Claim.from_list("root C[1*]\\nR1 *F").column(2)
         'R1'
         """
-        groups = {site.atom: site.groups for site in self.sites}[atom]
+        groups = {site.atom: site.groups for site in self.sites}.get(atom)
+        if groups is None:
+            raise KeyError(f"the root has no site at atom {atom}")
         label = ",".join(f"R{group}" for group in groups)
         same = [site for site in self.sites if site.groups == groups]
         return label if len(same) == 1 else f"{label}@{atom}"
@@ -363,6 +365,8 @@ def _title(text: str) -> str:
 
 def keep_query(session: Session, name: str, claim: Claim) -> None:
     """Keep a claim under a name in a session, or raise what the program refuses of it."""
+    if not isinstance(claim, Claim):
+        raise TypeError(f"a claim is what Claim.read gives, or Claim.from_list, and not a {type(claim).__name__}")
     path = session.new_path(".rgf")
     data = encode(claim.text)
     path.write_bytes(data)
