@@ -11,7 +11,7 @@ from collections import deque
 from dataclasses import dataclass, field
 from functools import cached_property, lru_cache
 from pathlib import Path
-from typing import TYPE_CHECKING, Any, Deque, Dict, Iterator, List, Optional, Set, Tuple
+from typing import TYPE_CHECKING, Any, Deque, Dict, Iterator, List, Optional, Set, Tuple, Union
 
 from .answers import Page, RawHit, decode, read_page, read_refusal
 from .claim import Claim
@@ -596,7 +596,7 @@ class FoundHit:
 
 @dataclass(frozen=True)
 class Changes:
-    """What a saved search finds otherwise than before.
+    """What a saved search finds otherwise than before. Hits are the same as its `per` counts them.
 
     Attributes
     ----------
@@ -605,7 +605,7 @@ class Changes:
     lost : tuple of FoundHit
         Hits that there aren't any more.
     changed : tuple of Hit
-        Hits by the same choice in a record whose text is another.
+        Hits that there were, in a record whose text is another by now: by the same choice, or, with `per="record"`, by any.
 
     Examples
     --------
@@ -706,11 +706,11 @@ class SavedSearch:
         """
         library = self._library
         hits = Hits(library, self.claim, per=self._held["per"], timeout=timeout)
-        before = {(found.record, found.choice): found for found in self.hits}
+        before = {self._mark(found): found for found in self.hits}
         goes_on = self._goes_on(hits)
         new, changed, now = [], [], set()
         for hit in hits:
-            key = hit.record, hit.choice
+            key = self._mark(hit)
             now.add(key)
             if key not in before:
                 new.append(hit)
@@ -723,6 +723,10 @@ class SavedSearch:
         self._held = json.loads(self._path.read_text("utf-8"))
         self.query = self._held["query"]
         return Changes(tuple(new), tuple(lost), tuple(changed))
+
+    def _mark(self, hit: Union[Hit, FoundHit]) -> object:
+        """By what a hit is the same as one before."""
+        return hit.record if self._held["per"] == "record" else (hit.record, hit.choice)
 
     def _goes_on(self, hits: Hits) -> bool:
         """Have a search go on from the saved place, where nothing before it has changed."""
