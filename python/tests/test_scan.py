@@ -117,6 +117,8 @@ def test_bad_records_are_passed_over_and_named(acids: Claim, examples: Path) -> 
 def test_a_claim_that_is_refused_is_so_before_anything_is_read(tmp_path: Path) -> None:
     with pytest.raises(Refused, match="line 4"):
         scan(tmp_path / "none.sdf", Claim("no claim\n\n\n\n"))
+    with pytest.raises(TypeError, match="an executor has submit"):
+        scan(tmp_path / "none.sdf", Claim.from_list("root C"), executor=3)
     with pytest.raises(ValueError, match="window"):
         scan(tmp_path / "none.sdf", Claim.from_list("root C"), window=0)
 

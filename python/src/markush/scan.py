@@ -411,6 +411,8 @@ def scan(
         raise ValueError(f"bad is 'skip' or 'refuse', and not {bad!r}")
     if per not in ("choice", "record", "map"):
         raise ValueError(f"per is 'choice', 'record' or 'map', and not {per!r}")
+    if executor is not None and not hasattr(executor, "submit"):
+        raise TypeError(f"an executor has submit, as those of concurrent.futures, and a {type(executor).__name__} hasn't")
     if window is not None and window < 1:
         raise ValueError(f"window is 1 or more, and not {window}")
     if isinstance(files, (str, os.PathLike)) or hasattr(files, "read"):
