@@ -193,6 +193,16 @@ def _unpack(source: Union[Path, BinaryIO], path: Path, name: str, refused: Optio
             refused.append(fault)
 
 
+def _mols(given: Any) -> List[Any]:
+    """One molecule, or several, as a list."""
+    if is_mol(given):
+        return [given]
+    try:
+        return list(given)
+    except TypeError:
+        raise TypeError(f"a file's path, or molecules of RDKit, are wanted, and not a {type(given).__name__}") from None
+
+
 def shown(path: Union[str, bytes, "os.PathLike[str]"]) -> str:
     """A path as a message names it."""
     return os.fsencode(path).decode("utf-8", "replace")
@@ -372,7 +382,7 @@ class Library:
 
         Parameters
         ----------
-        file : path or sequence of RDKit molecules
+        file : path, RDKit molecule or sequence of them
             An SDfile or a list of SMILES (`.smi`, `.smiles`), also packed as `.gz` or `.xz`, or molecules with their properties.
         bad : {"refuse", "skip"}
             Whether one bad record refuses the file, or is left out and named in the answer.
@@ -384,7 +394,7 @@ class Library:
         OSError
             The file can't be read.
         TypeError
-            The list has something else than molecules.
+            It is neither, or the list has something else than molecules.
         MarkushError
             SMILES or molecules, and there is no RDKit.
 
@@ -435,7 +445,7 @@ class Library:
                     else:
                         _unpack(source if is_file else raw, path, name, refused)
             else:
-                mols = list(file)
+                mols = _mols(file)
                 name = None
                 if refused is not None:
                     for number, mol in enumerate(mols, 1):
@@ -488,7 +498,7 @@ class Library:
         ...     print(lib[2].name)
         phenoxyacetic acid
         """
-        with self._taken([file] if is_mol(file) else file) as (path, name):
+        with self._taken(file) as (path, name):
             self._replaced(number, path, name)
 
     def _replaced(self, number: int, path: Path, name: Optional[str]) -> None:
