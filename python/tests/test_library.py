@@ -389,6 +389,18 @@ def test_what_was_answered_is_kept_when_the_program_is_killed(program: Path, aci
         assert 3 not in lib and lib[4].name == "MCPA"
 
 
+def test_numbers_of_a_frame_name_records(loaded: Library, acids: Claim, acids_sdf: Path) -> None:
+    numbers = loaded.search(acids, per="record").to_frame()["record"]
+    assert loaded[numbers[2]].name == "2,4-D" and type(loaded[numbers[2]].number) is int
+    loaded.remove(numbers[0])
+    loaded.remove(numbers[1:])
+    assert len(loaded) == 25 and 1 not in loaded and 2 not in loaded
+    for deed in (lambda: loaded["9"], lambda: loaded[9:11], lambda: loaded.remove("9"), lambda: loaded.replace("9", acids_sdf)):  # type: ignore[index, arg-type]
+        with pytest.raises(TypeError, match="a record is named by its number, and not by"):
+            deed()
+    assert len(loaded) == 25
+
+
 def test_a_closed_library_says_so(program: Path, acids_sdf: Path) -> None:
     lib = Library(program=program)
     lib.close()

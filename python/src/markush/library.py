@@ -3,6 +3,7 @@ from __future__ import annotations
 
 import bisect
 import hashlib
+import operator
 import os
 import re
 import secrets
@@ -28,6 +29,7 @@ from typing import (
     Sequence,
     Tuple,
     Union,
+    cast,
 )
 
 from .answers import decode, read_listing, read_loaded, read_refusal, read_shown, read_word
@@ -191,6 +193,14 @@ def _unpack(source: Union[Path, BinaryIO], path: Path, name: str, refused: Optio
             if refused is None:
                 raise fault
             refused.append(fault)
+
+
+def _number(given: Any) -> int:
+    """The number of a record as an int, also where it comes from a column of a DataFrame."""
+    try:
+        return operator.index(given)
+    except TypeError:
+        raise TypeError(f"a record is named by its number, and not by {given!r}") from None
 
 
 def _mols(given: Any) -> List[Any]:
@@ -498,6 +508,7 @@ class Library:
         ...     print(lib[2].name)
         phenoxyacetic acid
         """
+        number = _number(number)
         with self._taken(file) as (path, name):
             self._replaced(number, path, name)
 
@@ -535,7 +546,8 @@ class Library:
         ...     print(len(lib), 2 in lib)
         1 False
         """
-        wanted = [numbers] if isinstance(numbers, int) else sorted(set(numbers))
+        is_one = hasattr(numbers, "__index__")
+        wanted = [_number(numbers)] if is_one else sorted({_number(each) for each in cast(Iterable[int], numbers)})
         with self._session.lock:
             self._refresh()
             for number in wanted:
@@ -616,6 +628,7 @@ class Library:
         return isinstance(number, int) and self._holds(number)
 
     def __getitem__(self, number: int) -> Record:
+        number = _number(number)
         self._refresh()
         self._must_hold(number)
         return Record(number, self._text(number))
