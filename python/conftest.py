@@ -3,6 +3,7 @@ from __future__ import annotations
 
 import os
 import shlex
+import signal
 import sys
 from pathlib import Path
 from typing import Any, Iterator
@@ -12,6 +13,10 @@ import pytest
 PYTHON = Path(__file__).resolve().parent
 TOP = PYTHON.parent
 sys.path.insert(0, str(PYTHON / "src"))
+
+# a shell that runs the tests behind `&` has INT ignored, which every child inherits; the tests of interrupts send it
+if signal.getsignal(signal.SIGINT) == signal.SIG_IGN:
+    signal.signal(signal.SIGINT, signal.default_int_handler)
 
 from markush import Claim, Library, MarkushError  # noqa: E402
 from markush.programs import program as find_program, session_command  # noqa: E402

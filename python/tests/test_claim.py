@@ -7,7 +7,7 @@ from pathlib import Path
 
 import pytest
 
-from markush import Claim, Refused
+from markush import Claim, Refused, scan
 from markush.rgfile import Logic
 
 LIST = "title ethers\nroot c1ccccc1[1*]\nR1 *Cl\nR1 *O[2*] oxy\nR2 *[CH3] methyl\nlogic R2 0-1 rest\n"
@@ -79,3 +79,35 @@ def test_faults_name_the_file_and_the_line(tmp_path: Path, program: Path) -> Non
     assert (fault.value.code, fault.value.atom, fault.value.line, fault.value.file) == (3, 1, 5, str(path))
     with pytest.raises(FileNotFoundError):
         Claim.read(tmp_path / "none.rgf")
+
+
+@pytest.mark.parametrize("start", ["x", "1,", "1 3", "1,3\nlist", (1, -3), "1" * 10])
+def test_structures_begin_with_a_choice(start: object) -> None:
+    with pytest.raises(ValueError, match="start is a choice, as '1,3'"):
+        next(Claim.from_list("root C[1*]\nR1 *F").structures(start))  # type: ignore[arg-type]
+
+
+@pytest.mark.parametrize("page", [0, -1, 1_001])
+def test_structures_come_by_pages_of_a_size(page: int) -> None:
+    with pytest.raises(ValueError, match="page is a number from 1 to 1,000"):
+        next(Claim.from_list("root C[1*]\nR1 *F").structures(page=page))
+
+
+def test_a_column_is_that_of_a_site() -> None:
+    claim = Claim.from_list("root C[1*]\nR1 *F")
+    assert claim.column(2) == "R1"
+    for number in (1, 0, 9):
+        with pytest.raises(KeyError, match=f"the root has no site at atom {number}"):
+            claim.column(number)
+
+
+@pytest.mark.parametrize("label, number", [(1, 0), (1, 2), (2, 1)])
+def test_a_member_that_is_not_there(label: int, number: int) -> None:
+    with pytest.raises(KeyError, match=f"R{label} has no member {number}"):
+        Claim.from_list("root C[1*]\nR1 *F").member_name(label, number)
+
+
+@pytest.mark.parametrize("given", ["claim.rgf", Path("claim.rgf"), None])
+def test_the_name_of_a_file_is_no_claim(fake: Path, given: object) -> None:
+    with pytest.raises(TypeError, match="a claim is what Claim.read gives"):
+        scan("compounds.sdf", given, program=fake)  # type: ignore[arg-type]

@@ -421,6 +421,20 @@ def test_records_replaced_and_removed_are_told(loaded: Library, acids: Claim, ac
     assert [(hit.record, hit.choice) for hit in changes.changed] == [(7, (3, 3, 3))]
 
 
+def test_by_record_a_hit_by_another_choice_is_changed_and_not_new(
+    loaded: Library, acids: Claim, acids_sdf: Path, tmp_path: Path
+) -> None:
+    hits = loaded.search(acids, per="record")
+    choices = {hit.record: hit.choice for hit in hits}
+    hits.save("acids")
+    loaded.replace(8, one(tmp_path / "8.sdf", acids_sdf, 2))  # a hit by another choice
+    loaded.replace(9, one(tmp_path / "9.sdf", acids_sdf, 2))  # into a hit
+    changes = loaded.saved("acids").again()
+    assert [hit.record for hit in changes.new] == [9] and changes.lost == ()
+    assert [hit.record for hit in changes.changed] == [8] and changes.changed[0].choice != choices[8]
+    assert not loaded.saved("acids").again()
+
+
 @pytest.mark.parametrize("per", ["choice", "record"])
 @pytest.mark.parametrize("given", [1, 2, 3, 5])
 def test_a_search_that_is_not_at_its_end_goes_on_from_its_place(

@@ -389,6 +389,53 @@ def test_what_was_answered_is_kept_when_the_program_is_killed(program: Path, aci
         assert 3 not in lib and lib[4].name == "MCPA"
 
 
+def test_numbers_of_a_frame_name_records(loaded: Library, acids: Claim, acids_sdf: Path) -> None:
+    numbers = loaded.search(acids, per="record").to_frame()["record"]
+    assert loaded[numbers[2]].name == "2,4-D" and type(loaded[numbers[2]].number) is int
+    loaded.remove(numbers[0])
+    loaded.remove(numbers[1:])
+    assert len(loaded) == 25 and 1 not in loaded and 2 not in loaded
+    for deed in (lambda: loaded["9"], lambda: loaded[9:11], lambda: loaded.remove("9"), lambda: loaded.replace("9", acids_sdf)):  # type: ignore[index, arg-type]
+        with pytest.raises(TypeError, match="a record is named by its number, and not by"):
+            deed()
+    assert len(loaded) == 25
+
+
+def test_a_closed_library_says_so(program: Path, acids_sdf: Path) -> None:
+    lib = Library(program=program)
+    lib.close()
+    for deed in (lambda: lib.load(acids_sdf), lambda: len(lib), lambda: lib.update(acids_sdf), lambda: lib.remove(1), lambda: lib.queries()):
+        with pytest.raises(MarkushError, match="this was closed; open it anew"):
+            deed()
+
+
+def test_what_is_no_store_stays_alone(program: Path, tmp_path: Path) -> None:
+    (tmp_path / "notes.txt").write_text("these are notes, and no database\n")
+    with pytest.raises(StoreBad, match="is no store: it isn't a SQLite database"):
+        Library(tmp_path / "notes.txt", program=program)
+    assert [file.name for file in tmp_path.iterdir()] == ["notes.txt"]
+
+
+def test_one_molecule_is_loaded_and_what_is_none_is_said(library: Library) -> None:
+    from rdkit import Chem
+
+    assert library.load(Chem.MolFromSmiles("CCO")).count == 1
+    for given in (3, None):
+        with pytest.raises(TypeError, match="a file's path, or molecules of RDKit, are wanted"):
+            library.load(given)  # type: ignore[arg-type]
+
+
+@pytest.mark.parametrize("name, value", [("_Name", "a\n$$$$\nb"), ("_Name", "a\rb"), ("_Name", "$$$$"), ("ID", "x\n\n$$$$\n{}")])
+def test_a_property_never_makes_a_further_record(library: Library, name: str, value: str) -> None:
+    from rdkit import Chem
+
+    mol = Chem.MolFromSmiles("CCO")
+    mol.SetProp(name, value.format(Chem.MolToMolBlock(mol)))
+    with pytest.raises(Refused, match="molecule 2 of the list has"):
+        library.load([Chem.MolFromSmiles("CCO"), mol])
+    assert len(library) == 0
+
+
 def test_a_forked_child_raises(loaded: Library) -> None:
     out, into = os.pipe()
     child = os.fork()

@@ -8,12 +8,13 @@ import io
 import os
 import threading
 from pathlib import Path
-from typing import Any, Callable, List
+from typing import Any, Callable, List, Tuple
 
 import pytest
 
 from markush import Claim, Library, MarkushError, Refused, scan
 from markush.answers import RawHit
+from markush.scan import Found, Scan
 
 
 # the module, whose name in the package is that of its function
@@ -116,6 +117,8 @@ def test_bad_records_are_passed_over_and_named(acids: Claim, examples: Path) -> 
 def test_a_claim_that_is_refused_is_so_before_anything_is_read(tmp_path: Path) -> None:
     with pytest.raises(Refused, match="line 4"):
         scan(tmp_path / "none.sdf", Claim("no claim\n\n\n\n"))
+    with pytest.raises(TypeError, match="an executor has submit"):
+        scan(tmp_path / "none.sdf", Claim.from_list("root C"), executor=3)
     with pytest.raises(ValueError, match="window"):
         scan(tmp_path / "none.sdf", Claim.from_list("root C"), window=0)
 
@@ -205,4 +208,76 @@ def test_closing_ends_what_is_under_way(acids: Claim, acids_sdf: Path) -> None:
 def test_a_file_that_is_not_there(acids: Claim, tmp_path: Path) -> None:
     with scan(tmp_path / "none.sdf", acids) as hits:
         with pytest.raises(FileNotFoundError):
+            next(hits)
+
+
+# ---- what goes wrong, in its order, by blocks in which each record is a hit
+
+
+@pytest.fixture
+def _each_is_a_hit(monkeypatch: pytest.MonkeyPatch) -> None:
+    monkeypatch.setattr(MODULE, "search_block", lambda records, *_: Found(tuple((place, (), (1,)) for place in range(len(records))), ()))
+
+
+def begun(files: "List[Any]", claim: Claim, executor: Any = None) -> Scan:
+    return Scan(files, claim, executor or Counting(), 4, "skip", "choice", None, False)
+
+
+def numbers_and_fault(hits: Scan) -> "Tuple[List[int], Any]":
+    found: List[int] = []
+    try:
+        for hit in hits:
+            found.append(hit.record)
+    except Exception as fault:
+        return found, fault
+    return found, None
+
+
+@pytest.mark.usefixtures("_each_is_a_hit")
+def test_an_executor_that_takes_no_more_ends_the_scan(acids: Claim, acids_sdf: Path) -> None:
+    class Broken(Counting):
+        def submit(self, work: Callable[..., Any], *words: Any) -> Late:
+            if self.submitted == 2:
+                raise RuntimeError("a worker was killed")
+            return super().submit(work, *words)
+
+    hits = begun([acids_sdf], acids, Broken())
+    found, fault = numbers_and_fault(hits)
+    assert found == list(range(1, 11)) and isinstance(fault, MarkushError)
+    assert str(fault) == f"{acids_sdf}: the block of the records 11 to 15 failed: a worker was killed"
+    assert list(hits) == []
+
+
+@pytest.mark.usefixtures("_each_is_a_hit")
+@pytest.mark.parametrize("kind", ["missing", "cut"])
+def test_a_file_that_is_not_read_is_told_behind_the_hits_before_it(acids: Claim, acids_sdf: Path, tmp_path: Path, kind: str) -> None:
+    second = tmp_path / "second.sdf.gz"
+    if kind == "cut":
+        second.write_bytes(gzip.compress(acids_sdf.read_bytes())[:-9])
+    hits = begun([acids_sdf, second], acids)
+    found, fault = numbers_and_fault(hits)
+    assert found[:33] == list(range(1, 34)) and found == list(range(1, len(found) + 1))
+    if kind == "cut":
+        assert isinstance(fault, Refused) and "second.sdf.gz: the packed file is damaged or ends too early" in str(fault)
+    else:
+        assert isinstance(fault, FileNotFoundError)
+    assert list(hits) == []
+
+
+@pytest.mark.usefixtures("_each_is_a_hit")
+def test_an_interrupted_scan_does_not_end_as_if_all_were_read(acids: Claim, acids_sdf: Path, monkeypatch: pytest.MonkeyPatch) -> None:
+    read = MODULE.read_records
+
+    def interrupted(file: Any) -> Any:
+        for record in read(file):
+            if record.number == 13:
+                raise KeyboardInterrupt
+            yield record
+
+    monkeypatch.setattr(MODULE, "read_records", interrupted)
+    hits = begun([acids_sdf], acids)
+    with pytest.raises(KeyboardInterrupt):
+        next(hits)
+    for _ in range(2):
+        with pytest.raises(MarkushError, match="interrupted while it read its files"):
             next(hits)

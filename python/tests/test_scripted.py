@@ -71,6 +71,35 @@ def test_a_second_session_over_a_store_ends_at_once(command_program: Path, tmp_p
     assert third.returncode == 0
 
 
+def test_nothing_is_left_of_a_lock(command_program: Path, tmp_path: Path, monkeypatch: pytest.MonkeyPatch) -> None:
+    spare = tmp_path / "spare"
+    spare.mkdir()
+    monkeypatch.setenv("TMPDIR", str(spare))
+    with started(command_program, tmp_path, "--store", "s.db") as first:
+        assert first.stdout is not None and first.stdout.readline().startswith(b"ready")
+        assert len(list(spare.glob("markush-*/*"))) == 1
+        with started(command_program, tmp_path, "--store", "t.db") as other:
+            assert other.stdout is not None and other.stdout.readline().startswith(b"ready")
+            assert len(list(spare.glob("markush-*/*"))) == 2
+        assert len(list(spare.glob("markush-*/*"))) == 1
+        with started(command_program, tmp_path, "--store", "s.db") as second:
+            second.communicate(b"", timeout=600)
+        assert second.returncode == 5 and len(list(spare.glob("markush-*/*"))) == 1
+    assert first.returncode == 0 and list(spare.iterdir()) == []
+
+
+def test_sessions_that_come_and_go_leave_no_lock(command_program: Path, tmp_path: Path, monkeypatch: pytest.MonkeyPatch) -> None:
+    """Each that gets the store is answered, the others end at once, and no lock is left."""
+    monkeypatch.setenv("TMPDIR", str(tmp_path))
+    (tmp_path / "m.mol").write_bytes((Path(__file__).resolve().parents[2] / "crates/markush/data/m.mol").read_bytes())
+    for _ in range(4):
+        sessions = [started(command_program, tmp_path, "--store", "s.db") for _ in range(6)]
+        said = [session.communicate(b"load m.mol\n", timeout=600)[0] for session in sessions]
+        assert {session.returncode for session in sessions} <= {0, 5}
+        assert [b"loaded 1" in each for each in said] == [session.returncode == 0 for session in sessions]
+    assert not list(tmp_path.glob("markush-*"))
+
+
 def test_a_folder_is_no_store(command_program: Path, tmp_path: Path) -> None:
     with started(command_program, tmp_path, "--store", ".") as session:
         assert session.communicate(b"list\n", timeout=600)[0] == b""

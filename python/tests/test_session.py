@@ -193,8 +193,14 @@ with Session(program={str(fake)!r}) as session:
         text=True,
         start_new_session=True,
         env={**os.environ, "PYTHONPATH": str(top / "python" / "src")},
+        timeout=60,
     )
     assert ran.stdout == "b'b\\n' True\n", ran.stderr
+
+
+def test_an_interrupt_is_not_ignored_where_the_tests_run() -> None:
+    """Else the one above would wait for ever, as behind `&` of a shell."""
+    assert signal.getsignal(signal.SIGINT) is signal.default_int_handler
 
 
 ENDS = [

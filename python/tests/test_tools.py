@@ -31,6 +31,10 @@ def lines(ran: "subprocess.CompletedProcess[bytes]") -> List[str]:
     return ran.stdout.decode().splitlines()
 
 
+def lines_of_faults(ran: "subprocess.CompletedProcess[bytes]") -> List[str]:
+    return ran.stderr.decode().splitlines()
+
+
 def rows(text: str, delimiter: str = "\t") -> List[List[str]]:
     held = [line for line in text.splitlines() if not line.startswith("# ")]
     return list(csv.reader(io.StringIO("\n".join(held)), delimiter=delimiter))
@@ -51,6 +55,29 @@ def test_each_tool_tells_its_words() -> None:
 def test_words_that_are_none_have_the_status_2(words: List[str]) -> None:
     ran = tools(words)
     assert ran.returncode == 2 and ran.stdout == b"" and b"usage: markush-tools" in ran.stderr
+
+
+@pytest.mark.parametrize(
+    "words, said",
+    [
+        (["scan", CLAIM, COMPOUNDS, "--jobs", "0"], "argument --jobs: 0 is no whole number from 1 on"),
+        (["find", CLAIM, COMPOUNDS, "--jobs=-1"], "argument --jobs: -1 is no whole number from 1 on"),
+        (["find", CLAIM, COMPOUNDS, "--why=-3"], "argument --why: -3 is no whole number from 0 on"),
+        (["find", CLAIM, COMPOUNDS, "--why", "some"], "argument --why: some is no whole number from 0 on"),
+        (["split", COMPOUNDS, "good.sdf", "bad.sdf", "--jobs", "two"], "argument --jobs: two is no whole number from 1 on"),
+        (["structures", CLAIM, "--limit=-1"], "argument --limit: -1 is no whole number from 0 on"),
+        (["page", CLAIM, COMPOUNDS, "--first", "0"], "argument --first: 0 is no whole number from 1 on"),
+        (["why", CLAIM, COMPOUNDS, "--record", "0"], "argument --record: 0 is no whole number from 1 on"),
+        (["why", CLAIM, COMPOUNDS, "--timeout", "nan"], "argument --timeout: nan is no number of seconds above 0"),
+        (["covers", COMPOUNDS, CLAIM, "--timeout", "0"], "argument --timeout: 0 is no number of seconds above 0"),
+        (["show", "store.db", "1e3"], "argument N: 1e3 is no whole number from 1 on"),
+        (["normalize", COMPOUNDS, "out.sdf", "--megabytes", "0"], "argument --megabytes: 0 is no whole number from 1 on"),
+    ],
+)
+def test_a_number_that_is_none_is_named(words: List[str], said: str) -> None:
+    ran = tools(words)
+    assert ran.returncode == 2 and ran.stdout == b""
+    assert lines_of_faults(ran)[-1] == f"markush-tools {words[0]}: error: {said}"
 
 
 @pytest.mark.parametrize(
@@ -100,6 +127,29 @@ def test_a_table_without_rows_has_the_status_1() -> None:
 def test_answers_of_another_file_are_at_fault() -> None:
     ran = tools(["table", "--hits", TOP / "crates/markush/data/m.mol"], ANSWER)
     assert ran.returncode == 2 and b"the answers have record" in ran.stderr
+
+
+@pytest.mark.parametrize(
+    "words, typed, said",
+    [
+        (["table", "--hits", COMPOUNDS], b"hit 1 choice 1 map 1 2\nhit 1 choice", "the line 'hit 1 choice', which is no whole hit"),
+        (["table", "--hits", COMPOUNDS], b"hit 1 map\n", "the line 'hit 1 map', which is no whole hit"),
+        (["table", COMPOUNDS], "record\tsite 1\n²\t1\nend\n".encode(), "the answers have record ²"),
+        (["structures"], b"choice 1\n\n\n  1  0", "the answers end within the structure of 'choice 1'"),
+        (["structures"], b"choice 1\n\n\n\n$$$$\nend\n", "the structure of 'choice 1' has no counts line"),
+        (["show"], b"record 2 4\na\n", "the answers end within record 2"),
+    ],
+)
+def test_answers_that_were_cut_off_are_at_fault(words: List[str], typed: bytes, said: str) -> None:
+    ran = tools(words, typed)
+    assert ran.returncode == 2 and ran.stderr.decode().startswith(f"markush-tools {words[0]}: ") and said in ran.stderr.decode()
+
+
+def test_what_no_tool_wrote_is_not_made_anew(tmp_path: Path) -> None:
+    for name, data in (("picture.png", b"\x89PNG\r\n\x1a\n"), ("empty.tsv", b""), ("other.json", b"{\"account\": 3}"), ("cut.json", b"{")):
+        (tmp_path / name).write_bytes(data)
+        ran = tools(["report", tmp_path / name])
+        assert ran.returncode == 2 and ran.stderr.decode() == f"markush-tools report: {tmp_path / name} has no account of markush-tools, so it can't be made anew\n"
 
 
 def test_shown_records_become_an_sdfile() -> None:
@@ -536,6 +586,13 @@ def test_a_claim_under_watch_tells_what_is_new(program: Path, tmp_path: Path) ->
     assert ran.returncode == 0 and lines(ran)[0] == f"{other}: 0 added, 1 replaced, 29 the same, 3 missing, 0 refused", ran.stdout
     lost = [line.split("\t") for line in lines(ran)[1:]]
     assert [row[1:4] for row in lost] == [["lost", "1", ""], ["lost", "2", ""], ["lost", "3", ""], ["lost", "3", ""], ["lost", "4", "MCPA"], ["lost", "4", "MCPA"]]
+
+
+def test_a_claim_under_watch_has_a_name_that_can_be_one(tmp_path: Path) -> None:
+    (tmp_path / "x.db").write_bytes(b"")
+    ran = tools(["watch", tmp_path / "x.db", "--keep", "a b", CLAIM])
+    assert ran.returncode == 2 and ran.stdout == b"" and (tmp_path / "x.db").read_bytes() == b""
+    assert ran.stderr.decode() == "markush-tools watch: --keep a b: a saved search is called by 1 to 64 letters, digits, '.', '-' and '_', and not 'a b'\n"
 
 
 def test_the_manual_names_each_tool() -> None:

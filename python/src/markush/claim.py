@@ -169,6 +169,11 @@ class Claim:
     def from_rgfile(cls, text: str) -> "Claim":
         """The claim of the text of an RGfile or a molfile.
 
+        Parameters
+        ----------
+        text : str
+            The text, V2000.
+
         Raises
         ------
         Refused
@@ -231,6 +236,11 @@ class Claim:
         number : int
             The member within it, from 1.
 
+        Raises
+        ------
+        KeyError
+            The claim has no such member.
+
         Examples
         --------
         >>> Claim.from_list("root C[1*]\\nR1 *OC methoxy\\nR1 *Cl").member_name(1, 1)
@@ -241,19 +251,31 @@ class Claim:
             return known
         group = self.query.group(label)
         if group is None or not 1 <= number <= len(group.members):
-            raise KeyError((label, number))
+            raise KeyError(f"R{label} has no member {number}")
         member = group.members[number - 1]
         return member.name or member.smiles
 
     def column(self, atom: int) -> str:
         """The name of a site of the root: `R1`, `R1,R2`, or `R1@7` where several sites bear the same labels.
 
+        Parameters
+        ----------
+        atom : int
+            The site's atom in the root, from 1.
+
+        Raises
+        ------
+        KeyError
+            The root has no site there.
+
         Examples
         --------
         >>> Claim.from_list("root C[1*]\\nR1 *F").column(2)
         'R1'
         """
-        groups = next(site.groups for site in self.sites if site.atom == atom)
+        groups = {site.atom: site.groups for site in self.sites}.get(atom)
+        if groups is None:
+            raise KeyError(f"the root has no site at atom {atom}")
         label = ",".join(f"R{group}" for group in groups)
         same = [site for site in self.sites if site.groups == groups]
         return label if len(same) == 1 else f"{label}@{atom}"
@@ -274,12 +296,14 @@ class Claim:
         Parameters
         ----------
         start : str, sequence of int or None
-            The choice from which on they are written, as `"1,3"`; from the first where it is None.
+            The choice from which on they are written, as `"1,3"` or `(1, 3)`; from the first where it is None.
         page : int
             How many are asked for at a time, 1 to 1,000.
 
         Raises
         ------
+        ValueError
+            `start` is no choice, or `page` no such number.
         Refused
             The program refuses the claim.
 
@@ -289,6 +313,10 @@ class Claim:
         (2,)
         """
         place: Optional[str] = start if start is None or isinstance(start, str) else ",".join(map(str, start))
+        if place and not re.fullmatch(r"[0-9]{1,9}(,[0-9]{1,9})*", place):
+            raise ValueError(f"start is a choice, as '1,3' or (1, 3), and not {start!r}")
+        if not 1 <= page <= 1_000:
+            raise ValueError(f"page is a number from 1 to 1,000, and not {page}")
         with Session() as session:
             keep_query(session, "claim", self)
             while True:
@@ -337,6 +365,8 @@ def _title(text: str) -> str:
 
 def keep_query(session: Session, name: str, claim: Claim) -> None:
     """Keep a claim under a name in a session, or raise what the program refuses of it."""
+    if not isinstance(claim, Claim):
+        raise TypeError(f"a claim is what Claim.read gives, or Claim.from_list, and not a {type(claim).__name__}")
     path = session.new_path(".rgf")
     data = encode(claim.text)
     path.write_bytes(data)

@@ -15,7 +15,7 @@ from .reasons import Reason
 __all__ = ["covers", "cover_rows", "Cover"]
 
 Compounds = Union[Library, str, "os.PathLike[str]", Sequence[Any]]
-Claims = Union[Mapping[str, Claim], Iterable[Claim]]
+Claims = Union[Claim, Mapping[str, Claim], Iterable[Claim]]
 
 
 @dataclass(frozen=True)
@@ -59,7 +59,8 @@ def cover_rows(compounds: Compounds, claims: Claims, why: bool = True, timeout: 
     Parameters
     ----------
     compounds : Library, path, molecule of RDKit or sequence of them
-    claims : mapping of name to Claim, or iterable of Claim
+        What `Library.load` takes, or a library.
+    claims : Claim, iterable of Claim, or mapping of name to Claim
         Claims without a name are called by their titles.
     why : bool
         Whether it is asked why a compound isn't covered.
@@ -82,6 +83,8 @@ def cover_rows(compounds: Compounds, claims: Claims, why: bool = True, timeout: 
         with Library() as library:
             library.load([compounds] if is_mol(compounds) else compounds)
             return cover_rows(library, claims, why, timeout)
+    if isinstance(claims, Claim):
+        claims = [claims]
     named = claims.items() if isinstance(claims, Mapping) else [(_called(at, c), c) for at, c in enumerate(claims, 1)]
     found = {}
     order = []
@@ -114,6 +117,13 @@ def covers(compounds: Compounds, claims: Claims, why: bool = True, timeout: floa
     -------
     DataFrame
         A row for each compound and claim: `record`, `name`, `claim`, `hit` (bool), `choice` (in words), `why`.
+
+    Raises
+    ------
+    Refused
+        A claim or a compound is refused.
+    MarkushError
+        There is no pandas.
 
     Examples
     --------

@@ -41,6 +41,11 @@ def to_frame(hits: "Iterable[Hit]") -> Any:
         `record`, `name`, `choice` (its numbers with blanks between), then a column for each slot that some choice decides,
         with the member's name or SMILES, and None where the choice doesn't come to it or leaves it unfilled.
 
+    Raises
+    ------
+    MarkushError
+        There is no pandas.
+
     Examples
     --------
     >>> claim = Claim.read(EXAMPLES / "phenoxy_acids" / "claim.rgf")

@@ -11,7 +11,7 @@ from collections import deque
 from dataclasses import dataclass, field
 from functools import cached_property, lru_cache
 from pathlib import Path
-from typing import TYPE_CHECKING, Any, Deque, Dict, Iterator, List, Optional, Set, Tuple
+from typing import TYPE_CHECKING, Any, Deque, Dict, Iterator, List, Optional, Set, Tuple, Union
 
 from .answers import Page, RawHit, decode, read_page, read_refusal
 from .claim import Claim
@@ -86,6 +86,7 @@ class Hit:
         The atoms of the record, from 1, on which those of the claim's expansion lie; hydrogens that the program added
         count behind those that are drawn.
     claim : Claim
+        The claim that was searched for.
     raw : bytes
         The record's text as it was searched.
 
@@ -181,6 +182,21 @@ class Hit:
         ----------
         width : int
             In pixels.
+
+        Raises
+        ------
+        MarkushError
+            There is no RDKit.
+        Refused
+            RDKit can't read the record.
+
+        Examples
+        --------
+        >>> claim = Claim.read(EXAMPLES / "phenoxy_acids" / "claim.rgf")
+        >>> with Library() as lib:
+        ...     loaded = lib.load(EXAMPLES / "phenoxy_acids" / "compounds.sdf")
+        ...     print("<svg" in next(lib.search(claim)).svg(width=300))
+        True
         """
         from .drawing import hit_svg
 
@@ -428,6 +444,13 @@ class Hits(Iterator[Hit]):
         DataFrame
             `record`, `name`, `choice` (numbers with blanks between), and a column for each site of the root.
 
+        Raises
+        ------
+        SearchTimeout
+            The seconds of `Library.search` are over.
+        MarkushError
+            There is no pandas.
+
         Examples
         --------
         >>> claim = Claim.read(EXAMPLES / "phenoxy_acids" / "claim.rgf")
@@ -465,8 +488,7 @@ class Hits(Iterator[Hit]):
         3
         ('acids',)
         """
-        if not _NAME.fullmatch(name):
-            raise ValueError(f"a saved search is called by 1 to 64 letters, digits, '.', '-' and '_', and not {name!r}")
+        check_name(name)
         library = self.library
         with library._session.lock:
             place = self._last.record if self._last is not None else 0
@@ -495,6 +517,24 @@ class Hits(Iterator[Hit]):
                 library._mine.pop(str(self._query.name), None)
                 self._query.name, self._query.cursor = None, None
                 self._uncertain = not self._ended
+
+
+def check_name(name: str) -> None:
+    """Say it where a saved search can't be called so.
+
+    Raises
+    ------
+    ValueError
+        It is no such name.
+
+    Examples
+    --------
+    >>> check_name("a b")
+    Traceback (most recent call last):
+    ValueError: a saved search is called by 1 to 64 letters, digits, '.', '-' and '_', and not 'a b'
+    """
+    if not _NAME.fullmatch(name):
+        raise ValueError(f"a saved search is called by 1 to 64 letters, digits, '.', '-' and '_', and not {name!r}")
 
 
 def _bar(total: int) -> Any:
@@ -534,6 +574,15 @@ def _write(path: Path, held: Dict[str, Any]) -> None:
 class FoundHit:
     """A hit as a saved search keeps it: the record, the digest of its text, and the choice.
 
+    Attributes
+    ----------
+    record : int
+        The record's number.
+    sha256 : str
+        The digest of its text as it was then, 64 hexadecimal digits.
+    choice : tuple of int
+        Which member stands at each site, and how often each link stands.
+
     Examples
     --------
     >>> FoundHit(3, "0" * 64, (1, 3)).record
@@ -547,7 +596,7 @@ class FoundHit:
 
 @dataclass(frozen=True)
 class Changes:
-    """What a saved search finds otherwise than before.
+    """What a saved search finds otherwise than before. Hits are the same as its `per` counts them.
 
     Attributes
     ----------
@@ -556,7 +605,7 @@ class Changes:
     lost : tuple of FoundHit
         Hits that there aren't any more.
     changed : tuple of Hit
-        Hits by the same choice in a record whose text is another.
+        Hits that there were, in a record whose text is another by now: by the same choice, or, with `per="record"`, by any.
 
     Examples
     --------
@@ -578,6 +627,7 @@ class SavedSearch:
     Attributes
     ----------
     name : str
+        What it is called.
     query : str or None
         The name of its claim in the store, where the search isn't at its end.
 
@@ -640,14 +690,27 @@ class SavedSearch:
         Raises
         ------
         SearchTimeout
+            The seconds are over.
+
+        Examples
+        --------
+        >>> claim = Claim.read(EXAMPLES / "phenoxy_acids" / "claim.rgf")
+        >>> with Library() as lib:
+        ...     hits = lib.search(claim)
+        ...     nothing = list(hits)
+        ...     hits.save("acids")
+        ...     loaded = lib.load(EXAMPLES / "phenoxy_acids" / "compounds.sdf")
+        ...     changes = lib.saved("acids").again()
+        ...     print(len(changes.new), changes.lost, changes.changed)
+        11 () ()
         """
         library = self._library
         hits = Hits(library, self.claim, per=self._held["per"], timeout=timeout)
-        before = {(found.record, found.choice): found for found in self.hits}
+        before = {self._mark(found): found for found in self.hits}
         goes_on = self._goes_on(hits)
         new, changed, now = [], [], set()
         for hit in hits:
-            key = hit.record, hit.choice
+            key = self._mark(hit)
             now.add(key)
             if key not in before:
                 new.append(hit)
@@ -660,6 +723,10 @@ class SavedSearch:
         self._held = json.loads(self._path.read_text("utf-8"))
         self.query = self._held["query"]
         return Changes(tuple(new), tuple(lost), tuple(changed))
+
+    def _mark(self, hit: Union[Hit, FoundHit]) -> object:
+        """By what a hit is the same as one before."""
+        return hit.record if self._held["per"] == "record" else (hit.record, hit.choice)
 
     def _goes_on(self, hits: Hits) -> bool:
         """Have a search go on from the saved place, where nothing before it has changed."""

@@ -3,6 +3,7 @@ from __future__ import annotations
 
 import bisect
 import hashlib
+import operator
 import os
 import re
 import secrets
@@ -28,6 +29,7 @@ from typing import (
     Sequence,
     Tuple,
     Union,
+    cast,
 )
 
 from .answers import decode, read_listing, read_loaded, read_refusal, read_shown, read_word
@@ -105,7 +107,9 @@ class Loaded:
     Attributes
     ----------
     count : int
+        How many records were kept.
     first : int or None
+        The number of the first, or None where none was.
     refused : tuple of Refused
         With `bad="skip"`, a refusal for each record that was left out.
 
@@ -191,6 +195,24 @@ def _unpack(source: Union[Path, BinaryIO], path: Path, name: str, refused: Optio
             refused.append(fault)
 
 
+def _number(given: Any) -> int:
+    """The number of a record as an int, also where it comes from a column of a DataFrame."""
+    try:
+        return operator.index(given)
+    except TypeError:
+        raise TypeError(f"a record is named by its number, and not by {given!r}") from None
+
+
+def _mols(given: Any) -> List[Any]:
+    """One molecule, or several, as a list."""
+    if is_mol(given):
+        return [given]
+    try:
+        return list(given)
+    except TypeError:
+        raise TypeError(f"a file's path, or molecules of RDKit, are wanted, and not a {type(given).__name__}") from None
+
+
 def shown(path: Union[str, bytes, "os.PathLike[str]"]) -> str:
     """A path as a message names it."""
     return os.fsencode(path).decode("utf-8", "replace")
@@ -210,7 +232,16 @@ class Library:
 
     Raises
     ------
-    StoreBusy, StoreBad, OutOfMemory, ProgramEnded, MarkushError
+    StoreBusy
+        Another run has the store.
+    StoreBad
+        The file is no store, can't be opened or made, or has a bad row.
+    OutOfMemory
+        Memory ran out in the program.
+    ProgramEnded
+        The program ended by itself; what was answered is kept.
+    MarkushError
+        There is no program; or it was closed, or is used in a forked child.
 
     Examples
     --------
@@ -361,8 +392,8 @@ class Library:
 
         Parameters
         ----------
-        file : path or sequence of RDKit molecules
-            An SDfile, also packed as `.gz` or `.xz`, or molecules with their properties.
+        file : path, RDKit molecule or sequence of them
+            An SDfile or a list of SMILES (`.smi`, `.smiles`), also packed as `.gz` or `.xz`, or molecules with their properties.
         bad : {"refuse", "skip"}
             Whether one bad record refuses the file, or is left out and named in the answer.
 
@@ -372,6 +403,10 @@ class Library:
             Nothing is kept; the message names the record, the line and the atom.
         OSError
             The file can't be read.
+        TypeError
+            It is neither, or the list has something else than molecules.
+        MarkushError
+            SMILES or molecules, and there is no RDKit.
 
         Examples
         --------
@@ -420,7 +455,7 @@ class Library:
                     else:
                         _unpack(source if is_file else raw, path, name, refused)
             else:
-                mols = list(file)
+                mols = _mols(file)
                 name = None
                 if refused is not None:
                     for number, mol in enumerate(mols, 1):
@@ -451,6 +486,13 @@ class Library:
     def replace(self, number: int, file: PathOrMols) -> None:
         """Put the one record of a file, or one molecule, in the place of a record.
 
+        Parameters
+        ----------
+        number : int
+            The record's number.
+        file : path or RDKit molecule
+            What `load` takes, of one record.
+
         Raises
         ------
         KeyError
@@ -466,7 +508,8 @@ class Library:
         ...     print(lib[2].name)
         phenoxyacetic acid
         """
-        with self._taken([file] if is_mol(file) else file) as (path, name):
+        number = _number(number)
+        with self._taken(file) as (path, name):
             self._replaced(number, path, name)
 
     def _replaced(self, number: int, path: Path, name: Optional[str]) -> None:
@@ -488,6 +531,7 @@ class Library:
         Parameters
         ----------
         numbers : int, range or iterable of int
+            The numbers of records, in any order.
 
         Raises
         ------
@@ -502,7 +546,8 @@ class Library:
         ...     print(len(lib), 2 in lib)
         1 False
         """
-        wanted = [numbers] if isinstance(numbers, int) else sorted(set(numbers))
+        is_one = hasattr(numbers, "__index__")
+        wanted = [_number(numbers)] if is_one else sorted({_number(each) for each in cast(Iterable[int], numbers)})
         with self._session.lock:
             self._refresh()
             for number in wanted:
@@ -524,6 +569,7 @@ class Library:
         Parameters
         ----------
         file : path or sequence of RDKit molecules
+            What `load` takes.
         key : str or None
             The name of the data item; None for the records' names.
         missing : {"keep", "remove"}
@@ -582,6 +628,7 @@ class Library:
         return isinstance(number, int) and self._holds(number)
 
     def __getitem__(self, number: int) -> Record:
+        number = _number(number)
         self._refresh()
         self._must_hold(number)
         return Record(number, self._text(number))
@@ -637,6 +684,11 @@ class Library:
         **items : str
             Values of data items, by their names.
 
+        Raises
+        ------
+        MarkushError
+            An InChIKey is asked for, and there is neither an RDKit that makes it nor Open Babel.
+
         Examples
         --------
         >>> with Library() as lib:
@@ -671,6 +723,11 @@ class Library:
         ----------
         by : str
             `"text"`, `"inchikey"` (by RDKit or Open Babel), or the name of a data item; records without it are left out.
+
+        Raises
+        ------
+        MarkushError
+            InChIKeys are asked for, and there is neither an RDKit that makes them nor Open Babel.
 
         Examples
         --------
@@ -762,6 +819,7 @@ class Library:
         Parameters
         ----------
         claim : Claim
+            What is searched for.
         per : {"choice", "record", "map"}
             One hit a record and choice, one a record, or one for each way in which the claim lies.
         limit : int or None
@@ -773,10 +831,12 @@ class Library:
 
         Raises
         ------
+        ValueError
+            `per` or `limit` is none of these.
         Refused
-            The program refuses the claim.
+            The program refuses the claim; from the iterator.
         SearchTimeout
-            From the iterator.
+            The seconds are over; from the iterator.
 
         Examples
         --------
@@ -792,6 +852,11 @@ class Library:
 
     def saved(self, name: str) -> "SavedSearch":
         """A search that was saved by `Hits.save`.
+
+        Parameters
+        ----------
+        name : str
+            What it is called.
 
         Raises
         ------
@@ -844,6 +909,7 @@ class Library:
         Parameters
         ----------
         claim : Claim
+            Whose sites are the columns.
         timeout : float or None
             In seconds; a `SearchTimeout` without hits comes where the table isn't made by then.
 
@@ -852,6 +918,15 @@ class Library:
         DataFrame
             A row for each record with a hit: `record`, `name`, its data items, and a column for each site of the root
             with the member's name or SMILES, or None where the site isn't filled.
+
+        Raises
+        ------
+        Refused
+            The program refuses the claim.
+        SearchTimeout
+            The seconds are over.
+        MarkushError
+            There is no pandas.
 
         Examples
         --------
@@ -871,6 +946,7 @@ class Library:
         Parameters
         ----------
         claim : Claim
+            The claim that the record doesn't fall under, or may not.
         record : int
             The number of a record that is held.
         timeout : float

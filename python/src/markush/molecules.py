@@ -141,7 +141,8 @@ def write_mols(mols: Iterable[Any]) -> "list[bytes]":
     Raises
     ------
     Refused
-        One of them is None, as what RDKit couldn't read is; the message says which.
+        One of them is None, as what RDKit couldn't read is, or its name or a property would end its record; the message
+        says which.
 
     Examples
     --------
@@ -159,5 +160,12 @@ def write_mols(mols: Iterable[Any]) -> "list[bytes]":
         writer = chem.SDWriter(out)
         writer.write(mol)
         writer.close()
-        records.append(out.getvalue().encode("utf-8"))
+        text = out.getvalue()
+        name = mol.GetProp("_Name") if mol.HasProp("_Name") else ""
+        if "\n" in name or "\r" in name:
+            raise Refused(f"molecule {number} of the list has a name of several lines; set its _Name to one", record=number)
+        # else what stands behind the line would be a record of its own
+        if any(line.startswith("$$$$") for line in text.split("\n")[:-2]):
+            raise Refused(f"molecule {number} of the list has the name or a property with a line that begins with $$$$; take it out", record=number)
+        records.append(text.encode("utf-8"))
     return records

@@ -97,7 +97,9 @@ def why_not(
     Parameters
     ----------
     claim : Claim
+        The claim that the record doesn't fall under, or may not.
     record : Record, or what has its `text`
+        The record.
     timeout : float
         In seconds, for all of it; behind them the reason is "not told in time".
     program : path or None

@@ -204,6 +204,8 @@ class Scan(Iterator[Hit]):
         self._read = 0
         self._submitted = 0
         self._closed = False
+        self._unread: Optional[Exception] = None  # why the files can't be read on
+        self._is_cut = False  # an interrupt came while they were read
         self._bar = _bar(self._files) if progress else None
 
     def __iter__(self) -> "Scan":
@@ -239,20 +241,32 @@ class Scan(Iterator[Hit]):
 
     def __next__(self) -> Hit:
         while not self._ready:
+            if self._is_cut:
+                raise MarkushError("this scan was interrupted while it read its files, so it can't go on; begin another one")
             if self._closed:
                 raise StopIteration
             self._submit()
             if not self._under_way:
                 self.close()
+                if self._unread is not None:
+                    raise self._unread
                 raise StopIteration
             self._take(self._under_way[0])
         self.hits += 1
         return self._ready.popleft()
 
     def _submit(self) -> None:
-        """Have as many blocks under way as the window takes."""
-        while len(self._under_way) < self._window:
-            block = next(self._source, None)
+        """Have as many blocks under way as the window takes. Why a file can't be read on is told behind the hits before it."""
+        while len(self._under_way) < self._window and self._unread is None:
+            try:
+                block = next(self._source, None)
+            except Exception as fault:
+                self._unread = fault
+                return
+            except BaseException:
+                self._is_cut = True
+                self.close()
+                raise
             if block is None:
                 return
             self._under_way.append(block)
@@ -317,7 +331,12 @@ class Scan(Iterator[Hit]):
         words: List[Any] = [whole, self.claim, name, self._per, self._program]
         if self._own is not None:
             words.append(self._live)
-        return _Block(base, name, whole, len(records), self._executor.submit(search_block, *words))
+        try:
+            future = self._executor.submit(search_block, *words)
+        except Exception as fault:  # as of a pool one of whose workers was killed: the block's own, so that order holds
+            future = concurrent.futures.Future()
+            future.set_exception(fault)
+        return _Block(base, name, whole, len(records), future)
 
 
 def _place(file: Any) -> int:
@@ -355,6 +374,7 @@ def scan(
     files : path, stream or iterable of them
         SDfiles, packed as `.gz` or `.xz` or not. Records count over all of them, from 1.
     claim : Claim
+        What is searched for.
     executor : Executor or None
         What has `submit`, as those of `concurrent.futures` and dask's `Client.get_executor()`; else a pool of threads of this
         scan's own, one a processor.
@@ -375,7 +395,7 @@ def scan(
     Refused
         The claim is refused, or, with `bad="refuse"`, a record.
     OSError
-        A file can't be read.
+        A file can't be read, which is told behind the hits before it.
     MarkushError
         A block failed; the message says which. The scan is over then.
 
@@ -391,6 +411,8 @@ def scan(
         raise ValueError(f"bad is 'skip' or 'refuse', and not {bad!r}")
     if per not in ("choice", "record", "map"):
         raise ValueError(f"per is 'choice', 'record' or 'map', and not {per!r}")
+    if executor is not None and not hasattr(executor, "submit"):
+        raise TypeError(f"an executor has submit, as those of concurrent.futures, and a {type(executor).__name__} hasn't")
     if window is not None and window < 1:
         raise ValueError(f"window is 1 or more, and not {window}")
     if isinstance(files, (str, os.PathLike)) or hasattr(files, "read"):

@@ -5,13 +5,15 @@ the store costs; else nothing differs that the package sees. What a command does
 alone. It is run as a program: `python3 scripted.py PROGRAM [--store FILE]`.
 
 Between two commands the store is free for other runs of `markush`. A second session over one store is kept out by a lock
-beside the system's temporary files.
+beside the system's temporary files, which goes with the session.
 """
 from __future__ import annotations
 
+import contextlib
 import fcntl
 import hashlib
 import os
+import stat
 import subprocess
 import sys
 import tempfile
@@ -38,24 +40,41 @@ def _run(program: str, store: str, line: bytes) -> Tuple[int, bytes]:
     return ran.returncode, ran.stdout
 
 
-def _lock(store: str) -> Optional[int]:
-    """A lock on the store's name, which goes with the process; None where another session has it."""
+def _lock(store: str) -> Optional[Tuple[int, str]]:
+    """A lock on the store's name, and the file of it; None where another session has it."""
     folder = os.path.join(tempfile.gettempdir(), f"markush-{os.getuid()}")
-    try:
-        os.mkdir(folder, 0o700)
-    except FileExistsError:
-        pass
-    about = os.lstat(folder)
-    if about.st_uid != os.getuid() or not os.path.isdir(folder) or os.path.islink(folder):
-        raise _Ends(5)
-    name = hashlib.sha256(os.fsencode(os.path.realpath(store))).hexdigest()
-    lock = os.open(os.path.join(folder, name), os.O_RDWR | os.O_CREAT | os.O_CLOEXEC | os.O_NOFOLLOW, 0o600)
-    try:
-        fcntl.flock(lock, fcntl.LOCK_EX | fcntl.LOCK_NB)
-    except OSError:
+    path = os.path.join(folder, hashlib.sha256(os.fsencode(os.path.realpath(store))).hexdigest())
+    while True:
+        try:
+            os.mkdir(folder, 0o700)
+        except FileExistsError:
+            pass
+        try:
+            about = os.lstat(folder)
+            if about.st_uid != os.getuid() or not stat.S_ISDIR(about.st_mode):
+                raise _Ends(5)
+            lock = os.open(path, os.O_RDWR | os.O_CREAT | os.O_CLOEXEC | os.O_NOFOLLOW, 0o600)
+        except FileNotFoundError:
+            continue  # a session that ended took the folder away in between
+        try:
+            fcntl.flock(lock, fcntl.LOCK_EX | fcntl.LOCK_NB)
+            if os.path.samestat(os.fstat(lock), os.stat(path)):
+                return lock, path
+        except FileNotFoundError:
+            pass  # the one that had it took the file away
+        except OSError:
+            os.close(lock)
+            return None
         os.close(lock)
-        return None
-    return lock
+
+
+def _unlock(lock: int, path: str) -> None:
+    """Let the lock go, and leave neither its file nor an empty folder."""
+    with contextlib.suppress(OSError):
+        os.unlink(path)
+    os.close(lock)
+    with contextlib.suppress(OSError):
+        os.rmdir(os.path.dirname(path))
 
 
 def _ready(program: str, store: str) -> bytes:
@@ -133,10 +152,13 @@ def main(words: List[str]) -> int:
         return 2
     try:
         if rest:
-            lock = _lock(rest[1])
-            if lock is None:
+            held = _lock(rest[1])
+            if held is None:
                 return 5
-            _hold(program, rest[1], sys.stdin.buffer, sys.stdout.buffer)
+            try:
+                _hold(program, rest[1], sys.stdin.buffer, sys.stdout.buffer)
+            finally:
+                _unlock(*held)
         else:
             with tempfile.TemporaryDirectory(prefix="held-", dir=".") as folder:
                 _hold(program, os.path.join(folder, "store"), sys.stdin.buffer, sys.stdout.buffer)

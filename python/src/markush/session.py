@@ -165,6 +165,7 @@ class Session:
         self._closed = False
         self._ended_by = ""  # why the process isn't there any more
         self._names = 0
+        self._had_wal = False  # whether the store had its second file before the program was started
         self.generation = 0  # how often the store was opened
         self.ready = Ready(0, 0, 0, 1, 1)
 
@@ -253,7 +254,10 @@ class Session:
 
     def new_path(self, ending: str) -> Path:
         """A path in the private folder that no file has yet, with a name that is a word to the program."""
+        self._check_process()
         with self.lock:
+            if self._closed:
+                raise MarkushError("this was closed; open it anew")
             self._names += 1
             return self.folder / f"{self._names}{ending}"
 
@@ -290,6 +294,7 @@ class Session:
         words = list(self._command)
         if self.store is not None:
             words += ["--store", self._store_word(self.store)]
+            self._had_wal = os.path.lexists(f"{self.store}-wal")
         errors = self._errors_file()
         try:
             self._held.process = subprocess.Popen(
@@ -533,11 +538,21 @@ class Session:
         with open(store, "rb") as file:
             start = file.read(16)
         if start and start != b"SQLite format 3\0":
+            self._drop_empty_wal(store)
             return StoreBad(f"{store} is no store: it isn't a SQLite database")
         return StoreBusy(
             f"{store}: another run has this store, as a Library that is open here or in another process, or sqlite3; close "
             f"that first, or copy the store by snapshot and open the copy"
         )
+
+    def _drop_empty_wal(self, store: Path) -> None:
+        """Take away the empty file that opening what is no database has left beside it."""
+        wal = Path(f"{store}-wal")
+        try:
+            if not self._had_wal and wal.lstat().st_size == 0:
+                wal.unlink()
+        except OSError:
+            pass
 
     # ---- what the store's files show
 

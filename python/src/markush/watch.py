@@ -4,7 +4,7 @@ from __future__ import annotations
 from typing import Dict, Optional, Tuple
 
 from .claim import Claim
-from .hits import Changes
+from .hits import Changes, check_name
 from .library import Library
 
 __all__ = ["keep", "watch"]
@@ -16,9 +16,11 @@ def keep(library: Library, name: str, claim: Claim, per: str = "choice") -> int:
     Parameters
     ----------
     library : Library
+        The library that is watched, which has a store to outlast the block.
     name : str
         1 to 64 letters, digits, dots, hyphens and underscores. A claim that has the name is replaced.
     claim : Claim
+        What is searched for.
     per : {"choice", "record", "map"}
         What counts as one hit.
 
@@ -29,6 +31,8 @@ def keep(library: Library, name: str, claim: Claim, per: str = "choice") -> int:
 
     Raises
     ------
+    ValueError
+        It is no such name; or `per` is none of these.
     Refused
         The claim is refused.
 
@@ -40,6 +44,7 @@ def keep(library: Library, name: str, claim: Claim, per: str = "choice") -> int:
     ...     print(keep(lib, "acids", claim))
     11
     """
+    check_name(name)
     with library.search(claim, per=per) as hits:
         count = sum(1 for _ in hits)
         hits.save(name)
@@ -54,6 +59,7 @@ def watch(library: Library, timeout: Optional[float] = None) -> "Dict[str, Chang
     Parameters
     ----------
     library : Library
+        The library that is watched.
     timeout : float or None
         In seconds, for each claim.
 

@@ -207,10 +207,10 @@ def read_account(path: str) -> Tuple[Account, str]:
     >>> found == account, rest
     (True, 'record\\n')
     """
-    with open(path, encoding="utf-8", newline="") as file:
-        text = file.read()
-    found = None
+    found, text = None, ""
     try:
+        with open(path, encoding="utf-8", newline="") as file:
+            text = file.read()
         if text.startswith("{"):
             held = json.loads(text)
             return _of(held.pop("account")), json.dumps(held, indent=1, sort_keys=True)

@@ -1,13 +1,16 @@
 """What the tools share: their statuses, files of any kind, lists of SMILES, and the Python that has RDKit."""
 from __future__ import annotations
 
+import argparse
 import contextlib
 import gzip
 import hashlib
 import importlib.util
 import io
 import lzma
+import math
 import os
+import re
 import shutil
 import subprocess
 import sys
@@ -42,6 +45,67 @@ class WantsRdkit(Fault):
     >>> isinstance(WantsRdkit("a list of SMILES takes RDKit"), Fault)
     True
     """
+
+
+# ---- numbers among the words
+
+
+def whole(word: str) -> int:
+    """A whole number from 0 on.
+
+    Raises
+    ------
+    ArgumentTypeError
+        The word is none.
+
+    Examples
+    --------
+    >>> whole("0"), whole("20")
+    (0, 20)
+    """
+    if not re.fullmatch(r"[0-9]{1,9}", word):
+        raise argparse.ArgumentTypeError(f"{word} is no whole number from 0 on")
+    return int(word)
+
+
+def counting(word: str) -> int:
+    """A whole number from 1 on, as a number of processes is.
+
+    Raises
+    ------
+    ArgumentTypeError
+        The word is none.
+
+    Examples
+    --------
+    >>> counting("4")
+    4
+    """
+    if not re.fullmatch(r"[0-9]{1,9}", word) or int(word) == 0:
+        raise argparse.ArgumentTypeError(f"{word} is no whole number from 1 on")
+    return int(word)
+
+
+def seconds(word: str) -> float:
+    """A time in seconds, above 0.
+
+    Raises
+    ------
+    ArgumentTypeError
+        The word is none.
+
+    Examples
+    --------
+    >>> seconds("0.5")
+    0.5
+    """
+    try:
+        found = float(word)
+    except ValueError:
+        found = math.nan
+    if not 0 < found < math.inf:
+        raise argparse.ArgumentTypeError(f"{word} is no number of seconds above 0")
+    return found
 
 
 # ---- RDKit

@@ -9,7 +9,7 @@ from __future__ import annotations
 import argparse
 
 from .account import account_of, named
-from .common import HITS, NONE, SOME_REFUSED, needs_folder, takes_rdkit_for, tell, written
+from .common import HITS, NONE, SOME_REFUSED, needs_folder, seconds, takes_rdkit_for, tell, written
 from .find import _is_list
 from .held import held
 
@@ -19,7 +19,7 @@ def add_words(parser: argparse.ArgumentParser) -> None:
     parser.add_argument("compounds", metavar="COMPOUNDS", help="an SDfile, a list of SMILES, or a store")
     parser.add_argument("claims", nargs="+", metavar="CLAIM", help="an RGfile, a molfile or a list")
     parser.add_argument("--no-why", dest="why", action="store_false", help="don't say why a compound isn't covered")
-    parser.add_argument("--timeout", type=float, default=2.0, metavar="SECONDS", help="for each such question; 2 where nothing is said")
+    parser.add_argument("--timeout", type=seconds, default=2.0, metavar="SECONDS", help="for each such question; 2 where nothing is said")
     parser.add_argument("--out", metavar="FILE", help="the file that is written; standard output without it")
 
 

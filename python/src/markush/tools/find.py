@@ -18,8 +18,8 @@ from pathlib import Path
 from typing import IO, TYPE_CHECKING, Any, Dict, Iterator, List, Optional, Sequence, Set, Tuple
 
 from .account import ITEM, SCRIPT, Account, Named, account_of, named, named_store
-from .common import HITS, NONE, SOME_REFUSED, Compounds, Fault, is_store, left_of
-from .common import needs_folder, takes_rdkit_for, tell, written
+from .common import HITS, NONE, SOME_REFUSED, Compounds, Fault, counting, is_store, left_of
+from .common import needs_folder, takes_rdkit_for, tell, whole, written
 
 if TYPE_CHECKING:
     from ..claim import Claim
@@ -43,7 +43,7 @@ def add_words(parser: argparse.ArgumentParser) -> None:
     parser.add_argument("--title", metavar="TEXT", help="of a page: its title; the claim's where none is given")
     parser.add_argument("--name", default="", metavar="ITEM", help="of a page: the data item that names a compound")
     parser.add_argument("--data", action="append", default=[], metavar="ITEM", help="of a page: a data item that cards show")
-    parser.add_argument("--jobs", type=int, metavar="N", help="so many processes for files beyond a library's size")
+    parser.add_argument("--jobs", type=counting, metavar="N", help="so many processes for files beyond a library's size")
 
 
 def how_many(word: str) -> int:
@@ -54,7 +54,7 @@ def how_many(word: str) -> int:
     >>> how_many("20"), how_many("all") > 10**9
     (20, True)
     """
-    return sys.maxsize if word == "all" else int(word)
+    return sys.maxsize if word == "all" else whole(word)
 
 
 def takes_rdkit(args: argparse.Namespace) -> bool:

@@ -13,7 +13,7 @@ import os
 import sys
 from typing import Any, BinaryIO, Union, cast
 
-from .common import FAULT, HITS, SOME_REFUSED, Fault, is_smiles
+from .common import FAULT, HITS, SOME_REFUSED, Fault, counting, is_smiles, seconds
 
 PACKED = (b"\x1f\x8b", b"\xfd7zXZ")
 
@@ -25,8 +25,8 @@ def add_words(parser: argparse.ArgumentParser) -> None:
     parser.add_argument("--largest", action="store_true", help="keep the largest part of a salt alone")
     parser.add_argument("--neutral", action="store_true", help="draw acids that stand as anions with their hydrogen")
     parser.add_argument("--tautomer", choices=("canonical", "all"), help="one form of each compound, or a record for each form")
-    parser.add_argument("--seconds", type=float, default=20, metavar="N", help="the processor time for a record (20)")
-    parser.add_argument("--megabytes", type=int, default=4096, metavar="N", help="the memory of RDKit's process (4096)")
+    parser.add_argument("--seconds", type=seconds, default=20, metavar="N", help="the processor time for a record (20)")
+    parser.add_argument("--megabytes", type=counting, default=4096, metavar="N", help="the memory of RDKit's process (4096)")
 
 
 def takes_rdkit(_: argparse.Namespace) -> bool:

@@ -14,7 +14,7 @@ from dataclasses import dataclass
 from typing import Any, Dict, Iterable, List, Mapping, Tuple
 
 from .account import account_of, named
-from .common import HITS, NONE, Fault, open_bytes, text_of, written
+from .common import HITS, NONE, Fault, counting, open_bytes, text_of, written
 from .find import how_many, with_account
 
 HIT = re.compile(r"hit (\d+) choice((?: \d+)*) map((?: \d+)*)")
@@ -25,7 +25,7 @@ def add_words(parser: argparse.ArgumentParser) -> None:
     parser.add_argument("claim", metavar="CLAIM", help="the query file, or the list that it was drawn of")
     parser.add_argument("file", nargs="?", metavar="FILE", help="the SDfile of the records")
     parser.add_argument("--store", metavar="FILE", help="the store of the records")
-    parser.add_argument("--first", type=int, default=1, metavar="N", help="the number of the SDfile's first record")
+    parser.add_argument("--first", type=counting, default=1, metavar="N", help="the number of the SDfile's first record")
     parser.add_argument("--name", default="", metavar="ITEM", help="the data item that names a compound")
     parser.add_argument("--data", action="append", default=[], metavar="ITEM", help="a data item that cards show")
     parser.add_argument("--title", metavar="TEXT", help="the page's title; the claim's where none is given")

@@ -12,7 +12,7 @@ import concurrent.futures
 import csv
 
 from .account import Named, account_of, named
-from .common import HITS, NONE, SOME_REFUSED, Compounds, left_of, needs_folder, takes_rdkit_for, tell, written
+from .common import HITS, NONE, SOME_REFUSED, Compounds, counting, left_of, needs_folder, takes_rdkit_for, tell, written
 from .find import _is_list, cells, columns
 
 
@@ -20,7 +20,7 @@ def add_words(parser: argparse.ArgumentParser) -> None:
     """The words of the tool."""
     parser.add_argument("claim", metavar="CLAIM", help="an RGfile, a molfile or a list")
     parser.add_argument("files", nargs="+", metavar="FILE", help="an SDfile")
-    parser.add_argument("--jobs", type=int, metavar="N", help="so many blocks at a time; as many as there are processors")
+    parser.add_argument("--jobs", type=counting, metavar="N", help="so many blocks at a time; as many as there are processors")
     parser.add_argument("--count", action="store_true", help="write how many records and hits there are, and no hit")
     parser.add_argument("--out", metavar="FILE", help="the file that is written; standard output without it")
 

@@ -11,7 +11,7 @@ import re
 import sys
 from typing import BinaryIO, Iterator
 
-from .common import HITS, NONE, Fault, open_bytes
+from .common import HITS, NONE, Fault, counting, open_bytes
 
 SHOWN = re.compile(rb"record (\d+) (\d+)\n")
 
@@ -19,7 +19,7 @@ SHOWN = re.compile(rb"record (\d+) (\d+)\n")
 def add_words(parser: argparse.ArgumentParser) -> None:
     """The words of the tool."""
     parser.add_argument("store", nargs="?", metavar="STORE", help="the store whose records are written")
-    parser.add_argument("numbers", nargs="*", type=int, metavar="N", help="their numbers; all where none are given")
+    parser.add_argument("numbers", nargs="*", type=counting, metavar="N", help="their numbers; all where none are given")
 
 
 def shown_records(lines: BinaryIO) -> Iterator[bytes]:

@@ -13,7 +13,7 @@ import concurrent.futures
 import os
 from typing import List, Sequence, Tuple
 
-from .common import FAULT, HITS, SOME_REFUSED, Fault
+from .common import FAULT, HITS, SOME_REFUSED, Fault, counting
 
 
 def add_words(parser: argparse.ArgumentParser) -> None:
@@ -23,7 +23,7 @@ def add_words(parser: argparse.ArgumentParser) -> None:
     parser.add_argument("bad", metavar="BAD", help="where the others go")
     parser.add_argument("more", nargs="*", metavar="FILE GOOD BAD", help="further files, each with its own two")
     parser.add_argument("--explain", action="store_true", help="say in words why a record is refused")
-    parser.add_argument("--jobs", type=int, metavar="N", help="so many files at a time; as many as there are processors")
+    parser.add_argument("--jobs", type=counting, metavar="N", help="so many files at a time; as many as there are processors")
 
 
 def check_names(names: Sequence[Tuple[str, str, str]]) -> None:

@@ -12,13 +12,13 @@ import sys
 from itertools import islice
 from typing import Iterable, Iterator, List
 
-from .common import HITS, NONE, Fault, open_bytes, text_of
+from .common import HITS, NONE, Fault, open_bytes, text_of, whole
 
 
 def add_words(parser: argparse.ArgumentParser) -> None:
     """The words of the tool."""
     parser.add_argument("claim", nargs="?", metavar="CLAIM", help="an RGfile, a molfile or a list")
-    parser.add_argument("--limit", type=int, metavar="N", help="so many structures at the most")
+    parser.add_argument("--limit", type=whole, metavar="N", help="so many structures at the most")
     parser.add_argument("--start", metavar="P", help="begin with the first choice that isn't below P, as 1,0")
     parser.add_argument("--sdf", action="store_true", help="write them as the program does, as an SDfile, which takes no RDKit")
 
@@ -32,6 +32,11 @@ def takes_rdkit(args: argparse.Namespace) -> bool:
 
 def blocks(lines: Iterable[str]) -> Iterator[List[str]]:
     """The records of an answer of `enum`: the lines from `choice ..` to that before the separator.
+
+    Raises
+    ------
+    Fault
+        The answers end within one.
 
     Examples
     --------
@@ -47,6 +52,8 @@ def blocks(lines: Iterable[str]) -> Iterator[List[str]]:
             block = []
         elif block:
             block.append(line)
+    if block:
+        raise Fault(f"the answers end within the structure of '{block[0]}': were they cut off?")
 
 
 def padded(line: str) -> str:
@@ -66,7 +73,7 @@ def spelt(block: List[str]) -> str:
     Raises
     ------
     Fault
-        RDKit doesn't read it.
+        It is no table, or RDKit doesn't read it.
 
     Examples
     --------
@@ -79,7 +86,10 @@ def spelt(block: List[str]) -> str:
 
     RDLogger.DisableLog("rdApp.*")
     lines = list(block)
-    atoms = int(lines[3][:3])
+    counts = lines[3][:3] if len(lines) > 3 else ""
+    if not re.fullmatch(r" *[0-9]{1,3}", counts):
+        raise Fault(f"the structure of '{block[0]}' has no counts line, so it isn't as `enum` wrote it")
+    atoms = int(counts)
     symbols = [line[31:34].strip() for line in lines[4 : 4 + atoms]]
     # RDKit takes the hydrogen column for all the hydrogens of an atom
     lines[4 : 4 + atoms] = [line[:42] + "  0" + line[45:] for line in lines[4 : 4 + atoms]]

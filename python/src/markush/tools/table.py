@@ -21,6 +21,7 @@ from .common import HITS, NONE, SOME_REFUSED, Fault, needs_folder, open_bytes, t
 from .held import held
 
 ITEM = re.compile(r">.*<(.*)>")
+HIT = re.compile(r"hit ([0-9]+) choice((?: [0-9]+)*) map((?: [0-9]+)*)")
 
 
 def add_words(parser: argparse.ArgumentParser) -> None:
@@ -76,7 +77,7 @@ def items_of(lines: List[str]) -> Dict[str, str]:
 
 
 def _record(records: List[Tuple[str, Dict[str, str]]], number: str, path: str) -> Tuple[str, Dict[str, str]]:
-    if not number.isdigit() or not 1 <= int(number) <= len(records):
+    if not re.fullmatch(r"[0-9]{1,9}", number) or not 1 <= int(number) <= len(records):
         raise Fault(f"the answers have record {number}, and {path} has {len(records)}: is it the file that was loaded?")
     return records[int(number) - 1]
 
@@ -87,9 +88,11 @@ def hits_of_answers(lines: Iterable[str], path: str) -> int:
     print("record", "name", "choice", "map", sep="\t")
     for line in lines:
         if line.startswith("hit "):
-            front, found = line.split(" map")
-            _, number, _, *choice = front.split()
-            print(number, _record(records, number, path)[0], " ".join(choice), found.strip(), sep="\t")
+            found = HIT.fullmatch(line)
+            if not found:
+                raise Fault(f"the answers have the line {line[:60]!r}, which is no whole hit: were they cut off?")
+            number, choice, atoms = found.groups()
+            print(number, _record(records, number, path)[0], choice.strip(), atoms.strip(), sep="\t")
             count += 1
     return count
 

@@ -36,11 +36,17 @@ def takes_rdkit(args: argparse.Namespace) -> bool:
 def run(args: argparse.Namespace) -> int:
     """Take in, search, and tell."""
     from ..claim import Claim
+    from ..hits import check_name
     from ..library import Library
     from ..watch import keep, watch
 
     if args.update is None and not os.path.isfile(args.store):
         raise Fault(f"{args.store}: there is no such store; --update FILE makes it")
+    for name, _ in args.keep:
+        try:
+            check_name(name)
+        except ValueError as fault:
+            raise Fault(f"--keep {name}: {fault}") from None
     claims = [(name, Claim.read(path)) for name, path in args.keep]
     left = []
     with Library(args.store) as library:

@@ -8,7 +8,7 @@ from __future__ import annotations
 import argparse
 
 from .account import account_of, named
-from .common import HITS, NONE, SOME_REFUSED, Fault, needs_folder, takes_rdkit_for, tell, written
+from .common import HITS, NONE, SOME_REFUSED, Fault, counting, needs_folder, seconds, takes_rdkit_for, tell, written
 from .held import held
 
 
@@ -16,8 +16,8 @@ def add_words(parser: argparse.ArgumentParser) -> None:
     """The words of the tool."""
     parser.add_argument("claim", metavar="CLAIM", help="an RGfile, a molfile or a list")
     parser.add_argument("compounds", nargs="+", metavar="COMPOUNDS", help="SDfiles, lists of SMILES, or one store")
-    parser.add_argument("--record", type=int, action="append", default=[], metavar="N", help="of this record alone")
-    parser.add_argument("--timeout", type=float, default=2.0, metavar="SECONDS", help="for each compound; 2 where nothing is said")
+    parser.add_argument("--record", type=counting, action="append", default=[], metavar="N", help="of this record alone")
+    parser.add_argument("--timeout", type=seconds, default=2.0, metavar="SECONDS", help="for each compound; 2 where nothing is said")
     parser.add_argument("--out", metavar="FILE", help="the file that is written; standard output without it")
 
 
