@@ -261,6 +261,17 @@ def test_two_versions_side_by_side(client: Client) -> None:
     client.search("a", 2)
     found = client.ask("compare", name="a", before=1, after=2)
     assert found["gained"] and found["lost"] and all(row[2] for row in found["gained"] + found["lost"])
+    # what both versions hit isn't told as gained by the one that was searched after it came
+    client.load((ACIDS / "compounds.sdf").read_bytes(), "again.sdf")
+    client.until(lambda state: all(search["stale"] for search in state["searches"]))
+    client.ask("search/again", id=2)
+    client.ended(2)
+    assert "compounds changed since version 1 was searched" in client.ask("compare", name="a", before=1, after=2)["fault"]
+    client.ask("search/again", id=1)
+    client.ended(1)
+    twice = client.ask("compare", name="a", before=1, after=2)
+    assert [len(twice[kind]) for kind in ("gained", "lost")] == [2 * len(found[kind]) for kind in ("gained", "lost")]
+    assert twice["both"] == 2 * found["both"]
 
 
 def test_what_is_refused_is_named(client: Client) -> None:

@@ -121,6 +121,8 @@ class Claims:
                 found = [search for search in desk.searches.values() if search.version is version]
                 if not found or found[0].state != "ended":
                     raise MarkushError(f"version {version.number} isn't searched to its end yet; search it first")
+                if found[0].revision != desk.revision:
+                    raise MarkushError(f"compounds changed since version {version.number} was searched; search it again first")
                 searches.append(found[0])
         held = [dict(zip(search.records, search.names)) for search in searches]
 
