@@ -13,6 +13,7 @@ import re
 import signal
 import sqlite3
 import subprocess
+import threading
 import time
 from pathlib import Path
 from types import SimpleNamespace
@@ -25,6 +26,7 @@ from markush import Claim, Library
 from markush.page import _choice_data
 from markush.serve.choices import Choices, numbers
 from markush.serve.gate import TOKEN_HEADER
+from markush.serve.hits import Hits
 from markush.serve.opening import Serving
 from markush.serve.places import Place
 from markush.serve.searches import Search
@@ -402,6 +404,39 @@ def test_stop_and_go_on(acids: Client) -> None:
     assert acids.ended(number)["hits"] == whole["hits"]
     acids.ask("search/drop", id=number)
     assert number not in [search["id"] for search in acids.ask("state")["searches"]]
+
+
+def test_a_search_is_stopped_while_it_waits(acids: Client) -> None:
+    whole, goes_on = acids.search("acids"), threading.Event()
+    acids.ask("claim/keep", name="b", text=(ACIDS / "claim.rgf").read_text())
+    acids.serving.bench.driver.do("something else is done", lambda library: goes_on.wait(60))
+    number = acids.ask("search", name="b", version=1)["id"]
+    acids.ask("search/again", id=whole["id"])
+    for each in (number, whole["id"]):
+        acids.ask("search/stop", id=each)
+    goes_on.set()
+    told = [acids.ended(each) for each in (number, whole["id"])]
+    # what was to be searched anew has its hits until it goes on
+    assert [(each["state"], each["hits"], each["run"]) for each in told] == [("stopped", 0, 0), ("stopped", whole["hits"], 0)]
+    for each in (number, whole["id"]):
+        acids.ask("search/on", id=each)
+    told = [acids.ended(each) for each in (number, whole["id"])]
+    assert [(each["state"], each["hits"], each["run"]) for each in told] == [("ended", whole["hits"], 0), ("ended", whole["hits"], 1)]
+    assert told[1]["changes"] == {"new": 0, "lost": 0, "changed": 0}
+
+
+def test_hits_go_while_they_are_asked_for(acids: Client, monkeypatch: pytest.MonkeyPatch) -> None:
+    """A search begins anew within a request of another tab."""
+    told = acids.search("acids")
+    search, card, choices = acids.serving.bench.desk.searches[told["id"]], Hits._card, Choices.told
+    monkeypatch.setattr(Hits, "_card", lambda self, search, at, end: (search._begin() if at == 1 else None, card(self, search, at, end))[1])
+    assert acids.ask("cards", id=told["id"], places=[0, 1, 2]) == {"run": 1, "cards": []}
+    acids.ask("search/again", id=told["id"])
+    assert acids.ended(told["id"])["hits"] == told["hits"]
+    run = search.run
+    monkeypatch.setattr(Choices, "told", lambda self, start, most: (search._begin(), choices(self, start, most))[1])
+    found = acids.ask("hits", id=told["id"], **{"from": 0}, choices=0)
+    assert (found["run"], found["records"], found["hits"], found["choices"], found["isMore"]) == (run, [], [], [], False)
 
 
 def test_a_search_goes_on_within_a_record(program: Path, tmp_path: Path, monkeypatch: pytest.MonkeyPatch) -> None:
