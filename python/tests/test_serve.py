@@ -202,6 +202,21 @@ def test_no_cell_of_a_table_is_a_formula(client: Client) -> None:
     assert not [cell for row in [head, *rows] for cell in row if cell[:1] in ("=", "+", "-", "@")]
 
 
+def test_items_of_an_sdfile_stay_apart(client: Client) -> None:
+    """A last item that no empty line ends doesn't take in those that are written behind it, of which RDKit is asked."""
+    from rdkit import Chem
+
+    atoms = "\n\n\n  2  1  0     0  0            999 V2000\n    0.0000    0.0000    0.0000 C   0  0\n    1.4000    0.0000    0.0000 F   0  0\n  1  2  1  0\nM  END\n"
+    tails = ["", "> <ID>\nseven\n\n", "> <ID>\nseven\n", "> <ID>\nseven"]
+    assert client.load("".join(f"r{atoms}{tail}{'' if tail[-1:] in ('', chr(10)) else chr(10)}$$$$\n" for tail in tails).encode(), "a.sdf")["kept"] == 4
+    client.ask("claim/keep", name="a", text="root C[R1]\nR1 *F\n")
+    written = client.export(id=client.search("a")["id"], kind="sdf")
+    supplier = Chem.SDMolSupplier()
+    supplier.SetData(written.decode())
+    data = [mol.GetPropsAsDict() for mol in supplier]
+    assert [(held.get("ID"), held["markush record"], held["markush verdict"]) for held in data] == [(None if n == 1 else "seven", n, "open") for n in (1, 2, 3, 4)]
+
+
 @pytest.mark.parametrize("source", ["store", "file"])
 def test_report_makes_the_json_and_the_page_anew(program: Path, tmp_path: Path, source: str) -> None:
     compounds = tmp_path / "compounds.sdf"
