@@ -153,6 +153,23 @@ def test_a_fault_is_told_at_its_line(client: Client, text: str, line: Optional[i
     assert found["line"] == line and words in found["fault"] and "root:" not in found["fault"]
 
 
+def test_a_fault_that_the_program_finds_is_told_at_its_line_too(client: Client) -> None:
+    lines = (ACIDS / "claim.rgf").read_text().split("\n")
+    at = next(at for at, line in enumerate(lines) if " R# " in line)
+    lines[at] = lines[at].replace(" R# ", " Xx ")
+    for path in ("claim/read", "claim/keep"):
+        found = client.ask(path, name="a", text="\n".join(lines))
+        assert found["line"] == at + 1 and "unknown symbol" in found["fault"], path
+    assert not client.ask("state")["claims"]
+
+
+def test_a_claim_is_read_while_a_command_takes_long(acids: Client) -> None:
+    goes_on = threading.Event()
+    acids.serving.bench.driver.do("something else is done", lambda library: goes_on.wait(60))
+    assert acids.ask("claim/read", text=LIST)["codes"] == "3" and acids.ask("claim/keep", name="b", text=LIST)["version"] == 1
+    goes_on.set()
+
+
 def test_what_the_program_refuses_isnt_kept(client: Client) -> None:
     many = "root C" + "".join(f"C([R{n}])" for n in range(1, 3)) + "\n" + "".join(f"R{n} *{'C' * 300}\n" for n in range(1, 3))
     found = client.ask("claim/keep", name="large", text=many)
