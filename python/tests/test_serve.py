@@ -400,6 +400,22 @@ def test_a_port_that_is_taken(client: Client) -> None:
     assert ran.returncode == 2 and f"port {client.serving.server.port} is another program's" in ran.stderr and not ran.stdout
 
 
+@pytest.mark.parametrize(
+    "words, told",
+    [
+        (["--port", "80"], "name another port"),
+        (["--host", "bench.example:80"], "name another port"),
+        (["--host", "bench.example"], "written as NAME:PORT"),
+        (["--port", "70000"], "from 0 to 65535"),
+    ],
+)
+def test_ports_and_hosts_that_no_page_is_reached_by(words: List[str], told: str) -> None:
+    ran = subprocess.run(
+        [TOP / "bin" / "markush-tools", "serve", "--no-browser", *words], capture_output=True, text=True, env={**os.environ, "PATH": f"/usr/bin:{os.environ['PATH']}"}, timeout=60
+    )
+    assert ran.returncode == 2 and told in ran.stderr and not ran.stdout
+
+
 def test_where_there_is_no_rdkit(client: Client, monkeypatch: pytest.MonkeyPatch, tmp_path: Path) -> None:
     """What is drawn is taken, and of the rest it is said what to install."""
     (tmp_path / "rdkit").mkdir()
