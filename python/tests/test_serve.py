@@ -13,6 +13,7 @@ import re
 import signal
 import sqlite3
 import subprocess
+import threading
 import time
 from pathlib import Path
 from types import SimpleNamespace
@@ -25,6 +26,7 @@ from markush import Claim, Library
 from markush.page import _choice_data
 from markush.serve.choices import Choices, numbers
 from markush.serve.gate import TOKEN_HEADER
+from markush.serve.hits import Hits
 from markush.serve.opening import Serving
 from markush.serve.places import Place
 from markush.serve.searches import Search
@@ -151,6 +153,23 @@ def test_a_fault_is_told_at_its_line(client: Client, text: str, line: Optional[i
     assert found["line"] == line and words in found["fault"] and "root:" not in found["fault"]
 
 
+def test_a_fault_that_the_program_finds_is_told_at_its_line_too(client: Client) -> None:
+    lines = (ACIDS / "claim.rgf").read_text().split("\n")
+    at = next(at for at, line in enumerate(lines) if " R# " in line)
+    lines[at] = lines[at].replace(" R# ", " Xx ")
+    for path in ("claim/read", "claim/keep"):
+        found = client.ask(path, name="a", text="\n".join(lines))
+        assert found["line"] == at + 1 and "unknown symbol" in found["fault"], path
+    assert not client.ask("state")["claims"]
+
+
+def test_a_claim_is_read_while_a_command_takes_long(acids: Client) -> None:
+    goes_on = threading.Event()
+    acids.serving.bench.driver.do("something else is done", lambda library: goes_on.wait(60))
+    assert acids.ask("claim/read", text=LIST)["codes"] == "3" and acids.ask("claim/keep", name="b", text=LIST)["version"] == 1
+    goes_on.set()
+
+
 def test_what_the_program_refuses_isnt_kept(client: Client) -> None:
     many = "root C" + "".join(f"C([R{n}])" for n in range(1, 3)) + "\n" + "".join(f"R{n} *{'C' * 300}\n" for n in range(1, 3))
     found = client.ask("claim/keep", name="large", text=many)
@@ -198,6 +217,21 @@ def test_no_cell_of_a_table_is_a_formula(client: Client) -> None:
     assert len(rows) == 5 and head[-5:] == [*("'" + sign for sign in signs[:4]), "plain"]
     assert [row[1] for row in rows] == head[-5:] and rows[0][3] == "'@note"
     assert not [cell for row in [head, *rows] for cell in row if cell[:1] in ("=", "+", "-", "@")]
+
+
+def test_items_of_an_sdfile_stay_apart(client: Client) -> None:
+    """A last item that no empty line ends doesn't take in those that are written behind it, of which RDKit is asked."""
+    from rdkit import Chem
+
+    atoms = "\n\n\n  2  1  0     0  0            999 V2000\n    0.0000    0.0000    0.0000 C   0  0\n    1.4000    0.0000    0.0000 F   0  0\n  1  2  1  0\nM  END\n"
+    tails = ["", "> <ID>\nseven\n\n", "> <ID>\nseven\n", "> <ID>\nseven"]
+    assert client.load("".join(f"r{atoms}{tail}{'' if tail[-1:] in ('', chr(10)) else chr(10)}$$$$\n" for tail in tails).encode(), "a.sdf")["kept"] == 4
+    client.ask("claim/keep", name="a", text="root C[R1]\nR1 *F\n")
+    written = client.export(id=client.search("a")["id"], kind="sdf")
+    supplier = Chem.SDMolSupplier()
+    supplier.SetData(written.decode())
+    data = [mol.GetPropsAsDict() for mol in supplier]
+    assert [(held.get("ID"), held["markush record"], held["markush verdict"]) for held in data] == [(None if n == 1 else "seven", n, "open") for n in (1, 2, 3, 4)]
 
 
 @pytest.mark.parametrize("source", ["store", "file"])
@@ -261,6 +295,17 @@ def test_two_versions_side_by_side(client: Client) -> None:
     client.search("a", 2)
     found = client.ask("compare", name="a", before=1, after=2)
     assert found["gained"] and found["lost"] and all(row[2] for row in found["gained"] + found["lost"])
+    # what both versions hit isn't told as gained by the one that was searched after it came
+    client.load((ACIDS / "compounds.sdf").read_bytes(), "again.sdf")
+    client.until(lambda state: all(search["stale"] for search in state["searches"]))
+    client.ask("search/again", id=2)
+    client.ended(2)
+    assert "compounds changed since version 1 was searched" in client.ask("compare", name="a", before=1, after=2)["fault"]
+    client.ask("search/again", id=1)
+    client.ended(1)
+    twice = client.ask("compare", name="a", before=1, after=2)
+    assert [len(twice[kind]) for kind in ("gained", "lost")] == [2 * len(found[kind]) for kind in ("gained", "lost")]
+    assert twice["both"] == 2 * found["both"]
 
 
 def test_what_is_refused_is_named(client: Client) -> None:
@@ -355,6 +400,22 @@ def test_a_port_that_is_taken(client: Client) -> None:
     assert ran.returncode == 2 and f"port {client.serving.server.port} is another program's" in ran.stderr and not ran.stdout
 
 
+@pytest.mark.parametrize(
+    "words, told",
+    [
+        (["--port", "80"], "name another port"),
+        (["--host", "bench.example:80"], "name another port"),
+        (["--host", "bench.example"], "written as NAME:PORT"),
+        (["--port", "70000"], "from 0 to 65535"),
+    ],
+)
+def test_ports_and_hosts_that_no_page_is_reached_by(words: List[str], told: str) -> None:
+    ran = subprocess.run(
+        [TOP / "bin" / "markush-tools", "serve", "--no-browser", *words], capture_output=True, text=True, env={**os.environ, "PATH": f"/usr/bin:{os.environ['PATH']}"}, timeout=60
+    )
+    assert ran.returncode == 2 and told in ran.stderr and not ran.stdout
+
+
 def test_where_there_is_no_rdkit(client: Client, monkeypatch: pytest.MonkeyPatch, tmp_path: Path) -> None:
     """What is drawn is taken, and of the rest it is said what to install."""
     (tmp_path / "rdkit").mkdir()
@@ -391,6 +452,39 @@ def test_stop_and_go_on(acids: Client) -> None:
     assert acids.ended(number)["hits"] == whole["hits"]
     acids.ask("search/drop", id=number)
     assert number not in [search["id"] for search in acids.ask("state")["searches"]]
+
+
+def test_a_search_is_stopped_while_it_waits(acids: Client) -> None:
+    whole, goes_on = acids.search("acids"), threading.Event()
+    acids.ask("claim/keep", name="b", text=(ACIDS / "claim.rgf").read_text())
+    acids.serving.bench.driver.do("something else is done", lambda library: goes_on.wait(60))
+    number = acids.ask("search", name="b", version=1)["id"]
+    acids.ask("search/again", id=whole["id"])
+    for each in (number, whole["id"]):
+        acids.ask("search/stop", id=each)
+    goes_on.set()
+    told = [acids.ended(each) for each in (number, whole["id"])]
+    # what was to be searched anew has its hits until it goes on
+    assert [(each["state"], each["hits"], each["run"]) for each in told] == [("stopped", 0, 0), ("stopped", whole["hits"], 0)]
+    for each in (number, whole["id"]):
+        acids.ask("search/on", id=each)
+    told = [acids.ended(each) for each in (number, whole["id"])]
+    assert [(each["state"], each["hits"], each["run"]) for each in told] == [("ended", whole["hits"], 0), ("ended", whole["hits"], 1)]
+    assert told[1]["changes"] == {"new": 0, "lost": 0, "changed": 0}
+
+
+def test_hits_go_while_they_are_asked_for(acids: Client, monkeypatch: pytest.MonkeyPatch) -> None:
+    """A search begins anew within a request of another tab."""
+    told = acids.search("acids")
+    search, card, choices = acids.serving.bench.desk.searches[told["id"]], Hits._card, Choices.told
+    monkeypatch.setattr(Hits, "_card", lambda self, search, at, end: (search._begin() if at == 1 else None, card(self, search, at, end))[1])
+    assert acids.ask("cards", id=told["id"], places=[0, 1, 2]) == {"run": 1, "cards": []}
+    acids.ask("search/again", id=told["id"])
+    assert acids.ended(told["id"])["hits"] == told["hits"]
+    run = search.run
+    monkeypatch.setattr(Choices, "told", lambda self, start, most: (search._begin(), choices(self, start, most))[1])
+    found = acids.ask("hits", id=told["id"], **{"from": 0}, choices=0)
+    assert (found["run"], found["records"], found["hits"], found["choices"], found["isMore"]) == (run, [], [], [], False)
 
 
 def test_a_search_goes_on_within_a_record(program: Path, tmp_path: Path, monkeypatch: pytest.MonkeyPatch) -> None:

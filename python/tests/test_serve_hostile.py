@@ -9,7 +9,7 @@ import socket
 import threading
 import time
 from pathlib import Path
-from typing import Dict, Iterator, List, Optional, Tuple
+from typing import Callable, Dict, Iterator, List, Optional, Tuple
 from urllib.parse import quote
 
 import pytest
@@ -324,6 +324,20 @@ def test_a_bomb_is_refused(serving: Serving) -> None:
         unpacked(large, 1 << 20)
     for broken in (b"\x1f\x8b\x08\0\0\0\0\0", lzma.compress(b"abc")[:-5], gzip.compress(b"abc")[:-3] + b"x", b"\xfd7zXZ\0" + b"\xff" * 50):
         assert "can't be unpacked" in client.load(broken, "a.sdf")["fault"]
+
+
+@pytest.mark.parametrize("pack", [gzip.compress, lzma.compress])
+def test_very_many_packed_files_in_one(pack: Callable[[bytes], bytes]) -> None:
+    began, empty = time.process_time(), pack(b"")
+    assert unpacked(empty * ((4 << 20) // len(empty))) == b""
+    assert time.process_time() - began < 10  # what is behind each isn't copied anew
+    parts = [b"", b"a" * 600_000, bytes(range(256)) * 700, b"b"]
+    for between in (b"", bytes(4), bytes(8192)):
+        held = b"".join(pack(part) + between for part in parts)
+        assert unpacked(held) == b"".join(parts)
+        for broken in (held.rstrip(b"\0")[:-5], pack(b"a") + between + b"xyz"):
+            with pytest.raises(Refused, match="can't be unpacked"):
+                unpacked(broken)
 
 
 def test_rdkits_process_has_limits() -> None:

@@ -260,6 +260,16 @@ def test_an_sdfile_of_hits_loads(program: Path, tmp_path: Path) -> None:
     assert ran.returncode == 0 and len({row[0] for row in rows(ran.stdout.decode())[1:]}) == 8
 
 
+def test_items_of_an_sdfile_of_hits_stay_apart(program: Path, tmp_path: Path) -> None:
+    from rdkit import Chem
+
+    open_item, out = tmp_path / "open.sdf", tmp_path / "hits.sdf"
+    open_item.write_text(Path(COMPOUNDS).read_text().replace("\n\n$$$$", "\n$$$$"))
+    assert tools(["find", CLAIM, open_item, "--out", out]).returncode == 0
+    data = [mol.GetPropsAsDict() for mol in Chem.SDMolSupplier(str(out))]
+    assert len(data) == 8 and all("\n" not in held["formula"] and "markush record" in held for held in data)
+
+
 def test_a_table_of_a_claim_takes_the_standard_library_alone(tmp_path: Path) -> None:
     (tmp_path / "pandas.py").write_text("raise ImportError('there is none')\n")
     ran = tools(["table", CLAIM, COMPOUNDS], PYTHONPATH=f"{tmp_path}:{TOP}/python/src")

@@ -26,7 +26,10 @@ from .answers import read_loaded, read_refusal
 from .errors import OutOfMemory, ProgramEnded, Refused
 from .refusals import record_fault
 
-__all__ = ["Judge", "RecordText", "Split", "bytes_read", "create", "items_of", "judge", "open_bytes", "open_text", "read_records", "split", "split_all"]
+__all__ = [
+    "Judge", "RecordText", "Split", "bytes_read", "create", "gap_before_items", "items_of", "judge", "open_bytes", "open_text", "read_records",
+    "split", "split_all",
+]
 
 PathLike = Union[str, "os.PathLike[str]"]
 
@@ -116,6 +119,17 @@ def items_of(lines: Iterable[str]) -> dict[str, str]:
         else:
             held = None
     return {name: "\n".join(value) for name, value in items.items()}
+
+
+def gap_before_items(text: str) -> str:
+    """What goes between a record's text and a further data item: the end of the line, and of an item that is open.
+
+    >>> gap_before_items("M  END\\n"), gap_before_items("M  END\\n> <ID>\\n7\\n\\n"), gap_before_items("M  END\\n> <ID>\\n7\\n")
+    ('', '', '\\n')
+    """
+    gap = "" if text.endswith("\n") else "\n"
+    last = (text + gap)[:-1].rpartition("\n")[2]
+    return gap if not last.strip() or last.startswith("M  END") else gap + "\n"
 
 
 # ---- opening

@@ -6,6 +6,8 @@ if (/^#[0-9a-f]{32}$/.test(location.hash)) {
   sessionStorage.setItem("token", location.hash.slice(1));
   history.replaceState(null, "", location.pathname);
 }
+/* The link of another start, opened where this page is: it differs behind `#` alone, for which no browser loads a page. */
+addEventListener("hashchange", () => { if (/^#[0-9a-f]{32}$/.test(location.hash)) location.reload(); });
 const TOKEN = sessionStorage.getItem("token") || "";
 const HEADS = { "X-Markush-Token": TOKEN, "Content-Type": "application/json" };
 class Fault extends Error { constructor(words, line) { super(words); this.line = line; } }
@@ -258,12 +260,18 @@ async function searched(id, tell) {
 }
 async function compare() {
   const before = +$("compare-before").value, after = +$("compare-after").value, tell = (words) => { $("compare-told").textContent = words; };
+  tell("the versions are compared ...");
   for (const [which, version] of [["before", before], ["after", after]]) {
     const found = await ask("claim", { name: compared, version });
     $(which + "-title").textContent = `Version ${version}, ${found.date}`;
     $(which + "-source").textContent = found.source;
   }
-  for (const version of [before, after]) await searched((await ask("search", { name: compared, version })).id, tell);
+  for (const version of [before, after]) {
+    const { id } = await ask("search", { name: compared, version });
+    await searched(id, tell);
+    // compounds that came or went in between are no doing of the claim's
+    if (state.searches.find((s) => s.id === id).stale) { await ask("search/again", { id }); await searched(id, tell); }
+  }
   const found = await job("compare", { name: compared, before, after }, tell);
   tell(`${plural(found.both, "compound")} hit by both, ${said(found.gained.length)} gained, ${said(found.lost.length)} lost`);
   const lists = [["gained", `Gained by version ${after}`, `why version ${before} didn't hit it`], ["lost", `Lost by version ${after}`, `why version ${after} doesn't hit it`]];

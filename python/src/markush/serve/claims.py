@@ -66,6 +66,9 @@ class Claims:
         found = self._views.get(source)
         if found is None:
             found = self._desk.quick.ask("claim", text=source)
+            # the program says whether it is a claim, in a process of its own, so that it waits for no search
+            with Library(program=self._desk.program) as library:
+                _judged(library, _claim_of(found))
             with self._lock:
                 if len(self._views) >= MOST_VIEWS:
                     self._views.clear()
@@ -81,9 +84,6 @@ class Claims:
 
         def deed(_: Tell) -> Dict[str, Any]:
             view = self._view(source)
-            names = {(label, number): called for label, number, called in view["names"]}
-            claim = Claim(view["rgfile"], names, view["title"])
-            desk.driver.do("a claim is judged", lambda library: _judged(library, claim)).result()
             with desk.lock:
                 versions = desk.versions.setdefault(name, [])
                 if not versions or versions[-1].source != source:
@@ -121,6 +121,8 @@ class Claims:
                 found = [search for search in desk.searches.values() if search.version is version]
                 if not found or found[0].state != "ended":
                     raise MarkushError(f"version {version.number} isn't searched to its end yet; search it first")
+                if found[0].revision != desk.revision:
+                    raise MarkushError(f"compounds changed since version {version.number} was searched; search it again first")
                 searches.append(found[0])
         held = [dict(zip(search.records, search.names)) for search in searches]
 
@@ -142,6 +144,11 @@ class Claims:
             return found
 
         return desk.tickets.later(deed)
+
+
+def _claim_of(view: Dict[str, Any]) -> Claim:
+    names = {(label, number): called for label, number, called in view["names"]}
+    return Claim(view["rgfile"], names, view["title"])
 
 
 def _judged(library: Library, claim: Claim) -> None:

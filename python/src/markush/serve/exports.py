@@ -12,7 +12,7 @@ from ..claim import is_query_file
 from ..errors import MarkushError
 from ..hits import Hit
 from ..library import Record
-from ..records import items_of
+from ..records import gap_before_items, items_of
 from .desk import Desk
 from .searches import Search
 from .server import Raw
@@ -128,7 +128,7 @@ def _sdf(search: Search, places: Sequence[int], desk: Desk) -> Iterator[bytes]:
         more = [("markush record", str(search.records[at])), ("markush verdict", verdict), ("markush note", _line(note))]
         choices = "\n".join(search.choices.written[place] for place in search.held[at][::2])
         more.append(("markush choices", choices))
-        yield text + b"".join(f"> <{name}>\n{value}\n\n".encode() for name, value in more if value) + b"$$$$\n"
+        yield text + gap_before_items(decode(text)).encode() + b"".join(f"> <{name}>\n{value}\n\n".encode() for name, value in more if value) + b"$$$$\n"
 
 
 def _line(value: str) -> str:

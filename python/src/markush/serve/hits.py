@@ -5,7 +5,7 @@ import hashlib
 import json
 import threading
 import time
-from typing import Any, Callable, Dict, Iterator, Mapping
+from typing import Any, Callable, Dict, Iterator, List, Mapping, Optional, Sequence
 
 from ..answers import decode
 from ..errors import MarkushError
@@ -137,31 +137,31 @@ class Hits:
         asked = read_json(body)
         search = self._asked(asked)
         run, start, known = search.run, max(0, whole(asked, "from")), max(0, whole(asked, "choices"))
-        end = min(len(search.records), start + MOST_HITS)
-        choices = search.choices.told(known, MOST_HITS)
+        records, names, shas, all_held, all_choices = search.records, search.names, search.shas, search.held, search.choices
+        end = min(len(records), start + MOST_HITS) if search.run == run else start
+        choices = all_choices.told(known, MOST_HITS)
         # a record is told once all its choices are
         far = known + len(choices)
         held = []
         for at in range(start, end):
-            of_record = list(search.held[at])
+            of_record = list(all_held[at])
             if max(of_record[::2]) >= far:
                 end = at
                 break
             held.append(of_record)
         if search.run != run:
             end, held, choices = start, [], []
-        verdicts = self._desk.verdicts
         found = {
             "run": run,
             "from": start,
-            "count": len(search.records),
-            "records": search.records[start:end],
-            "names": search.names[start:end],
-            "shas": [sha[:16] for sha in search.shas[start:end]],
+            "count": len(records),
+            "records": records[start:end],
+            "names": names[start:end],
+            "shas": [sha[:16] for sha in shas[start:end]],
             "hits": held,
-            "facets": search.choices.facets.found if start == 0 else None,
-            "isMore": search.run == run and end < len(search.records),
-            "verdicts": [[at, *verdicts[search.shas[at]]] for at in range(start, end) if search.shas[at] in verdicts],
+            "facets": all_choices.facets.found if start == 0 else None,
+            "isMore": search.run == run and end < len(records),
+            "verdicts": self._verdicts_on(shas[start:end], start),
         }
         front = json.dumps(found, separators=(",", ":"))[:-1]
         return Raw(f'{front},"choices":[{",".join(choices)}]}}'.encode("ascii"), "application/json")
@@ -170,11 +170,15 @@ class Hits:
         """Pictures, maps and the choices' graphs of some records that are hit; null where one isn't there yet."""
         asked = read_json(body)
         search = self._asked(asked)
-        places = [at for at in many(asked, "places") if isinstance(at, int) and 0 <= at < len(search.records)][:MOST_CARDS]
-        cards, end = [], time.thread_time() + SOON
-        for at in places:
-            cards.append(self._card(search, at, end) if time.thread_time() < end else None)
-        return {"run": search.run, "cards": cards}
+        run, cards, end = search.run, [], time.thread_time() + SOON
+        try:
+            places = [at for at in many(asked, "places") if isinstance(at, int) and 0 <= at < len(search.records)][:MOST_CARDS]
+            for at in places:
+                cards.append(self._card(search, at, end) if time.thread_time() < end else None)
+        except IndexError:  # the hits go where the search begins anew
+            if search.run == run:
+                raise
+        return {"run": run, "cards": cards} if search.run == run else {"run": search.run, "cards": []}
 
     def _card(self, search: Search, at: int, end: float) -> Any:
         number, sha, desk, graphs = search.records[at], search.shas[at], self._desk, []
@@ -208,7 +212,7 @@ class Hits:
         """A data item of all records that are hit."""
         asked = read_json(body)
         search, item = self._asked(asked), text(asked, "item")
-        numbers, run = list(search.records), search.run
+        run, numbers = search.run, list(search.records)
 
         def deed(_: Tell) -> Dict[str, Any]:
             held = {record.number: record.data.get(item, "") for record in self._desk.records(numbers)}
@@ -223,9 +227,10 @@ class Hits:
         asked, desk = read_json(body), self._desk
         kept, search, at = desk.keeper(), self._asked(asked), whole(asked, "place")
         verdict, note = text(asked, "verdict"), text(asked, "note")[:MOST_NOTE]
-        if verdict not in VERDICTS or not 0 <= at < len(search.records):
+        shas = search.shas
+        if verdict not in VERDICTS or not 0 <= at < len(shas):
             raise MarkushError("a verdict is relevant, not or open, of a record that is hit")
-        sha = search.shas[at]
+        sha = shas[at]
         if sha[:16] != text(asked, "sha"):
             raise MarkushError("the hits are others by now; look at the card again")
         # the file has the last of two that come at once, as the memory has; others don't wait for the file
@@ -241,10 +246,11 @@ class Hits:
 
     def verdicts(self, body: bytes, words: str) -> Dict[str, Any]:
         """All verdicts on what a search has found."""
-        search, verdicts = self._asked(read_json(body)), self._desk.verdicts
-        if not verdicts:
-            return {"verdicts": []}
-        return {"verdicts": [[at, *verdicts[sha]] for at, sha in enumerate(list(search.shas)) if sha in verdicts]}
+        return {"verdicts": self._verdicts_on(list(self._asked(read_json(body)).shas), 0)}
+
+    def _verdicts_on(self, shas: Sequence[str], start: int) -> List[List[Any]]:
+        """The verdicts on some records, of which the first has this place; another request may take one out meanwhile."""
+        return [[at, *found] for at, found in enumerate(map(self._desk.verdicts.get, shas), start) if found is not None]
 
     # ---- files to hand on
 
@@ -258,4 +264,17 @@ class Hits:
             chosen = list(range(count))
         else:
             chosen = sorted({at for at in many(asked, "places") if isinstance(at, int) and 0 <= at < count})
-        return desk.tickets.later(lambda tell: export(kind, search, chosen, desk, tell))
+        run = search.run
+
+        def deed(tell: Tell) -> Raw:
+            found: Optional[Raw] = None
+            try:
+                found = export(kind, search, chosen, desk, tell)
+            except IndexError:
+                if search.run == run:
+                    raise
+            if found is None or search.run != run:
+                raise MarkushError("the search was begun anew meanwhile; write its hits once it's done")
+            return found
+
+        return desk.tickets.later(deed)

@@ -48,6 +48,7 @@ class Search:
         self.run = 0  # rises where it begins anew, so that a page forgets what it had
         self.wants_stop = False
         self.changes: Optional[Dict[str, List[List[Any]]]] = None
+        self._is_anew = False  # the next run begins with nothing
         self._before: Optional[Dict[Tuple[int, str], str]] = None
         self._cursor: Optional[int] = None
         self._kept: Optional[KeptClaim] = None
@@ -148,8 +149,12 @@ class Search:
     # ---- the search itself, in the driver's thread
 
     def begin_anew(self) -> None:
-        """Have the next run begin with nothing, and compare with what there is now."""
-        if self.state == "ended" or self._before is None:
+        """Have the next run begin with nothing, and compare with what there is now; a request doesn't wait for that."""
+        self._is_anew = True
+
+    def _begin(self) -> None:
+        self._is_anew = False
+        if self._before is None:
             self._before = {
                 (record, self.choices.written[place]): sha
                 for record, sha, held in zip(self.records, self.shas, self.held)
@@ -157,15 +162,18 @@ class Search:
             }
             self._names_before = dict(zip(self.records, self.names))
         self._drop()
-        self._clear()
+        # who reads the lists looks first and last at the run, so it rises before they go
         self.run += 1
+        self._clear()
         self.done, self.changes = 0, None
 
     def steps(
         self, library: Library, revision: Callable[[], int], kept: Callable[["Search"], None], words: Callable[[Exception], str] = str
     ) -> Iterator[None]:
         """Search on, a command a step, until there is no more or a stop is wanted; `words` says what a fault is."""
-        self.state, self.fault, self.wants_stop = "running", "", False
+        self.state, self.fault = "running", ""
+        if self._is_anew and not self.wants_stop:
+            self._begin()
         if self._cursor is None and (not self.records or self.revision == -1):
             self.revision = revision()
         within = False

@@ -311,6 +311,8 @@ def write_json(out: IO[str], found: Found, account: Account) -> None:
 
 def write_sdfile(out: IO[str], found: Found, account: Account) -> None:
     """Each record that is hit once, with its choices, and the account in the first."""
+    from ..records import gap_before_items
+
     choices: Dict[int, List[str]] = {}
     texts: Dict[int, str] = {}
     for _, hit in found.hits:
@@ -318,7 +320,7 @@ def write_sdfile(out: IO[str], found: Found, account: Account) -> None:
         texts.setdefault(hit.record, hit.text)
     account_item = f"> <{ITEM}>\n{account.json()}\n\n"
     for number, text in texts.items():
-        out.write(text if text.endswith("\n") else text + "\n")
+        out.write(text + gap_before_items(text))
         out.write(f"> <markush record>\n{number}\n\n> <markush choices>\n" + "\n".join(choices[number]) + f"\n\n{account_item}$$$$\n")
         account_item = ""
 

@@ -40,6 +40,8 @@ def run(args: argparse.Namespace) -> int:
         name, colon, port = host.rpartition(":")
         if not (name and colon and port.isdigit()) or "/" in host:
             raise Fault(f"--host {host}: a host is written as NAME:PORT, as localhost:9000")
+    if args.port == 80 or any(int(host.rpartition(":")[2]) == 80 for host in args.host):
+        raise Fault("browsers leave port 80 out of the name of a host, which has to have it here; name another port")
     try:
         go_on_with_rdkit(args.words)
     except Fault as fault:
@@ -51,7 +53,7 @@ def run(args: argparse.Namespace) -> int:
     signal.signal(signal.SIGTERM, _interrupt)
     bodies = [(path, Path(path).read_bytes()) for path in args.compounds]
     store = None if args.store is None else Path(os.path.abspath(args.store))
-    with _served(store, args.port, args.host) as serving:
+    with _served(store, args.port, [host.lower() for host in args.host]) as serving:  # as a browser writes them
         print(f"Open {serving.link}", flush=True)
         print("Whoever has this link may do all that the page does. Ctrl-C ends the server.", flush=True)
         driver = serving.bench.driver
