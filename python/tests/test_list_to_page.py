@@ -140,3 +140,45 @@ def test_notes_of_a_list_are_lines_for_people(folder: Path) -> None:
     assert ran.returncode == 0 and len(told) == 2
     assert told[0] == "markush-tools draw: noted.txt: line 1: atom 4 `[C@H]` is taken without `@`: stereochemistry isn't asked for"
     assert told[1].startswith("markush-tools draw: noted.txt: line 1: atom 2 `[*:2]` is a site of R2; a link of up to 2 any atoms is written")
+
+
+@pytest.mark.parametrize("words", [[], ["--name", "CODE", "--data", "CODE"]], ids=["by the first line", "by a data item"])
+def test_a_page_of_a_store_has_no_old_name_after_replace(folder: Path, command_program: Path, words: List[str]) -> None:
+    """Neither of a search before the replacement nor of one after it, be the record hit or not, whoever replaced it."""
+
+    def run(*lines: str) -> str:
+        command = [str(command_program), "--store", "held.db"]
+        return subprocess.run(command, input="\n".join([*lines, ""]), capture_output=True, text=True, cwd=folder, check=False).stdout
+
+    def page(name: str, answers: str) -> Dict[str, Any]:
+        command = [sys.executable, "-m", "markush.tools", "page", "claim.rgf", "--store", "held.db", *words, "--out", name]
+        environment = {**os.environ, "PYTHONPATH": str(SOURCES), "PYTHONDONTWRITEBYTECODE": "1"}
+        subprocess.run(command, input=answers, text=True, env=environment, cwd=folder, check=True)
+        text = (folder / name).read_text()
+        assert "former" not in text
+        data: Dict[str, Any] = json.loads(re.search(r'id="data">(.*?)</script>', text, re.S)[1])
+        return data
+
+    def named(number: int, age: str) -> str:
+        block = drawn[number - 1]
+        return f"{age} {number}\n" + block.split("\n", 1)[1] + f"> <CODE>\n{age}-{number}\n\n$$$$\n"
+
+    tools(folder, "draw", "claim.txt", "--out", "claim.rgf")
+    tools(folder, "draw", "compounds.smi", "--out", "compounds.sdf")
+    drawn = (folder / "compounds.sdf").read_text().split("$$$$\n")
+    (folder / "old.sdf").write_text("".join(named(number, "former" if number in (3, 7) else "kept") for number in range(1, 11)))
+    for number in (3, 7):
+        (folder / f"new_{number}.sdf").write_text(named(number, "new"))
+    before = run("load old.sdf", "query benzyl claim.rgf", "search benzyl 100")
+    assert before.startswith("loaded 10 first 1\nkept benzyl\nhit 1 ") and "\nhit 3 " in before and "\nhit 7 " not in before
+    assert run("replace 3 new_3.sdf", "replace 7 new_7.sdf") == "replaced 3\nreplaced 7\n"
+    after = run("search benzyl 100")
+    assert after in before
+    between = " " if not words else "-"
+    for number, answers in enumerate((before, after)):
+        data = page(f"{number}.html", answers)
+        assert data["names"] == [f"{'new' if n == 3 else 'kept'}{between}{n}" for n in range(1, 7)]
+        assert [row[1] for row in data["missed"]] == [f"{'new' if n == 7 else 'kept'}{between}{n}" for n in range(7, 11)]
+    tools(folder, "find", "claim.rgf", "held.db", *words, "--out", "found.html")
+    found = json.loads(re.search(r'id="data">(.*?)</script>', (folder / "found.html").read_text(), re.S)[1])
+    assert (found["names"], found["missed"]) == (data["names"], data["missed"])

@@ -1,7 +1,9 @@
 """Records drawn as claims draw them: each mend by a pair before and after, and RDKit's process with its limits."""
+import random
+import re
 import sys
 from pathlib import Path
-from typing import List, Optional
+from typing import List, Optional, Tuple
 
 import pytest
 from rdkit import Chem
@@ -43,7 +45,7 @@ NITRAZEPAM = "O=C1CN=C(C2=CC=CC=C2)C2=C(N1)C=CC(=C2)N(=O)=O"
 
 # name, the record, what is asked, the SMILES after it, words of what was changed
 PAIRS = [
-    ("celecoxib by type 4", record(CELECOXIB, type_4=True, as_it_is=False), {}, CELECOXIB, "aromatic bonds of the atoms 8, 9, 10, 11, 12"),
+    ("celecoxib by type 4", record(CELECOXIB, type_4=True, as_it_is=False), {}, CELECOXIB, "aromatic bonds of the atoms 2, 3, 4, 5, 6, 7, 8, 9, 10, 11, 12"),
     ("nitrazepam by N(=O)=O", record(NITRAZEPAM), {}, NITRAZEPAM.replace("N(=O)=O", "[N+](=O)[O-]"), "a nitro group or N-oxide is drawn with charges: N19 +1"),
     ("an azide", record("CCN=N#N"), {}, "CCN=[N+]=[N-]", "an azide or diazo group is drawn with charges: N4 +1, N5 -1"),
     ("an N-oxide by a double bond", record("CN(C)(C)=O"), {}, "C[N+](C)(C)[O-]", "N-oxide is drawn with charges"),
@@ -107,6 +109,102 @@ def test_all_tautomers_are_records_with_their_parents_number() -> None:
     assert {Chem.CanonSmiles("CC1=CC=NN1"), Chem.CanonSmiles("CC1=NNC=C1")} <= forms
     assert all(RecordText(1, it.raw, 1).data == {"PARENT": str(it.parent), "ID": "7"} for it in made)
     assert all(it.raw.startswith(b"5-methylpyrazole\n") for it in made[1:]) and "1 further tautomer is drawn: " in made[1].changes[0]
+
+
+def test_the_lines_before_the_table_stay_as_they_were() -> None:
+    table_of = record("CCN(=O)=O").raw.split(b"\n", 3)[3]
+    header = "Säure  \n  ACME    0102030405 3D   1   1.00000     0.00000    12\n a comment, in the file's own words \n".encode("latin-1")
+    for end in (b"\n", b"\r\n"):
+        raw = (header + table_of).replace(b"\n", end)
+        made = one(list(normalize([RecordText(1, raw, 1)])))
+        assert made.changes and made.raw.startswith(header.replace(b"\n", end)) and made.raw.count(b"\n") == made.raw.count(end)
+        assert made.raw.endswith(b"$$$$" + end)
+    blank = one(list(normalize([RecordText(1, b"\n\n\n" + table_of, 1)])))
+    assert blank.changes and blank.raw.startswith(b"\n\n\n  5  4")
+
+
+def edited(raw: bytes, *edits: Tuple[str, str]) -> RecordText:
+    text = raw.decode()
+    for old, new in edits:
+        assert text.count(old) == 1, old
+        text = text.replace(old, new)
+    return RecordText(1, text.encode(), 1)
+
+
+NITRO = record("CCN(=O)=O").raw
+FIRST = NITRO.decode().split("\n")[4]
+DRAWN_PHENOL = record("[H]OC1=CC=CC=N1").raw
+# name, the record, what is asked, what is told behind the first change
+ALSO = [
+    ("nothing more", edited(NITRO), {}, []),
+    ("type 4 in rings of six", record("Cc1ccccc1N(=O)=O", type_4=True), {}, ["the aromatic bonds of the atoms 2, 3, 4, 5, 6, 7 are drawn single and double"]),
+    ("a wedge at no stereo centre", edited(NITRO, ("  1  2  1  0", "  1  2  1  1")), {}, ["stereo mark of the bond C1-C2: none in place of 1 from the atom 1"]),
+    ("a valence that is written", edited(NITRO, (FIRST, FIRST[:48] + "  4" + FIRST[51:])), {}, ["valence of C1: none in place of 4"]),
+    ("a parity", edited(NITRO, (FIRST, FIRST[:39] + "  1" + FIRST[42:])), {}, ["stereo parity of C1: none in place of 1"]),
+    ("a line that RDKit doesn't know", edited(NITRO, ("M  END", "M  XYZ  1   1\nM  END")), {}, ["left out: the line 'M  XYZ  1   1'"]),
+    ("an alias and a data group stay", edited(NITRO, ("M  END", "A    1\nEt\nM  STY  1   1 DAT\nM  SAL   1  1   1\nM  SDT   1 FIELD\nM  SED   1 told\nM  END")), {}, []),
+    ("drawn hydrogens of a tautomer", edited(DRAWN_PHENOL), {"tautomer": "canonical"}, ["left out, to be added again by what reads the record: the drawn hydrogen H1"]),
+    ("a carbon that lacks a hydrogen", record("CCN(=O)=O.[CH2]C"), {}, ["unpaired electrons of C6: 1 in place of none"]),
+]
+
+
+@pytest.mark.parametrize("name, before, asked, told", ALSO, ids=[name for name, *_ in ALSO])
+def test_what_rdkit_changes_besides_is_told(name: str, before: RecordText, asked: dict, told: List[str]) -> None:
+    made = one(list(normalize([before], **asked)))
+    assert list(made.changes[1:]) == told
+
+
+# what may stand in three columns of an atom's line, and in further lines
+MARKS = {39: "stereo parity", 45: "stereo care box", 48: "valence", 60: "map number", 63: "inversion mark", 66: "exact change mark"}
+LINES = (["M  ISO  1   1  13"], ["M  XYZ"], ["A    1", "Label"], ["V    1 value"], ["M  STY  1   1 DAT", "M  SAL   1  1   1", "M  SDT   1 F", "M  SED   1 v"])
+
+
+def test_whatever_differs_in_a_changed_record_is_told() -> None:
+    """Compounds with a nitro group to mend and marks drawn by chance: the lines before and after are compared column by column."""
+    draw, records = random.Random(73), [it for path in sorted(TOP.glob("examples/*/compounds.sdf")) for it in read_records(path)]
+    befores = []
+    for number, held in enumerate(draw.sample(records, 60), 1):
+        mol = Chem.CombineMols(Chem.MolFromMolBlock(held.text, removeHs=False), Chem.MolFromMolBlock(NITRO.decode(), sanitize=False))
+        mol.UpdatePropertyCache(False)
+        lines = Chem.MolToMolBlock(mol, kekulize=draw.random() < 0.3).split("\n")
+        atoms, bonds = int(lines[3][:3]), int(lines[3][3:6])
+        for _ in range(draw.randint(0, 4)):
+            at, column = draw.randrange(4, 4 + atoms - 5), draw.choice([39, 45, 60, 63, 66])
+            lines[at] = lines[at][:column] + f"{draw.randint(1, 3):3d}" + lines[at][column + 3 :]
+        for at in draw.sample(range(4 + atoms, 4 + atoms + bonds), draw.randint(0, 3)):
+            lines[at] = lines[at][:9] + f"{3 if lines[at][6:9] == '  2' else draw.choice([1, 4, 6]):3d}"
+        lines[-2:-2] = [line for some in draw.sample(LINES, draw.randint(0, 2)) for line in some]
+        befores.append(RecordText(number, ("\n".join(lines) + "$$$$\n").encode(), 1))
+    changed = 0
+    for before, made in zip(befores, normalize(befores)):
+        changed += bool(made.changes)
+        was, now, told = before.lines, made.raw.decode().split("\n"), " | ".join(made.changes)
+        atoms, bonds = int(was[3][:3]), int(was[3][3:6])
+        assert now[3][:6] == was[3][:6]
+        for n in range(atoms):
+            one, other = was[4 + n], now[4 + n]
+            assert one[:34] == other[:34]
+            for at, what in MARKS.items():
+                if one[at : at + 3] != other[at : at + 3] and made.changes:
+                    assert f"{what} of {one[31:34].strip()}{n + 1}: " in told
+        for one, other in zip(was[4 + atoms : 4 + atoms + bonds], now[4 + atoms : 4 + atoms + bonds]):
+            ends = [int(one[:3]), int(one[3:6])]
+            if one[:6] != other[:6] or one[9:12] != other[9:12]:
+                assert re.search(rf"stereo mark of the bond [A-Z][a-z]?{ends[0]}-[A-Z][a-z]?{ends[1]}:", told)
+            if one[6:9] != other[6:9]:
+                assert "aromatic bonds of the atoms" in told if one[6:9] == "  4" else max(ends) > atoms - 5
+        for line in was[4 + atoms + bonds : was.index("M  END")]:
+            assert line[:6] == "M  CHG" or any(it.startswith(line) for it in now) or f"left out: the line '{line}'" in told
+    assert changed > 50
+
+
+def test_a_v3000_table_tells_what_it_loses() -> None:
+    mol = Chem.MolFromMolBlock(NITRO.decode(), sanitize=False)
+    text = Chem.MolToMolBlock(mol, forceV3000=True, kekulize=False)
+    at = next(line for line in text.split("\n") if line.startswith("M  V30 1 C "))
+    for old, new, told in (("", "", []), (at, at + " CFG=1", ["CFG of C1: none in place of 1"]), (at, at + " -\nM  V30 VAL=4", ["VAL of C1: none in place of 4"])):
+        raw = (text.replace(old, new) if old else text) + "$$$$\n"
+        assert list(one(list(normalize([RecordText(1, raw.encode(), 1)]))).changes[1:]) == told
 
 
 # what a compound is called, as its file draws it, and a claim of the form that its name says

@@ -245,7 +245,7 @@ def test_what_users_and_files_wrote_is_text_alone() -> None:
     assert page.count("<script") == page.count("</script") == 3
     data = data_of(page)
     assert data["title"] == NASTY and data["names"] == [NASTY] and data["missed"] == [[2, NASTY, NASTY]]
-    assert data["values"] == [[" ".join(NASTY.split()), ""]] and data["refused"] == [[3, 9, NASTY, NASTY], ["", "", "", NASTY]]
+    assert data["values"] == [[" ".join(NASTY.split()), ""]] and data["refused"] == [[3, 9, NASTY, NASTY, ""], ["", "", "", NASTY, ""]]
 
 
 def test_the_policy_allows_the_script_of_the_page_alone() -> None:

@@ -54,6 +54,35 @@ def test_one_demand_or_several(program: Path, smiles: str, kind: str, said: str)
     assert reason.kind == kind and said in str(reason)
 
 
+NESTED = """title ethers of three levels
+root c1ccccc1[R1]
+R1 *[CH2][R2] benzyl
+R1 *Cl
+R2 *O[R3] ether
+R2 *N
+R3 *[CH3] methyl
+R3 *[CH2][CH3] ethyl
+logic R1 1
+logic R2 1
+logic R3 1
+"""
+# each level's group, where it is at fault
+LEVELS = [
+    ("COCc1ccccc1", "it is a hit"),
+    ("CCCOCc1ccccc1", "R3 is none of its members"),
+    ("CSCc1ccccc1", "R2 is none of its members"),
+    ("COC(C)c1ccccc1", "R1 is none of its members"),
+    ("OCc1ccccc1", "the numbers of the logic for R3 aren't met"),
+    ("Cc1ccccc1", "the numbers of the logic for R2 aren't met"),
+    ("c1ccccc1", "the numbers of the logic for R1 aren't met"),
+]
+
+
+@pytest.mark.parametrize("smiles, said", LEVELS, ids=[smiles for smiles, _ in LEVELS])
+def test_of_groups_inside_one_another_the_one_at_fault_is_named(program: Path, smiles: str, said: str) -> None:
+    assert str(why_not(Claim.from_list(NESTED), record(smiles), timeout=1e6)) == said
+
+
 @pytest.mark.parametrize("name", ["anilinoquinazolines", "phenoxy_acids"])
 def test_what_is_passed_over_would_have_no_hit(program: Path, examples: Path, name: str, monkeypatch: pytest.MonkeyPatch) -> None:
     """Ways are passed over where a weaker claim has no hit; the reasons are those that asking each of them gives."""

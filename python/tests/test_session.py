@@ -176,6 +176,7 @@ def test_a_signal_to_the_group_of_the_terminal_does_not_reach_it(fake: Path, top
     script = f"""
 import os, signal, sys
 from markush.session import Session
+signal.signal(signal.SIGINT, signal.default_int_handler)  # a shell starts what it puts into the background without
 with Session(program={str(fake)!r}) as session:
     session.ask("say a")
     process = session.process_id

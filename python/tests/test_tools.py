@@ -256,6 +256,35 @@ def test_refused_records_have_the_status_3(program: Path) -> None:
     assert "record 4" in told and "chloromethyl resin" in told and str(TOP / "examples/vendor/vendor.sdf") in told
 
 
+def test_a_page_of_several_claims_is_refused_with_what_to_do(program: Path, tmp_path: Path) -> None:
+    ran = tools(["find", CLAIM, COMPOUNDS, "--or", CLAIM, "--out", tmp_path / "hits.html"])
+    told = ran.stderr.decode()
+    assert ran.returncode == 2 and "one claim, so it doesn't take --or: write a page of each claim" in told and "--out hits.tsv" in told
+    assert not (tmp_path / "hits.html").exists()
+
+
+def refused_of(page: Path) -> List[List[object]]:
+    data = json.loads(re.search(r'id="data">(.*?)</script>', page.read_text(), re.S)[1])
+    count = len(data["refused"])
+    assert f" {count} records refused." in data["sum"] and ["records refused", str(count)] in data["origin"]
+    return data["refused"]
+
+
+def test_refused_records_stand_in_columns_on_a_page(program: Path, tmp_path: Path) -> None:
+    (tmp_path / "list.smi").write_text("OC(=O)COc1ccc(Cl)cc1Cl\t2,4-D\nC(C\tbroken\n*CC\ta class\n")
+    ran = tools(["find", CLAIM, tmp_path / "list.smi", TOP / "examples/vendor/vendor.sdf", "--out", tmp_path / "hits.html"])
+    assert ran.returncode == 3 and b"list.smi: line 3 a class: atom 1 has the symbol" in ran.stderr
+    rows_of = refused_of(tmp_path / "hits.html")
+    assert [row[:3] + row[4:] for row in rows_of] == [
+        [None, 2, "broken", "list.smi"], [None, 3, "a class", "list.smi"], [4, 124, "chloromethyl resin", "vendor.sdf"],
+        [6, 215, "4-chlorophenoxyacetic acid", "vendor.sdf"], [7, 242, "2-chlorophenoxyacetic acid", "vendor.sdf"], [8, 260, "discontinued", "vendor.sdf"],
+    ]
+    assert [str(row[3])[:24] for row in rows_of] == [
+        "RDKit reads no SMILES in", "atom 1 has the symbol R,", "atom 1 has the symbol R,", "the line of bond 12 is d", "bond 4, of the atoms 4 a", "the record ends too earl",
+    ]
+    assert not any("vendor.sdf" in str(row[3]) or "record 4" in str(row[3]) for row in rows_of)
+
+
 def test_claims_are_joined_by_record(program: Path, tmp_path: Path) -> None:
     chain = tmp_path / "ether.mol"
     chain.write_bytes((TOP / "crates/markush/data/q.mol").read_bytes())
@@ -342,10 +371,7 @@ def test_several_files_are_split_at_a_time(command_program: Path, tmp_path: Path
     ran = tools(["split", "--explain", vendor, good, bad, packed, all_good, none_bad])
     told = lines(ran)
     assert ran.returncode == 3 and len(told) == 6, ran.stderr
-    assert told[0] == (
-        f"{vendor}: record 4 line 120 chloromethyl resin: atom 1 has the symbol R, which is no element; {vendor}, record 4 "
-        "'chloromethyl resin', line 124"
-    )
+    assert told[0] == f"{vendor}: record 4 line 124 chloromethyl resin: atom 1 has the symbol R, which is no element"
     assert told[4:] == [f"{vendor}: 5 of 9 records load", f"{packed}: 33 of 33 records load"]
     assert all_good.read_bytes() == Path(COMPOUNDS).read_bytes() and none_bad.read_bytes() == b""
     assert sorted((good.read_bytes() + bad.read_bytes()).split(b"\n")) == sorted(vendor.read_bytes().split(b"\n"))
@@ -357,6 +383,31 @@ def test_several_files_are_split_at_a_time(command_program: Path, tmp_path: Path
     ):
         ran = tools(["split", vendor, good, bad, *more])
         assert ran.returncode == 2 and ran.stdout == b"" and said in ran.stderr.decode()
+
+
+def test_a_list_that_is_refused_is_named_by_each_tool(tmp_path: Path) -> None:
+    listed = tmp_path / "claim.txt"
+    listed.write_text("root C[R1]\nR1 alkyl 1 - 4\n")
+    for words in (["draw", listed], ["find", listed, COMPOUNDS], ["why", listed, COMPOUNDS], ["page", listed, COMPOUNDS]):
+        ran = tools(words, python="/usr/bin/python3")
+        assert (ran.returncode, ran.stdout) == (2, b"")
+        assert ran.stderr.decode() == f"markush-tools {words[0]}: {listed}: line 2: a range of carbons has no blanks: write `alkyl 1-4`; here stands `alkyl 1 - 4`\n"
+    ran = tools(["draw", "-"], listed.read_bytes(), python="/usr/bin/python3")
+    assert ran.returncode == 2 and ran.stderr.startswith(b"markush-tools draw: line 2: ")
+
+
+def test_what_is_normalized_may_be_typed(tmp_path: Path) -> None:
+    """A list of SMILES, an SDfile, and one that is packed, by standard input as by a file."""
+    listed = b"CC(=O)[O-].[Na+]\tsodium acetate\nC(C\tbroken\n"
+    (tmp_path / "list.smi").write_bytes(listed)
+    want = tools(["normalize", tmp_path / "list.smi", "--largest", "--out", tmp_path / "want.sdf"], python="/usr/bin/python3")
+    ran = tools(["normalize", "-", "--largest", "--out", tmp_path / "made.sdf"], listed, python="/usr/bin/python3")
+    assert ran.returncode == want.returncode == 3 and ran.stdout == want.stdout
+    assert lines(ran)[0].startswith("record 1 sodium acetate: left out beside") and "C(C" in lines(ran)[1]
+    assert (tmp_path / "made.sdf").read_bytes() == (tmp_path / "want.sdf").read_bytes()
+    held = (TOP / "examples/vendor/drawn_otherwise.sdf").read_bytes()
+    made = [tools(["normalize", "-"], typed, python="/usr/bin/python3") for typed in (held, gzip.compress(held))]
+    assert made[0].stdout == made[1].stdout and made[0].stdout.count(b"$$$$\n") == 11 and made[0].stderr.endswith(b"11 records written, 2 changed, 0 left as they are since RDKit can't read them\n")
 
 
 # ---- the Python that has RDKit

@@ -14,7 +14,7 @@ from functools import lru_cache
 from pathlib import Path
 
 from .claim_smiles import Word, read_word
-from .claim_words import CLASSES, members_of
+from .claim_words import CLASSES, DASHES, instead_of, members_of, range_instead_of
 from .drawing import plain_smiles
 from .errors import Refused
 from .molecules import rdkit
@@ -231,17 +231,19 @@ def _read_member(claim: _Claim, line: _Line, words: list[str]) -> None:
         raise line.fault(f"a line of {words[0]} has a SMILES or a class behind it, as `{words[0]} alkyl 1-4`")
     held = claim.members.setdefault(label, [])
     word, rest = words[1], words[2:]
+    if rest and rest[0] in CLASSES and re.match("C?[0-9]", word):
+        raise line.fault(f"a class stands before its carbons: write `{words[0]} {rest[0]} {range_instead_of(word) or '1-4'}`")
     if word not in CLASSES:
         held.append((line, word, _name(claim, line, rest)))
         return
     first = last = 0
     if CLASSES[word].least:
-        span = re.fullmatch(r"([0-9]{1,3})(?:-([0-9]{1,3}))?", rest[0]) if rest else None
-        if not span:
-            raise line.fault(f"{word} takes its numbers of carbons, as `{word} {CLASSES[word].least}-{CLASSES[word].least + 3}`")
-        first, last, rest = int(span[1]), int(span[2] or span[1]), rest[1:]
+        first, last = _carbons(line, word, rest)
+        rest = rest[1:]
     elif rest and re.fullmatch(r"[0-9]+(-[0-9]+)?", rest[0]):
         raise line.fault(f"{word} takes no numbers of carbons")
+    if rest and rest[0] in CLASSES and rest[0] != word:
+        claim.notes.append(f"{line.place}: `{rest[0]}` is taken as a name, since a line has one class; write a second line of {words[0]} for another")
     try:
         made = members_of(word, first, last)
     except Refused as fault:
@@ -254,12 +256,33 @@ def _read_member(claim: _Claim, line: _Line, words: list[str]) -> None:
         held.append((line, smiles, own if not name else name if len(made) == 1 else f"{name}: {own}"))
 
 
+def _carbons(line: _Line, word: str, rest: list[str]) -> tuple[int, int]:
+    """The range of carbons behind a class word: one word, and nothing behind it that goes on with it."""
+    span = re.fullmatch(r"([0-9]{1,3})(?:-([0-9]{1,3}))?", rest[0]) if rest else None
+    behind = DASHES.sub("-", rest[1]) if len(rest) > 1 else ""
+    if span and not re.fullmatch(r"-+[0-9]*|[0-9]{1,3}|to|\.\.+[0-9]*", behind):
+        return int(span[1]), int(span[2] or span[1])
+    meant = range_instead_of(" ".join(rest))
+    if span and not span[2]:
+        why = "a range of carbons has no blanks" if not meant else f"a range of carbons has no blanks: write `{word} {meant}`"
+        raise line.fault(f"{why}; here stands `{' '.join([word, *rest])}`")
+    if span:
+        raise line.fault(f"`{rest[1]}` isn't understood behind the range {rest[0]}; a name may stand there, which begins otherwise")
+    if meant:
+        raise line.fault(f"`{' '.join(rest)}` is no range of carbons: write `{word} {meant}`")
+    raise line.fault(f"{word} takes its numbers of carbons, as `{CLASSES[word].example}`")
+
+
 def _read_logic(claim: _Claim, line: _Line, words: list[str]) -> None:
     if len(words) < 3:
         raise line.fault("a line of logic is `logic R1 RANGE [rest] [then R2]`, as `logic R1 0-1 rest`")
     label, rest = _label(line, words[1]), words[3:]
     if label in claim.logic:
         raise line.fault(f"a second line of logic for R{label}; the first stands in {claim.logic[label][0].place}")
+    end = next((at for at, word in enumerate(rest) if word in ("rest", "then")), len(rest))
+    meant = DASHES.sub("-", "".join([words[2], *rest[:end]]))
+    if meant != words[2] and is_range(meant):
+        raise line.fault(f"the range `{' '.join([words[2], *rest[:end]])}` is one word: write `{meant}`")
     if not is_range(words[2]):
         raise line.fault(f"`{words[2]}` is no range: write 1, 0-1, >2 or 1,3-4, without blanks")
     is_rest = rest[:1] == ["rest"]
@@ -334,7 +357,8 @@ def _member(claim: _Claim, said: tuple[_Line, str, str], label: int) -> _Member:
     try:
         word = read_word(text)
     except Refused as fault:
-        raise line.fault(str(fault)) from None
+        instead = instead_of(text) if label else ""
+        raise line.fault(f"`{text}` is no SMILES of a list, and no class word: {instead}" if instead else str(fault)) from None
     for note in word.notes:
         claim.notes.append(f"{line.place}: {note}")
     kinds = [_kind(claim, line, word, atom, label) for atom in range(len(word.atoms))]

@@ -4,14 +4,16 @@ Members are made by the code, rooted at their attachment point, each structure o
 """
 from __future__ import annotations
 
+import re
 from collections.abc import Callable, Iterator
 from dataclasses import dataclass
+from difflib import get_close_matches
 from functools import lru_cache
 from itertools import combinations_with_replacement
 
 from .errors import Refused
 
-__all__ = ["CLASSES", "ClassWord", "members_of"]
+__all__ = ["CLASSES", "ClassWord", "instead_of", "members_of", "range_instead_of"]
 
 HALOGENS = "[F,Cl,Br,I]"
 BOND = {1: "", 2: "=", 3: "#"}
@@ -127,6 +129,16 @@ class ClassWord:
     most: int
     make: Callable[[int], list[str]]
 
+    @property
+    def example(self) -> str:
+        """The word as a line has it, with a range of its own.
+
+        >>> CLASSES["aryl"].example, CLASSES["halogen"].example
+        ('aryl 6-10', 'halogen')
+        """
+        last = self.most if self.most - self.least < 5 else self.least + 3
+        return f"{self.word} {self.least}-{last}" if self.least else self.word
+
     def members(self, first: int = 0, last: int = 0) -> list[str]:
         """The members with so many carbons, as SMILES of a claim's list with `*` for the point.
 
@@ -199,3 +211,48 @@ def members_of(word: str, first: int = 0, last: int = 0) -> list[tuple[str, str]
     if word not in CLASSES:
         raise Refused(f"there is no class {word!r}; the classes are {', '.join(CLASSES)}")
     return [(smiles, NAMES.get(smiles, "")) for smiles in CLASSES[word].members(first, last)]
+
+
+# what people write in a drawing, with the name that it has here
+SHORT = {
+    "me": "methyl", "et": "ethyl", "pr": "propyl", "ipr": "isopropyl", "bu": "butyl", "tbu": "tert-butyl", "ph": "phenyl", "ome": "methoxy",
+    "oet": "ethoxy", "hal": "halogen", "halo": "halogen", "hydro": "hydrogen", "hydrogen": "hydrogen",
+}
+DASHES = re.compile("[\u2010-\u2015\u2212]")
+RANGE = re.compile(r"C?([0-9]{1,3})\s*(?:-+|\.\.+|to|,|\s)\s*C?([0-9]{1,3})(?![0-9])")
+
+
+def range_instead_of(text: str) -> str:
+    """A range of carbons as a list has it, of one that is written otherwise; nothing where none is seen.
+
+    >>> range_instead_of("1 - 4"), range_instead_of("C1-C4 lower"), range_instead_of("lower")
+    ('1-4', '1-4', '')
+    """
+    found = RANGE.match(DASHES.sub("-", text))
+    return f"{int(found[1])}-{int(found[2])}" if found else ""
+
+
+def instead_of(word: str) -> str:
+    """What to write in place of a word that is neither a SMILES nor a class word; nothing where it looks like a SMILES.
+
+    >>> instead_of("alkil")
+    'the nearest is `alkyl 1-4`'
+    >>> instead_of("methyl")
+    'methyl is written `*[CH3] methyl`'
+    >>> instead_of("*CCx")
+    ''
+    """
+    written = {name: smiles for smiles, name in NAMES.items()}
+    for run in re.findall(r"[a-z][a-z-]*[a-z]", word.lower()):
+        name = SHORT.get(run, run)
+        if name in CLASSES or name not in written:
+            near = [name] if name in CLASSES else get_close_matches(name, CLASSES, 2, 0.7)
+            if near:
+                span = range_instead_of("".join(re.findall("[0-9].*", word)))
+                said = [f"`{it} {span}`" if span and CLASSES[it].least else f"`{CLASSES[it].example}`" for it in near]
+                return f"the nearest {'is' if len(near) == 1 else 'are'} {' and '.join(said)}"
+        if name in written:
+            return f"{name} is written `{written[name]} {name}`"
+    if re.fullmatch("[A-Za-z-]{3,}", word) and set(word.lower()) - set("bcnopsfihlr"):
+        return f"the class words are {', '.join(CLASSES)}, and other members are lines of SMILES, as `*O[CH3] methoxy`"
+    return ""

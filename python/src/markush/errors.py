@@ -48,6 +48,8 @@ class Refused(MarkushError, ValueError):
         Where in the file: its line, its record and the atom of that record, each counted from 1.
     name : str
         The name of the record, its first line.
+    why : str
+        Of a record that is refused what is wrong with it, without the place; else the message.
 
     Examples
     --------
@@ -68,9 +70,11 @@ class Refused(MarkushError, ValueError):
         record: Optional[int] = None,
         atom: Optional[int] = None,
         name: str = "",
+        why: str = "",
     ) -> None:
         super().__init__(message)
         self.message = message
+        self.why = why or message
         self.code = code
         self.answer = answer
         self.command = command

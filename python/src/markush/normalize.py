@@ -103,10 +103,15 @@ def _normalized(record: RecordText, rules: dict[str, object], worker: _Worker, i
     if not blocks:
         yield Normalized(record.number, record.name, _with_parent(record.raw[: found.end()], behind, record.number if is_all else 0))
     for at, made in enumerate(blocks):
-        front = str(made).encode()
-        first, _, rest = front.partition(b"\n")
-        front = record.raw.split(b"\n", 1)[0].rstrip(b"\r") + b"\n" + rest if first.strip() == b"" else front
+        front = _with_header(record.raw, str(made))
         yield Normalized(record.number, record.name, _with_parent(front, behind, record.number if is_all else 0), told if at == 0 else ())
+
+
+def _with_header(raw: bytes, made: str) -> bytes:
+    """A molfile with the three lines before the table as a record has them, and the record's ends of lines."""
+    header = raw.split(b"\n", 3)[:3]
+    end = b"\r\n" if header[0].endswith(b"\r") else b"\n"
+    return b"\n".join(header) + b"\n" + made.split("\n", 3)[3].encode().replace(b"\n", end)
 
 
 def _lines(raw: bytes) -> list[str]:

@@ -26,17 +26,19 @@ def normalized(block: str, rules: dict[str, Any], chem: Any) -> tuple[list[str],
     if mol is None:
         raise Unread("RDKit doesn't read the table")
     mol = chem.RWMol(mol)
+    for atom in mol.GetAtoms():
+        atom.SetIntProp("_at", atom.GetIdx())
     changes: list[str] = []
     _single_for_dative(mol, dative, changes, chem)
     _charges_for_five_bonds(mol, changes, chem)
-    drawn_round = _aromatic_outside(mol, chem)
+    is_drawn_round, round_bonds = _aromatic_outside(mol, chem), _aromatic(mol, chem)
     problem = chem.SanitizeMol(mol, catchErrors=True)
     if problem != chem.SanitizeFlags.SANITIZE_NONE:
         words = "; ".join(it.Message() for it in chem.DetectChemistryProblems(mol))
         raise Unread(f"RDKit refuses the structure: {words or problem}")
     _stereo(mol, chem)
-    if drawn_round:
-        changes.append(f"the aromatic bonds of the atoms {', '.join(map(str, drawn_round))} are drawn single and double")
+    if is_drawn_round:
+        changes.append(_single_and_double(round_bonds))
     if rules.get("neutral"):
         mol = _neutral(mol, changes, chem)
     if rules.get("largest"):
@@ -46,8 +48,14 @@ def normalized(block: str, rules: dict[str, Any], chem: Any) -> tuple[list[str],
         forms = _tautomers(mol, str(rules["tautomer"]), changes, chem)
     if not changes:
         return [], []
+    if round_bonds and not is_drawn_round:
+        changes.append(_single_and_double(round_bonds))
     is_v3000 = "V3000" in (block.split("\n", 4) + [""] * 4)[3]
-    return [chem.MolToMolBlock(it, forceV3000=is_v3000) for it in forms], changes
+    made = [chem.MolToMolBlock(it, forceV3000=is_v3000) for it in forms]
+    for form, after in zip(forms, made):
+        also = _also_changed(text, after, [atom.GetIntProp("_at") for atom in form.GetAtoms()], chem)
+        changes += [change for change in also if change not in changes]
+    return made, changes
 
 
 def _mended(block: str) -> str:
@@ -108,15 +116,23 @@ def _kind_of_charges(moved: list[Any]) -> str:
     return "an azide or diazo group" if set(symbols) == {"N"} else "a group"
 
 
-def _aromatic_outside(mol: Any, chem: Any) -> list[int]:
-    """The atoms, from 1, of bonds of type 4 that lie in no ring of six."""
+def _aromatic(mol: Any, chem: Any) -> list[int]:
+    """The atoms, from 1, of bonds of type 4."""
+    found = [bond for bond in mol.GetBonds() if bond.GetBondType() == chem.BondType.AROMATIC]
+    return sorted({end + 1 for bond in found for end in (bond.GetBeginAtomIdx(), bond.GetEndAtomIdx())})
+
+
+def _aromatic_outside(mol: Any, chem: Any) -> bool:
+    """Whether a bond of type 4 lies in no ring of six."""
     chem.FastFindRings(mol)
     rings = mol.GetRingInfo()
-    atoms = set()
-    for bond in mol.GetBonds():
-        if bond.GetBondType() == chem.BondType.AROMATIC and not rings.IsBondInRingOfSize(bond.GetIdx(), 6):
-            atoms |= {bond.GetBeginAtomIdx() + 1, bond.GetEndAtomIdx() + 1}
-    return sorted(atoms)
+    return any(
+        bond.GetBondType() == chem.BondType.AROMATIC and not rings.IsBondInRingOfSize(bond.GetIdx(), 6) for bond in mol.GetBonds()
+    )
+
+
+def _single_and_double(atoms: list[int]) -> str:
+    return f"the aromatic bonds of the atoms {', '.join(map(str, atoms))} are drawn single and double"
 
 
 def _stereo(mol: Any, chem: Any) -> None:
@@ -154,7 +170,8 @@ def _neutral(mol: Any, changes: list[str], chem: Any) -> Any:
     if not done:
         return mol
     chem.SanitizeMol(made)
-    changes.append(f"the anions {', '.join(done)} are drawn as acids, without charge")
+    said = f"the anions {', '.join(done)} are drawn as acids" if len(done) > 1 else f"the anion {done[0]} is drawn as an acid"
+    changes.append(f"{said}, without charge")
     return made
 
 
@@ -186,6 +203,121 @@ def _tautomers(mol: Any, which: str, changes: list[str], chem: Any) -> list[Any]
         if mol.HasProp("_Name"):
             form.SetProp("_Name", mol.GetProp("_Name"))
     return forms
+
+
+# ---- what else differs, once RDKit has written a table anew
+
+# what a line of an atom holds in three columns, from these on
+COLUMNS = (
+    (39, "stereo parity"), (42, "hydrogen count"), (45, "stereo care box"), (48, "valence"), (60, "map number"), (63, "inversion mark"),
+    (66, "exact change mark"),
+)
+
+
+def _also_changed(before: str, after: str, at: list[int], chem: Any) -> list[str]:
+    """What differs in a table that RDKit wrote, besides the types of bonds and the charges, of which its callers tell.
+
+    `at` has for each of its atoms the place of that atom in the table before.
+    """
+    old, new = (chem.MolFromMolBlock(it, sanitize=False, removeHs=False, strictParsing=False) for it in (before, after))
+    found = []
+    gone = [atom for atom in old.GetAtoms() if atom.GetIdx() not in at and atom.GetSymbol() == "H"]
+    if gone:
+        found.append(f"left out, to be added again by what reads the record: the drawn hydrogen{'s' * (len(gone) > 1)} {_names(gone)}")
+    pairs = [(old.GetAtomWithIdx(place), atom) for place, atom in zip(at, new.GetAtoms())]
+    places = [it.GetConformer() for it in (old, new)]
+    moved = [a for a, b in pairs if (places[0].GetAtomPosition(a.GetIdx()) - places[1].GetAtomPosition(b.GetIdx())).Length() > 0.001]
+    if moved:
+        found.append(f"drawn at another place: {_names(moved)}")
+    marks = [_atom_marks(it) for it in (before, after)]
+    for a, b in pairs:
+        was = {**marks[0].get(a.GetIdx(), {}), "isotope": a.GetIsotope(), "unpaired electrons": a.GetNumRadicalElectrons()}
+        now = {**marks[1].get(b.GetIdx(), {}), "isotope": b.GetIsotope(), "unpaired electrons": b.GetNumRadicalElectrons()}
+        found += [_differs(f"{what} of {_named(a)}", was.get(what), now.get(what)) for what in {**was, **now} if was.get(what) != now.get(what)]
+    back = dict(zip(at, range(len(at))))
+    for bond in old.GetBonds():
+        ends = bond.GetBeginAtomIdx(), bond.GetEndAtomIdx()
+        other = new.GetBondBetweenAtoms(back[ends[0]], back[ends[1]]) if all(end in back for end in ends) else None
+        if other is not None:
+            mark, mark_now = _bond_mark(bond, ends[0]), _bond_mark(other, at[other.GetBeginAtomIdx()])
+            if mark != mark_now:
+                found.append(_differs(f"stereo mark of the bond {_named(bond.GetBeginAtom())}-{_named(bond.GetEndAtom())}", mark, mark_now))
+    flags = [it.GetIntProp("_MolFileChiralFlag") if it.HasProp("_MolFileChiralFlag") else 0 for it in (old, new)]
+    if flags[0] != flags[1]:
+        found.append(_differs("chiral flag", *flags))
+    kept = _further_lines(after)
+    found += [f"left out: the line {line!r}" for line in _further_lines(before) if not any(_begins(it, line) for it in kept)]
+    return found
+
+
+def _names(atoms: list[Any]) -> str:
+    return ", ".join(map(_named, atoms))
+
+
+def _differs(what: str, was: Any, now: Any) -> str:
+    return f"{what}: {now or 'none'} in place of {was or 'none'}"
+
+
+def _begins(line: str, words: str) -> bool:
+    return line.split()[: len(words.split())] == words.split()
+
+
+def _bond_mark(bond: Any, first: int) -> str:
+    """The stereo mark of a bond in words of the table, with the atom at which a wedge begins."""
+    for name in ("_MolFileBondStereo", "_MolFileBondCfg"):
+        mark = bond.GetPropsAsDict(True, False).get(name)
+        if mark:
+            return str(mark) if bond.GetBondTypeAsDouble() == 2 else f"{mark} from the atom {first + 1}"
+    return ""
+
+
+def _logical(block: str) -> list[str]:
+    """The lines behind the header, those of V3000 joined where they go on."""
+    found: list[str] = []
+    is_open = False
+    for line in block.split("\n")[3:]:
+        is_next = line.startswith("M  V30 ")
+        line = line.rstrip() if is_next else line
+        if is_open and is_next:
+            found[-1] = found[-1][:-1] + line[7:]
+        else:
+            found.append(line)
+        is_open = is_next and line.endswith("-")
+    return found
+
+
+def _counts(line: str) -> tuple[int, int]:
+    atoms, bonds = line[:3].strip(), line[3:6].strip()
+    return int(atoms) if atoms.isdigit() else 0, int(bonds) if bonds.isdigit() else 0
+
+
+def _atom_marks(block: str) -> dict[int, dict[str, Any]]:
+    """What stands at each atom, from 0, that is neither its place nor its charge, isotope or radical."""
+    lines = _logical(block)
+    if "V3000" in lines[0]:
+        inside = lines[lines.index("M  V30 BEGIN ATOM") + 1 : lines.index("M  V30 END ATOM")]
+        said = [dict(word.split("=", 1) for word in line.split()[8:] if "=" in word) for line in inside]
+        return {n: {key: it for key, it in each.items() if key not in ("CHG", "MASS", "RAD")} for n, each in enumerate(said)}
+    atoms = lines[1 : 1 + _counts(lines[0])[0]]
+    return {n: {what: line[at : at + 3].strip() for at, what in COLUMNS if line[at : at + 3].strip(" 0")} for n, line in enumerate(atoms)}
+
+
+def _further_lines(block: str) -> list[str]:
+    """The lines of a table that are none of its atoms, bonds, charges, isotopes and radicals; an alias with its text."""
+    lines = _logical(block)
+    if "V3000" in lines[0]:
+        bonds = lines.index("M  V30 END BOND") if "M  V30 END BOND" in lines else lines.index("M  V30 END ATOM")
+        return [line for line in lines[bonds + 1 :] if line.startswith("M  V30 ") and line != "M  V30 END CTAB"]
+    found = []
+    behind = iter(lines[1 + sum(_counts(lines[0])) :])
+    for line in behind:
+        if line.startswith("M  END"):
+            break
+        if line.startswith(("A  ", "G  ")):
+            line = f"{line} {next(behind, '')}"
+        if line.strip() and line[:6] not in ("M  CHG", "M  ISO", "M  RAD"):
+            found.append(line)
+    return found
 
 
 def main(seconds: float, megabytes: int) -> None:

@@ -403,9 +403,10 @@ def _json(data: Any) -> str:
 
 def _refused_row(refused: Any) -> List[Any]:
     if isinstance(refused, str):
-        return ["", "", "", refused]
+        return ["", "", "", refused, ""]
+    file = getattr(refused, "file", None) or ""
     why = getattr(refused, "why", None) or str(refused)
-    return [getattr(refused, "record", None), getattr(refused, "line", None), getattr(refused, "name", ""), why]
+    return [getattr(refused, "record", None), getattr(refused, "line", None), getattr(refused, "name", ""), why, os.path.basename(str(file))]
 
 
 def _plural(number: int, word: str) -> str:
@@ -522,7 +523,7 @@ def write_page(
     records : iterable of Record
         All records that were searched, in order. Those without a hit stand in the list of what isn't one.
     refused : sequence
-        What wasn't loaded: each with `record`, `line`, `name` and `why`, or a sentence.
+        What wasn't loaded, as `Loaded.refused` has it: each with `record`, `line`, `name`, `why` and `file`, or a sentence.
     unsearched : sequence
         The numbers of records that the search didn't come to, or sentences.
     limits : sequence of str

@@ -227,6 +227,7 @@ class _Asked:
 
     def __init__(self, session: Session, claim: Claim, deadline: float) -> None:
         self.session, self.claim, self.deadline = session, claim, deadline
+        self._last: Optional[Tuple[Query, bool]] = None
 
     def hit(self, query: Query) -> Optional[RawHit]:
         """The first hit of a relaxed claim; one that is refused, as too large, tells nothing."""
@@ -236,11 +237,13 @@ class _Asked:
             return None
 
     def rules_out(self, query: Query) -> bool:
-        """Whether a claim has no hit; one that is refused rules nothing out."""
-        try:
-            return _hit(self.session, write_query(query, tables=self.claim.written), self.deadline) is None
-        except Refused:
-            return False
+        """Whether a claim has no hit; one that is refused rules nothing out. Of the claim of before the answer is known."""
+        if self._last is None or self._last[0] is not query:
+            try:
+                self._last = query, _hit(self.session, write_query(query, tables=self.claim.written), self.deadline) is None
+            except Refused:
+                self._last = query, False
+        return self._last[1]
 
     def first(self, ways: Iterable[Union[_Way, _Ways]]) -> Optional[Reason]:
         """What the first way with a hit says."""
@@ -273,13 +276,35 @@ def _placed(reason: Reason, claim: Claim, query: Query, hit: RawHit) -> Reason:
 
 
 def _single_ways(claim: Claim) -> Iterator[_Ways]:
-    """Each single demand left out: groups, numbers, hydrogens and neighbours, the root's atoms and bonds."""
+    """Each single demand left out: groups, numbers, hydrogens and neighbours, the root's atoms and bonds.
+
+    Of groups inside one another the inner comes first, since whatever is at fault in it the outer one's leave would mend too.
+    """
     query = claim.query
-    yield _Ways(None, (_Way(_free_group(query, group.label), _said_group(claim, group.label)) for group in query.groups if group.members))
-    yield _Ways(_open_ranges(query), (_Way(_with_open_range(query, group.label), _said_logic(group.label)) for group in query.groups))
+    opened = _open_ranges(query)
+    for groups in _inner_first(query):
+        yield _Ways(None, [_Way(_free_group(query, group.label), _said_group(claim, group.label)) for group in groups if group.members])
+        yield _Ways(opened, [_Way(_with_open_range(query, group.label), _said_logic(group.label)) for group in groups])
     yield _Ways(_with_root(query, _open_atoms(query.root)), _root_places(query))
     yield _Ways(_with_open_members(query), (_member_places(claim, group) for group in query.groups))
     yield _Ways(None, _root_ways(claim, query))
+
+
+def _inner_first(query: Query) -> List[List[Group]]:
+    """The groups by falling depth: one whose sites stand in members of another is deeper than that one."""
+    held = {group.label: {label for member in group.members for site in member.sites for label in site.groups} for group in query.groups}
+    depth = dict.fromkeys(held, 0)
+
+    def sink(label: int, to: int) -> None:
+        if to > depth.get(label, to):
+            depth[label] = to
+            for inner in held[label]:
+                sink(inner, to + 1)
+
+    for site in query.root.sites:
+        for label in site.groups:
+            sink(label, 1)
+    return [[group for group in query.groups if depth[group.label] == level] for level in sorted(set(depth.values()), reverse=True)]
 
 
 def _root_places(query: Query) -> Iterator[_Way]:

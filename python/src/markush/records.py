@@ -393,7 +393,7 @@ def _judged(batch: list[RecordText], ask: Judge, file: str | None) -> Iterator[t
             where = f"{file}, " if file else ""
             faults[place] = Refused(
                 f"{record.fault}; {where}record {record.number}{said}, line {record.line}", file=file, line=record.line, record=record.number,
-                name=record.name,
+                name=record.name, why=record.fault,
             )
     todo = list(_blocks(batch, [place for place in range(len(batch)) if place not in faults]))
     while todo:

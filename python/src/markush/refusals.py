@@ -246,7 +246,7 @@ def record_fault(refusal: Refusal, record: RecordText, file: str | None = None) 
     said = f" {record.name!r}" if record.name else ""
     return Refused(
         f"{why}; {where}record {record.number}{said}, line {at}", code=refusal.code, answer=refusal.answer, command="load", file=file, line=at,
-        record=record.number, atom=atom, name=record.name,
+        record=record.number, atom=atom, name=record.name, why=why,
     )
 
 

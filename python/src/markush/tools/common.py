@@ -280,29 +280,34 @@ def _fields(line: str) -> Tuple[str, str, str]:
 
 @dataclass(frozen=True)
 class Left:
-    """A record or line that couldn't be taken: of which file, where, its name, and why.
+    """A record or line that couldn't be taken: its file, its number and line there, its name, and why.
+
+    `said` is the line for people where it isn't made of these.
 
     Examples
     --------
-    >>> Left("a.sdf", "record 2", "resin", "atom 1 is R").told
+    >>> Left("a.sdf", "resin", "atom 1 is R", record=2).told
     'a.sdf: record 2 resin: atom 1 is R'
     """
 
     file: str
-    where: str
     name: str
     why: str
+    record: Optional[int] = None
+    line: Optional[int] = None
+    said: str = ""
 
     @property
     def told(self) -> str:
         """The line for people."""
-        where = " ".join(word for word in (self.where, self.name) if word)
-        return ": ".join(word for word in (self.file, where, self.why) if word)
+        at = f"record {self.record}" if self.record is not None else f"line {self.line}" if self.line is not None else ""
+        where = " ".join(word for word in (at, self.name) if word)
+        return self.said or ": ".join(word for word in (self.file, where, self.why) if word)
 
 
 @dataclass(frozen=True)
 class Source:
-    """A file of compounds as the caller named it, and the SDfile that is read in its place.
+    """A file of compounds as the caller named it, and the SDfile that is read in its place; `lines` has its line for each record drawn of it.
 
     Examples
     --------
@@ -313,6 +318,7 @@ class Source:
     name: str
     path: str
     sha256: str
+    lines: Sequence[int] = ()
 
 
 def left_of(fault: Any, source: Optional[Source] = None) -> Left:
@@ -326,9 +332,11 @@ def left_of(fault: Any, source: Optional[Source] = None) -> Left:
     """
     said, file = str(fault), getattr(fault, "file", None)
     name = source.name if source else str(file or "")
-    if file and file in said:
-        return Left("", "", "", said.replace(str(file), name))
-    return Left(name, "", "", said)
+    record, of_record, why = getattr(fault, "record", None), getattr(fault, "name", ""), getattr(fault, "why", said)
+    if source is not None and source.lines and record is not None:
+        return Left(name, of_record, why, line=source.lines[record - 1])
+    said = said.replace(str(file), name) if file and file in said else f"{name}: {said}" if name else said
+    return Left(name, of_record, why, record, getattr(fault, "line", None), said)
 
 
 class Compounds:
@@ -389,18 +397,22 @@ class Compounds:
                     with open(path, "rb") as again:
                         os.dup2(again.fileno(), 0)
                 raise WantsRdkit(f"{shown} is a list of SMILES, which takes RDKit")
-            path = self._draw(path, shown, number)
+            path, drawn_lines = self._draw(path, shown, number)
+            return Source(shown, path, digest, drawn_lines)
         return Source(shown, path, digest)
 
-    def _draw(self, path: str, shown: str, number: int) -> str:
+    def _draw(self, path: str, shown: str, number: int) -> Tuple[str, List[int]]:
+        """The SDfile of a list of SMILES, and the list's line for each of its records."""
+        kept: List[int] = []
         made = str(self._folder / f"{number}.sdf") if self._folder else ""
         with open_bytes(path) as lines, open(made, "w", encoding="utf-8") as out:
             for drawn in drawn_smiles(iter(lines)):
                 if drawn.text is None:
-                    self.left.append(Left(shown, f"line {drawn.line}", drawn.name, drawn.why))
+                    self.left.append(Left(shown, drawn.name, drawn.why, line=drawn.line))
                 else:
                     out.write(drawn.text)
-        return made
+                    kept.append(drawn.line)
+        return made, kept
 
 
 def takes_rdkit_for(names: Sequence[str]) -> bool:

@@ -10,6 +10,7 @@ import argparse
 from pathlib import Path
 
 from ..claim import is_query_file
+from ..errors import Refused
 from .common import FAULT, HITS, SOME_REFUSED, Fault, Left, drawn_smiles, open_bytes, tell, text_of, written
 
 WORDS = ("title", "root", "logic", "closed", "include")
@@ -50,8 +51,11 @@ def run(args: argparse.Namespace) -> int:
     if is_of_claim(text_of(data)):
         from ..claim_list import read_claim_list
 
-        folder = None if args.list == "-" else Path(args.list).resolve().parent
-        claim = read_claim_list(text_of(data), folder, "" if args.list == "-" else args.list)
+        name, folder = ("", None) if args.list == "-" else (args.list, Path(args.list).resolve().parent)
+        try:
+            claim = read_claim_list(text_of(data), folder, name)
+        except Refused as fault:
+            raise Fault(f"{name}: {fault}" if name else str(fault)) from None
         with written(args.out) as out:
             out.write(claim.rgfile if claim.rgfile.endswith("\n") else claim.rgfile + "\n")
         return HITS
@@ -59,7 +63,7 @@ def run(args: argparse.Namespace) -> int:
     with written(args.out) as out:
         for drawn in drawn_smiles(iter(data.splitlines(keepends=True))):
             if drawn.text is None:
-                left.append(Left(args.list, f"line {drawn.line}", drawn.name, drawn.why))
+                left.append(Left(args.list, drawn.name, drawn.why, line=drawn.line))
             else:
                 out.write(drawn.text)
                 count += 1

@@ -234,11 +234,10 @@ def _search_library(found: Found, without: Sequence["Claim"], library: Any) -> N
     if found.per == "map":
         found.records = list(library)
         hit_records = {hit.record for _, hit in found.hits}
-        others = [record.number for record in found.records if record.number not in hit_records]
-        asked = [record for record in found.records if record.number in set(others[: found.why]) - excluded]
-        said = why_not_each(found.claims[0], asked)
-        for number in others[: found.why]:
-            found.reasons[number] = str(said.get(number, "a claim of --not has a hit in it"))
+        others = [record for record in found.records if record.number not in hit_records][: found.why]
+        said = why_not_each(found.claims[0], [record for record in others if record.number not in excluded])
+        for record in others:
+            found.reasons[record.number] = str(said.get(record.number, "a claim of --not has a hit in it"))
 
 
 def _scan(found: Found, without: Sequence["Claim"], paths: Sequence[str], jobs: Optional[int]) -> None:
@@ -373,7 +372,10 @@ def run(args: argparse.Namespace) -> int:
     if ending not in ENDINGS:
         raise Fault(f"--out {args.out}: its ending has to be one of {', '.join(ENDINGS)}")
     if ending == ".html" and args.others:
-        raise Fault("a page shows one claim; write a table, an SDfile or JSON of several, or a page of each")
+        raise Fault(
+            "a page draws the atoms and choices of one claim, so it doesn't take --or: write a page of each claim, or one file of them all by "
+            "--out hits.tsv, hits.csv, hits.sdf or hits.json"
+        )
     if ending != ".html" and (args.title is not None or args.name or args.data):
         raise Fault("--title, --name and --data say what a page shows: name it by --out, as hits.html")
     if args.out:

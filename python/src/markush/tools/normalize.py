@@ -11,9 +11,11 @@ import argparse
 import io
 import os
 import sys
-from typing import BinaryIO, Union, cast
+from typing import Any, BinaryIO, Union, cast
 
-from .common import FAULT, HITS, SOME_REFUSED, Fault
+from .common import FAULT, HITS, SOME_REFUSED, Fault, is_smiles
+
+PACKED = (b"\x1f\x8b", b"\xfd7zXZ")
 
 
 def add_words(parser: argparse.ArgumentParser) -> None:
@@ -32,6 +34,35 @@ def takes_rdkit(_: argparse.Namespace) -> bool:
     return True
 
 
+class _Begun(io.RawIOBase):
+    """Standard input behind its first lines, which were read already; its name says what it is, a list of SMILES or an SDfile."""
+
+    def __init__(self, start: bytes, rest: BinaryIO, name: str) -> None:
+        self.start, self.rest, self.name = start, rest, name
+
+    def readable(self) -> bool:
+        return True
+
+    def readinto(self, buffer: Any) -> int:
+        piece, self.start = self.start[: len(buffer)], self.start[len(buffer) :]
+        piece = piece or os.read(self.rest.fileno(), len(buffer))
+        buffer[: len(piece)] = piece
+        return len(piece)
+
+
+def _typed() -> BinaryIO:
+    """Standard input, whatever its first lines are."""
+    raw = io.FileIO(os.dup(0), "rb")
+    start = b""
+    while start.count(b"\n") < 4 and not start.startswith(PACKED):
+        piece = os.read(raw.fileno(), 65536)
+        if not piece:
+            break
+        start += piece
+    is_list = not start.startswith(PACKED) and is_smiles("-", start)
+    return cast(BinaryIO, _Begun(start, cast(BinaryIO, raw), "standard input.smi" if is_list else "standard input"))
+
+
 def run(args: argparse.Namespace) -> int:
     """Normalize the file."""
     from ..normalize import normalize
@@ -41,7 +72,7 @@ def run(args: argparse.Namespace) -> int:
         raise Fault("FILE and the file that is written have to be two")
     if args.file != "-" and not os.path.exists(args.file):
         raise Fault(f"{args.file}: there is no such file")
-    source = cast(Union[str, BinaryIO], io.FileIO(os.dup(0), "rb") if args.file == "-" else args.file)
+    source = cast(Union[str, BinaryIO], _typed() if args.file == "-" else args.file)
     out = create(args.out) if args.out else cast(BinaryIO, os.fdopen(os.dup(1), "wb"))
     told = sys.stdout if args.out else sys.stderr
     count = changed = unread = 0

@@ -63,8 +63,8 @@ def split_one(file: str, good: str, bad: str, explain: bool) -> Tuple[List[str],
             count += 1
             (left if fault else taken).write(record.raw)
             if fault:
-                why = str(fault) if explain or not fault.answer else fault.answer
-                told.append(f"record {record.number} line {record.line} {record.name}: {why}")
+                at, why = (fault.line, fault.why) if explain or not fault.answer else (record.line, fault.answer)
+                told.append(f"record {record.number} line {at} {record.name}: {why}")
     return told, count, len(told)
 
 
