@@ -69,7 +69,8 @@ module _ (graph : GraphView) (mol : Molecule) (x : ℕ) where
   count_starts none n least most = absurd (omega arith)
 
   -- one more cell is counted
-  pub count_goes_on : (m count more : ℕ) (says : Bool) → IsCounted graph mol x m count → IsTrue says ↔ MayLie graph mol x (m + 1) → (more ≡ 0 → (count ≡ 0) × (says ≡ false)) → IsCounted graph mol x (m + 1) more
+  pub count_goes_on : (m count more : ℕ) (says : Bool) → IsCounted graph mol x m count → IsTrue says ↔ MayLie graph mol x (m + 1)
+      → (more ≡ 0 → (count ≡ 0) × (says ≡ false)) → IsCounted graph mol x (m + 1) more
   count_goes_on m count more says so_far tells counts none n least most may =
       let both = counts none in
       elim (cases_lt m n) [

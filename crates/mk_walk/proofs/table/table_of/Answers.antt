@@ -14,5 +14,5 @@ returns-clause-table c =
 
 pub returns-then-count-eq0-clause-none : goal.returns-then-count-eq0-clause-none
 returns-then-count-eq0-clause-none c =
-    let lonely = c.push_row.ensures.lonely in
-    none_lies c.args.graph.now c.args.mol.now (c.loop-x.x + 1) c.atom_count.ensures.kept c.atoms.ensures.kept (omega arith) (omega (arith, c.atom_count.ensures.count)) (c.in_ok-count.ensures.lonely c.if-count-eq0.true)
+    none_lies c.args.graph.now c.args.mol.now (c.loop-x.x + 1) c.atom_count.ensures.kept c.atoms.ensures.kept (omega arith)
+    (omega (arith, c.atom_count.ensures.count)) (c.in_ok-count.ensures.lonely c.if-count-eq0.true)
