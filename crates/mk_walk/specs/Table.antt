@@ -4,6 +4,7 @@
 --     cell mol x m                       the place of the two in the table
 --     IsTable graph mol fits             each cell of the table says whether the one may lie on the
 --                                        other
+--     IsLonely graph mol x m             atom x may lie on none of the first m atoms of the molecule
 use Rattle.std.specs.Prelude.{◌≡◌, ◌≤◌, ◌+◌, ◌*◌, ◌-◌, ◌↔◌, ℕ, Bool, false, List, length, slice_index_or, IsTrue}
 use Rattle.mk_model.specs.Edges.{numbers_at}
 use Rattle.mk_model.specs.Molecules.{Molecule, edges}
@@ -28,3 +29,7 @@ pub record AreRows (graph : GraphView) (mol : Molecule) (rows : ℕ) (fits : Lis
 -- the table has a row for each atom of the graph
 abbrev pub IsTable : GraphView → Molecule → List Bool → Type 0
 IsTable graph mol fits = AreRows graph mol (length graph.atoms) fits
+
+-- atom x of the graph may lie on none of the first atoms of the molecule
+abbrev pub IsLonely : GraphView → Molecule → ℕ → ℕ → Type 0
+IsLonely graph mol x m = (n : ℕ) → 1 ≤ n → n ≤ m → MayLie graph mol x n → ⊥

@@ -1,39 +1,65 @@
 // On which atoms of the molecule each atom of the graph may lie, asked once for each pair.
-ghost use Rattle.std.specs.Prelude.{◌≡◌, ◌<◌, ◌≤◌, ◌+◌, ◌-◌, ◌*◌, ◌↔◌, ℕ, false, IfOk, IsTrue, OnOk, length, slice_index_or, take};
+ghost use Rattle.std.specs.Prelude.{◌≡◌, ◌<◌, ◌≤◌, ◌+◌, ◌-◌, ◌*◌, ◌↔◌, ℕ, false, IfNone, IfOk, IfSome, IsTrue, OnOk, length, slice_index_or, take};
+ghost use Rattle.mk_counts.specs.Counts.{HasNoHit};
 ghost use Rattle.mk_model.specs.Edges.{numbers_at};
 ghost use Rattle.mk_model.specs.Graphs.{IsGraph, graph_edges};
 ghost use Rattle.mk_model.specs.Molecules.{IsMolecule};
-ghost use Rattle.mk_walk.specs.Table.{AreRows, IsTable, MayLie, cell};
+ghost use Rattle.mk_walk.specs.Table.{AreRows, IsLonely, IsTable, MayLie, cell};
 
 use mk_model::{Graph, Memory, Mol};
 use mk_tests::atom_fits;
 use std::alloc::Global;
 
-/// The table: a row for each atom of the graph.
-pub fn table_of(alloc: Global, graph: &Graph, mol: &Mol) -> Result<Vec<bool>, Memory>
-    ensures { IfOk result (λ fits. IsTable graph.now mol.now fits.items) }
+/// The table, a row for each atom of the graph. None where one of these may lie on no atom of the
+/// molecule: then there is no hit, and the rows after it aren't made. Puts on how many each may lie
+/// into `choices`.
+pub fn table_of(
+    alloc: Global,
+    graph: &Graph,
+    mol: &Mol,
+    choices: &mut Vec<u32>,
+) -> Result<Option<Vec<bool>>, Memory>
+    ensures table { IfOk result (λ found. IfSome found (λ fits. IsTable graph.now mol.now fits.items)) }
+    ensures none { IfOk result (λ found. IfNone found (HasNoHit graph.now mol.now)) }
 {
     let cells = graph.atom_count() as usize * mol.atoms().len();
     let mut fits = Vec::with_capacity(alloc, cells)?;
     for x in 0..graph.atom_count() {
-        push_row(&mut fits, graph, mol, x + 1)?;
+        let count = push_row(&mut fits, graph, mol, x + 1)?;
+        if count == 0 {
+            return Ok(None);
+        }
+        choices.push(count)?;
     }
-    Ok(fits)
+    Ok(Some(fits))
 }
 
-// Puts the row of the next atom behind the others.
-fn push_row(fits: &mut Vec<bool>, graph: &Graph, mol: &Mol, x: u32) -> Result<(), Memory>
+// Puts the row of the next atom behind the others, and tells on how many atoms it may lie.
+fn push_row(fits: &mut Vec<bool>, graph: &Graph, mol: &Mol, x: u32) -> Result<u32, Memory>
     requires least { 1 ≤ x }
     requires most { x ≤ length graph.now.atoms }
     requires rows { AreRows graph.now mol.now (x - 1) fits.old.items }
-    ensures { OnOk result (AreRows graph.now mol.now x fits.new.items) }
+    ensures rows { OnOk result (AreRows graph.now mol.now x fits.new.items) }
+    ensures lonely { IfOk result (λ count. count ≡ 0 → IsLonely graph.now mol.now x (length mol.now.atoms)) }
 {
     let bonds = graph.bonds_at(x).len();
+    let mut count = 0u32;
     for m in 0..mol.atom_count() {
         let says = may_lie(graph, x, bonds, mol, m + 1);
+        count = counted(count, says);
         fits.push(says)?;
     }
-    Ok(())
+    Ok(count)
+}
+
+// One more, where there is one.
+fn counted(count: u32, says: bool) -> u32
+    ensures { result ≡ 0 → (count ≡ 0) × (says ≡ false) }
+{
+    if says {
+        return count.saturating_add(1);
+    }
+    count
 }
 
 // Tells whether atom x, which has so many bonds, may lie on atom m.
