@@ -6,11 +6,12 @@ pub loop-m-init : goal.loop-m-init
 loop-m-init c = (row_starts c.args.graph.now c.args.mol.now c.args.x c.args.fits.now.items c.requires.rows, count_starts c.args.graph.now c.args.mol.now c.args.x)
 
 pub loop-m-preserved : goal.loop-m-preserved
-loop-m-preserved c =
-    (rw c.in_ok-push.ensures.items
-    (row_goes_on c.args.graph.now c.args.mol.now c.args.x c.loop-m.m c.loop-m.fits.items c.may_lie-says.result c.loop-m.invariant.0 c.may_lie-says.ensures),
-    count_goes_on c.args.graph.now c.args.mol.now c.args.x c.loop-m.m c.loop-m.count c.counted-count.result c.may_lie-says.result
-    c.loop-m.invariant.1 c.may_lie-says.ensures c.counted-count.ensures)
+loop-m-preserved c = (
+  rw c.in_ok-push.ensures.items
+      (row_goes_on c.args.graph.now c.args.mol.now c.args.x c.loop-m.m c.loop-m.fits.items c.says_at-says.result c.loop-m.invariant.0 c.says_at-says.ensures),
+  count_goes_on c.args.graph.now c.args.mol.now c.args.x c.loop-m.m c.loop-m.count c.counted-count.result c.says_at-says.result
+      c.loop-m.invariant.1 c.says_at-says.ensures c.counted-count.ensures,
+)
 
 pub returns-clause-rows : goal.returns-clause-rows
 returns-clause-rows c =
