@@ -33,12 +33,16 @@ pub struct Outlook {
 }
 
 impl Outlook {
-    pub fn new(alloc: Global, graph: &Graph, mol: &Mol, fits: &[bool]) -> Result<Outlook, Memory>
-        requires { IsTable graph.now mol.now fits.now }
-    {
+    /// A look ahead that has looked at nothing, by how many choices each atom of the graph has.
+    pub fn new(
+        alloc: Global,
+        graph: &Graph,
+        mol: &Mol,
+        choices: Vec<u32>,
+    ) -> Result<Outlook, Memory> {
         let atoms = graph.atom_count() as usize;
         Ok(Outlook {
-            order: Order::new(alloc, graph, mol, fits)?,
+            order: Order::new(alloc, graph, choices)?,
             chosen: vec![in alloc; 0u32; atoms]?,
             levels: vec![in alloc; 0u32; mol.atom_count() as usize]?,
             witness: vec![in alloc; 0u32; atoms]?,
@@ -167,19 +171,21 @@ fn has_none(
     }
     let mut d = 0;
     let mut above = 0u32;
+    // The same for all candidates of one atom.
+    let mut anchor = anchor_of(graph, mol, first, order, ranks, &chosen[..d], order[d]);
     'look: loop {
         if *left == 0 {
             return None;
         }
         *left -= 1;
         pay_bonds(graph, order[d], left);
-        let anchor = anchor_of(graph, mol, first, order, ranks, &chosen[..d], order[d]);
         let Some(a) = next_atom(mol, anchor, above) else {
             if d == 0 {
                 return Some(true);
             }
             d -= 1;
             above = chosen[d];
+            anchor = anchor_of(graph, mol, first, order, ranks, &chosen[..d], order[d]);
             continue;
         };
         if is_barred(
@@ -204,6 +210,7 @@ fn has_none(
         put_at(levels, a, d as u32);
         d += 1;
         above = 0;
+        anchor = anchor_of(graph, mol, first, order, ranks, &chosen[..d], order[d]);
     }
 }
 

@@ -65,13 +65,16 @@ impl Search {
             }
             return Ok(Search::at_rest(alloc, Stage::Ended));
         }
-        let fits = table_of(alloc, graph, mol)?;
-        let hydrogens = plain_hydrogens(alloc, graph)?;
-        let mut outlook = Outlook::new(alloc, graph, mol, &fits)?;
+        let mut choices = Vec::with_capacity(alloc, graph.atom_count() as usize)?;
+        let Some(fits) = table_of(alloc, graph, mol, &mut choices)? else {
+            return Ok(Search::at_rest(alloc, Stage::Ended));
+        };
+        let mut outlook = Outlook::new(alloc, graph, mol, choices)?;
         outlook.limit(steps);
         if front.is_empty() && outlook.is_dead(graph, mol, &fits, &[], &[]) {
             return Ok(Search::at_rest(alloc, Stage::Ended));
         }
+        let hydrogens = plain_hydrogens(alloc, graph)?;
         let mut walk = Walk::new(alloc, graph, mol)?;
         walk.seek(graph, mol, &fits, &hydrogens, front);
         Ok(Search {
