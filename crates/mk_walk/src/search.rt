@@ -136,6 +136,7 @@ impl Search {
         ensures unowed { result ≡ false → (place : List ℕ) (debt : ℕ) → IsOwed place debt self.new }
     {
         'search: loop {
+            self.outlook.fill();
             match self.step(graph, mol) {
                 Turn::Item => return true,
                 Turn::Moved => {}
@@ -152,6 +153,7 @@ impl Search {
         ensures turns { (place : List ℕ) (debt : ℕ) → IsLeft graph.now mol.now place self.old → IsOwed place debt self.old
             → Turns graph.now mol.now place debt self.new result }
     {
+        self.outlook.earn();
         self.step(graph, mol)
     }
 
