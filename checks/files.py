@@ -6,7 +6,7 @@ further columns hold. A bond is its two atoms, its type and what further columns
     table, short_table, table_v3000     a connection table to its `M  END`: as programs write it, with as little as is read, and as V3000
     entries, link, list_of, order, logic    property lines; and `old_list`, which stands before them
     sketch                              the table that a sketch draws
-    molfile, record, rgfile             whole files
+    molfile, record, sdfile, rgfile     whole files
 """
 import re
 from typing import NamedTuple
@@ -160,6 +160,11 @@ def record(lines, name="", program="", comment="", items=()):
     """A record of an SDfile: a table, and data items with their values."""
     data = [line for item, value in items for line in (f">  <{item}>", value, "")]
     return [name, program, comment, *lines, *data, "$$$$"]
+
+
+def sdfile(molfiles):
+    """The text of an SDfile of the texts of molfiles, without data."""
+    return "".join(f"{one}$$$$\n" for one in molfiles)
 
 
 def rgfile(root, groups, head="$MDL  REV  1", width=4):
