@@ -1,4 +1,4 @@
-"""The block of README.md and of python/README.md runs as it stands, at the top, and says what is known of the examples."""
+"""The blocks of README.md and of python/README.md run as they are, at the top, and say what is known of the examples."""
 from __future__ import annotations
 
 import os
@@ -8,14 +8,10 @@ import sys
 from pathlib import Path
 
 
-def test_the_twenty_lines_run(top: Path, program: Path) -> None:
-    blocks, same = (
-        re.findall(r"```python\n(.*?)```", path.read_text("utf-8"), re.DOTALL)
-        for path in (top / "README.md", top / "python" / "README.md")
-    )
-    assert blocks == same
-    (block,) = blocks
-    assert len([line for line in block.splitlines() if line.strip()]) <= 20
+def said_by(path: Path, top: Path, program: Path, most: int) -> list[str]:
+    """What the one block of Python on a page prints."""
+    (block,) = re.findall(r"```python\n(.*?)```", path.read_text("utf-8"), re.DOTALL)
+    assert len([line for line in block.splitlines() if line.strip()]) <= most
     ran = subprocess.run(
         [sys.executable, "-c", block],
         cwd=top,
@@ -24,7 +20,18 @@ def test_the_twenty_lines_run(top: Path, program: Path) -> None:
         env={**os.environ, "PYTHONPATH": str(top / "python" / "src"), "MARKUSH_SESSION": str(program)},
     )
     assert ran.returncode == 0, ran.stderr
-    lines = ran.stdout.splitlines()
+    return ran.stdout.splitlines()
+
+
+def test_the_lines_of_readme_run(top: Path, program: Path) -> None:
+    *hits, missed = said_by(top / "README.md", top, program, 10)
+    assert [line.split()[:2] for line in hits] == [["1", "phenoxyacetic"], ["2", "4-chlorophenoxyacetic"], ["3", "2,4-D"]]
+    assert all("R2 = " in line for line in hits)
+    assert missed == "the numbers of the logic for R2 aren't met"
+
+
+def test_the_twenty_lines_run(top: Path, program: Path) -> None:
+    lines = said_by(top / "python" / "README.md", top, program, 20)
     assert lines[0] == "phenoxyacetic acid 27 [12, 13, 14]"
     assert lines[1].startswith("5 kept; ") and "atom 1 has the symbol R" in lines[1] and "'chloromethyl resin'" in lines[1]
     assert all("R2 = " in line for line in lines[2:5])

@@ -142,7 +142,8 @@ module _ (atoms : ℕ) (bonds : List Edge) (edge : Edge) (ends : AreBetween atom
 
   -- the new bond is the only one at its atom
   no_ring : IsRingBond whole (length bonds) → ⊥
-  no_ring ring = true≢false (sym (is_new edge.second pendant.second) ∙ sym (same ∙ ap new (ap (λ (m : Edge). m.second) is)) ∙ ap new (ap (λ (m : Edge). m.first) is) ∙ is_old edge.first pendant.first.1)
+  no_ring ring =
+      true≢false (sym (is_new edge.second pendant.second) ∙ sym (same ∙ ap new (ap (λ (m : Edge). m.second) is)) ∙ ap new (ap (λ (m : Edge). m.first) is) ∙ is_old edge.first pendant.first.1)
     where
       new : ℕ → Bool
       new v = eqb v (atoms + 1)
@@ -154,7 +155,10 @@ module _ (atoms : ℕ) (bonds : List Edge) (edge : Edge) (ends : AreBetween atom
       is_old v most = ne_eqb v (atoms + 1) (λ at. absurd (omega (arith, at, most)))
 
       is : ring.edge ≡ edge
-      is = ⊎_elim (λ front. absurd (let below = joins_within bonds (length bonds) ring.edge.first ring.edge.second (record { edge = ring.edge; at = front; ends = inl (refl, refl) }) in omega (arith, below))) (λ last. last.1) (get_either bonds edge (length bonds) ring.edge ring.at)
+      is =
+          ⊎_elim
+          (λ front. absurd (let below = joins_within bonds (length bonds) ring.edge.first ring.edge.second (record { edge = ring.edge; at = front; ends = inl (refl, refl) }) in omega (arith, below)))
+          (λ last. last.1) (get_either bonds edge (length bonds) ring.edge ring.at)
 
       stays : (b x y : ℕ) → Joins whole b x y → b ≢ length bonds → new x ≡ new y
       stays b x y j other =
@@ -221,7 +225,8 @@ module _ (atoms : ℕ) (bonds : List Edge) (edge : Edge) (ends : AreBetween atom
   not_aromatic : IsAromatic whole (length bonds) → ⊥
   not_aromatic aromatic =
       let all : ℕ → Bool = λ b. true in
-      let below = first_true (ltb (length bonds) (length bonds)) (all (length bonds)) (aromatic (others all) (closed_whole all (record { type_four = λ b k. refl; six_rings = λ x k cycle labels i h. refl }))) in
+      let closed = closed_whole all (record { type_four = λ b k. refl; six_rings = λ x k cycle labels i h. refl }) in
+      let below = first_true (ltb (length bonds) (length bonds)) (all (length bonds)) (aromatic (others all) closed) in
       true≢false (sym below ∙ le-ltb (length bonds) (length bonds) (omega arith))
 
 -- ---- marks

@@ -1,9 +1,8 @@
 // The order in which a look ahead looks for atoms. Any order serves its promise, so nothing is
 // promised of this one.
 ghost use Rattle.std.specs.Prelude.{◌≡◌, ◌≤◌, ◌-◌, length, slice_index};
-ghost use Rattle.mk_walk.specs.Table.{IsTable};
 
-use mk_model::{Graph, Memory, Mol};
+use mk_model::{Graph, Memory};
 use std::alloc::Global;
 
 // The rank of an atom that isn't in the order, and of one that waits at its edge.
@@ -24,14 +23,9 @@ pub struct Order {
 }
 
 impl Order {
-    pub fn new(alloc: Global, graph: &Graph, mol: &Mol, fits: &[bool]) -> Result<Order, Memory>
-        requires { IsTable graph.now mol.now fits.now }
-    {
+    /// An order by how many choices each atom of the graph has.
+    pub fn new(alloc: Global, graph: &Graph, choices: Vec<u32>) -> Result<Order, Memory> {
         let atoms = graph.atom_count() as usize;
-        let mut choices = Vec::with_capacity(alloc, atoms)?;
-        for x in 0..graph.atom_count() {
-            choices.push(choices_of(graph, mol, fits, x + 1))?;
-        }
         Ok(Order {
             atoms: Vec::with_capacity(alloc, atoms)?,
             ranks: vec![in alloc; NONE; atoms]?,
@@ -147,23 +141,6 @@ impl Order {
         }
         best
     }
-}
-
-// On how many atoms of the molecule atom x of the graph may lie.
-fn choices_of(graph: &Graph, mol: &Mol, fits: &[bool], x: u32) -> u32
-    requires table { IsTable graph.now mol.now fits.now }
-    requires least { 1 ≤ x }
-    requires most { x ≤ length graph.now.atoms }
-{
-    // The two lists are asked for what they say alone.
-    let width = mol.atoms().len();
-    let _few = graph.atom_count();
-    let end = x as usize * width;
-    let mut count = 0u32;
-    for says in &fits[end - width..end] {
-        count = count.saturating_add(u32::from(*says));
-    }
-    count
 }
 
 // How many neighbours of atom x are among the first.

@@ -6,6 +6,7 @@ ghost use Rattle.mk_walk.specs.Outlook.{AreLater, EndsAt, IsBeside, IsNoHitBehin
 
 use crate::candidates::next_atom;
 use crate::order::{Order, number_at, put_at};
+use crate::purse::pay;
 use crate::table::fits_at;
 use mk_model::{Graph, Memory, Mol};
 use mk_tests::bond_fits;
@@ -17,10 +18,15 @@ const MOST_STEPS: u32 = 65_536;
 
 const LEAST_STEPS: u32 = 256;
 
+// How many steps a turn earns for its look ahead. What it doesn't take is there for later ones, up to
+// what one look ahead takes at most: so turns take so many on the average, and a few may take more.
+const EARNED: u64 = 4_096;
+
 /// What a look ahead needs: the order in which it looks for atoms, what it chose for them, the hit
 /// that it found last, and how many steps it takes before it gives up. These are halved where it
 /// gives up, and doubled where it doesn't: so where looking ahead is of no use, it costs little. They
-/// are never more than `most`. `taken` counts the steps of all look aheads.
+/// are never more than `most`, and than what `purse` has: it is filled where nothing bounds the turns.
+/// `taken` counts the steps of all look aheads.
 #[derive(Debug, Drop)]
 pub struct Outlook {
     order: Order,
@@ -29,21 +35,27 @@ pub struct Outlook {
     witness: Vec<u32>,
     steps: u32,
     most: u32,
+    purse: u64,
     taken: u64,
 }
 
 impl Outlook {
-    pub fn new(alloc: Global, graph: &Graph, mol: &Mol, fits: &[bool]) -> Result<Outlook, Memory>
-        requires { IsTable graph.now mol.now fits.now }
-    {
+    /// A look ahead that has looked at nothing, by how many choices each atom of the graph has.
+    pub fn new(
+        alloc: Global,
+        graph: &Graph,
+        mol: &Mol,
+        choices: Vec<u32>,
+    ) -> Result<Outlook, Memory> {
         let atoms = graph.atom_count() as usize;
         Ok(Outlook {
-            order: Order::new(alloc, graph, mol, fits)?,
+            order: Order::new(alloc, graph, choices)?,
             chosen: vec![in alloc; 0u32; atoms]?,
             levels: vec![in alloc; 0u32; mol.atom_count() as usize]?,
             witness: vec![in alloc; 0u32; atoms]?,
             steps: MOST_STEPS,
             most: MOST_STEPS,
+            purse: MOST_STEPS as u64,
             taken: 0,
         })
     }
@@ -51,6 +63,16 @@ impl Outlook {
     /// Takes at most so many steps for a look ahead from now on, but no more than any may take.
     pub fn limit(&mut self, most: u64) {
         self.most = most.min(MOST_STEPS as u64) as u32;
+    }
+
+    /// Lets the next look ahead take as many steps as any may.
+    pub fn fill(&mut self) {
+        self.purse = MOST_STEPS as u64;
+    }
+
+    /// Adds what one turn earns.
+    pub fn earn(&mut self) {
+        self.purse = self.purse.saturating_add(EARNED).min(MOST_STEPS as u64);
     }
 
     /// How many steps all look aheads took.
@@ -72,6 +94,7 @@ impl Outlook {
             witness: Vec::new(alloc),
             steps: 0,
             most: 0,
+            purse: 0,
             taken: 0,
         }
     }
@@ -92,7 +115,7 @@ impl Outlook {
             return false;
         }
         self.order.arrange(graph, first.len() as u32);
-        let steps = self.steps.min(self.most);
+        let steps = (self.steps.min(self.most) as u64).min(self.purse) as u32;
         let mut left = steps;
         let said = has_none(
             graph,
@@ -106,7 +129,9 @@ impl Outlook {
             &mut self.levels,
             &mut left,
         );
-        self.taken = self.taken.saturating_add(steps.saturating_sub(left) as u64);
+        let took = steps.saturating_sub(left) as u64;
+        pay(&mut self.purse, took);
+        self.taken = self.taken.saturating_add(took);
         let Some(none) = said else {
             self.steps = (self.steps / 2).max(LEAST_STEPS);
             return false;
@@ -167,19 +192,21 @@ fn has_none(
     }
     let mut d = 0;
     let mut above = 0u32;
+    // The same for all candidates of one atom.
+    let mut anchor = anchor_of(graph, mol, first, order, ranks, &chosen[..d], order[d]);
     'look: loop {
         if *left == 0 {
             return None;
         }
         *left -= 1;
         pay_bonds(graph, order[d], left);
-        let anchor = anchor_of(graph, mol, first, order, ranks, &chosen[..d], order[d]);
         let Some(a) = next_atom(mol, anchor, above) else {
             if d == 0 {
                 return Some(true);
             }
             d -= 1;
             above = chosen[d];
+            anchor = anchor_of(graph, mol, first, order, ranks, &chosen[..d], order[d]);
             continue;
         };
         if is_barred(
@@ -204,6 +231,7 @@ fn has_none(
         put_at(levels, a, d as u32);
         d += 1;
         above = 0;
+        anchor = anchor_of(graph, mol, first, order, ranks, &chosen[..d], order[d]);
     }
 }
 

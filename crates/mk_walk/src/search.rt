@@ -65,13 +65,16 @@ impl Search {
             }
             return Ok(Search::at_rest(alloc, Stage::Ended));
         }
-        let fits = table_of(alloc, graph, mol)?;
-        let hydrogens = plain_hydrogens(alloc, graph)?;
-        let mut outlook = Outlook::new(alloc, graph, mol, &fits)?;
+        let mut choices = Vec::with_capacity(alloc, graph.atom_count() as usize)?;
+        let Some(fits) = table_of(alloc, graph, mol, &mut choices)? else {
+            return Ok(Search::at_rest(alloc, Stage::Ended));
+        };
+        let mut outlook = Outlook::new(alloc, graph, mol, choices)?;
         outlook.limit(steps);
         if front.is_empty() && outlook.is_dead(graph, mol, &fits, &[], &[]) {
             return Ok(Search::at_rest(alloc, Stage::Ended));
         }
+        let hydrogens = plain_hydrogens(alloc, graph)?;
         let mut walk = Walk::new(alloc, graph, mol)?;
         walk.seek(graph, mol, &fits, &hydrogens, front);
         Ok(Search {
@@ -133,6 +136,7 @@ impl Search {
         ensures unowed { result ≡ false → (place : List ℕ) (debt : ℕ) → IsOwed place debt self.new }
     {
         'search: loop {
+            self.outlook.fill();
             match self.step(graph, mol) {
                 Turn::Item => return true,
                 Turn::Moved => {}
@@ -149,6 +153,7 @@ impl Search {
         ensures turns { (place : List ℕ) (debt : ℕ) → IsLeft graph.now mol.now place self.old → IsOwed place debt self.old
             → Turns graph.now mol.now place debt self.new result }
     {
+        self.outlook.earn();
         self.step(graph, mol)
     }
 

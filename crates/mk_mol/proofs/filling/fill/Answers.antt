@@ -63,7 +63,8 @@ over-requires-clause-molecule c =
     let same : edges c.in_ok-bonds.bonds.items ≡ old = c.in_ok-bonds.ensures.edges ∙ c.deref-2.ensures.value in
     let drawn : (b : ℕ) (bond : MolBond) → slice_get c.in_ok-bonds.bonds.items b ≡ Some bond → HasMarks old b bond = rw c.deref-2.ensures.value at c.in_ok-bonds.ensures.marks in
     let many : c.len-drawn_bonds.result ≡ length old = omega (arith, c.len-drawn_bonds.ensures, c.args.drawn.edges.ok.0) in
-    let made : c.add_unmarked.new.bonds.items ≡ c.in_ok-bonds.bonds.items ++ map unmarked (take (length plain - length old) (drop (length old) plain)) = rw (many, c.deref-4.ensures.value) at c.in_ok-add_unmarked.ensures in
+    let made : c.add_unmarked.new.bonds.items ≡ c.in_ok-bonds.bonds.items ++ map unmarked (take (length plain - length old) (drop (length old) plain)) =
+    rw (many, c.deref-4.ensures.value) at c.in_ok-add_unmarked.ensures in
     let marks = filled_marks (length atoms) old plain gains c.in_ok-bonds.bonds.items c.add_unmarked.new.bonds.items size graph bonded same drawn made in
     molecule atoms new old plain gains c.len-written.result c.add_unmarked.new.bonds.items
     (omega (arith, c.len-written.ensures, c.in_ok-atoms.atoms.ok.0)) size few c.in_ok-add_hydrogens.ensures.few c.in_ok-atoms.ensures.sound graph filled bonded marks.0 marks.1
@@ -83,7 +84,8 @@ over-requires-clause-rows c =
     let same : edges c.in_ok-bonds.bonds.items ≡ old = c.in_ok-bonds.ensures.edges ∙ c.deref-2.ensures.value in
     let drawn : (b : ℕ) (bond : MolBond) → slice_get c.in_ok-bonds.bonds.items b ≡ Some bond → HasMarks old b bond = rw c.deref-2.ensures.value at c.in_ok-bonds.ensures.marks in
     let many : c.len-drawn_bonds.result ≡ length old = omega (arith, c.len-drawn_bonds.ensures, c.args.drawn.edges.ok.0) in
-    let made : c.add_unmarked.new.bonds.items ≡ c.in_ok-bonds.bonds.items ++ map unmarked (take (length plain - length old) (drop (length old) plain)) = rw (many, c.deref-4.ensures.value) at c.in_ok-add_unmarked.ensures in
+    let made : c.add_unmarked.new.bonds.items ≡ c.in_ok-bonds.bonds.items ++ map unmarked (take (length plain - length old) (drop (length old) plain)) =
+    rw (many, c.deref-4.ensures.value) at c.in_ok-add_unmarked.ensures in
     let marks = filled_marks (length atoms) old plain gains c.in_ok-bonds.bonds.items c.add_unmarked.new.bonds.items size graph bonded same drawn made in
     let count : c.len-count.result ≡ length new = omega (arith, c.len-count.ensures, c.add_hydrogens.new.atoms.ok.0) in
     c.in_ok-neighbours.ensures.rows ∙ ap (λ (n : ℕ). rows_of n c.deref-5.result.now) count
@@ -104,7 +106,8 @@ returns c =
     let same : edges c.in_ok-bonds.bonds.items ≡ old = c.in_ok-bonds.ensures.edges ∙ c.deref-2.ensures.value in
     let drawn : (b : ℕ) (bond : MolBond) → slice_get c.in_ok-bonds.bonds.items b ≡ Some bond → HasMarks old b bond = rw c.deref-2.ensures.value at c.in_ok-bonds.ensures.marks in
     let many : c.len-drawn_bonds.result ≡ length old = omega (arith, c.len-drawn_bonds.ensures, c.args.drawn.edges.ok.0) in
-    let made : c.add_unmarked.new.bonds.items ≡ c.in_ok-bonds.bonds.items ++ map unmarked (take (length plain - length old) (drop (length old) plain)) = rw (many, c.deref-4.ensures.value) at c.in_ok-add_unmarked.ensures in
+    let made : c.add_unmarked.new.bonds.items ≡ c.in_ok-bonds.bonds.items ++ map unmarked (take (length plain - length old) (drop (length old) plain)) =
+    rw (many, c.deref-4.ensures.value) at c.in_ok-add_unmarked.ensures in
     let marks = filled_marks (length atoms) old plain gains c.in_ok-bonds.bonds.items c.add_unmarked.new.bonds.items size graph bonded same drawn made in
     is_filled c.args.table.now c.over.result atoms new old plain gains c.len-written.result c.add_unmarked.new.bonds.items
     (omega (arith, c.len-written.ensures, c.in_ok-atoms.atoms.ok.0)) c.in_ok-atoms.ensures.written are c.requires.drawn.edges filled bonded
