@@ -93,13 +93,27 @@ def drawn_record(draw, number, drawn=False, v3000=False):
 # ---- queries
 
 # A six-ring of carbons with double bonds at every second place.
-SIX = [(1, 2, 2, 0), (2, 3, 1, 0), (3, 4, 2, 0), (4, 5, 1, 0), (5, 6, 2, 0), (1, 6, 1, 0)]
+SIX = [(1, 2, 2), (2, 3, 1), (3, 4, 2), (4, 5, 1), (5, 6, 2), (1, 6, 1)]
 
 
-def ring(*sites, lines=()):
-    """The ring with sites that hold one of six elements."""
-    symbols = ["C"] * 6 + ["R#"] * len(sites)
-    bonds = SIX + [(atom, site, 1, 0) for site, atom in enumerate(sites, 7)]
-    root = files.table(symbols, bonds, [*files.entries("RGP", [(site, 1) for site, _ in enumerate(sites, 7)]), *lines])
-    members = [files.table([symbol], [], files.entries("APO", [(1, 1)])) for symbol in ("C", "N", "O", "F", "S", "Cl")]
+def table(symbols, bonds, lines=()):
+    """A table of symbols, bonds as first, second and type, and property lines."""
+    return files.table(symbols, [(*bond, 0) for bond in bonds], lines)
+
+
+def molfile(symbols, bonds):
+    return files.text(files.molfile(table(symbols, bonds)))
+
+
+def ring(*atoms, lines=()):
+    """The ring with a site at each of these atoms, which holds one of six elements."""
+    sites = list(enumerate(atoms, 7))
+    bonds = SIX + [(atom, site, 1) for site, atom in sites]
+    root = table(["C"] * 6 + ["R#"] * len(sites), bonds, [*files.entries("RGP", [(site, 1) for site, _ in sites]), *lines])
+    members = [table([symbol], [], files.entries("APO", [(1, 1)])) for symbol in ("C", "N", "O", "F", "S", "Cl")]
     return files.text(files.rgfile(root, {1: members}, "$MDL", 3))
+
+
+def opposite():
+    """The ring with two sites opposite each other, of which each may stay unfilled."""
+    return ring(1, 4, lines=[files.logic(1, "0-2")])
