@@ -5,7 +5,8 @@ Nothing here is taken from the program. The scripts beside it import it.
 import copy
 import itertools
 
-from rules import Asked, Graph, Table, asked_atoms, asked_lines, sketch_lines
+import files
+from rules import Asked, Graph, Table, asked_atoms, asked_lines
 
 # beyond it no range text says a number
 MOST = 999_999
@@ -22,17 +23,6 @@ def is_in_range(text, number):
     return False
 
 
-def rgfile(root, groups):
-    """The lines of an RGfile of the table of its root, and for each group the tables of its members."""
-    lines = [*("$MDL  REV  1", "$MOL", "$HDR", "", "", "", "$END HDR"), "$CTAB", *root, "$END CTAB"]
-    for number, members in groups.items():
-        lines += ["$RGP", f"{number:4}"]
-        for member in members:
-            lines += ["$CTAB", *member, "$END CTAB"]
-        lines.append("$END RGP")
-    return [*lines, "$END MOL"]
-
-
 class Template:
     """Atoms that ask, bonds as first, second, type and topology, counted from 0; labels of sites and the order of their neighbours, links,
     and atoms of points."""
@@ -41,8 +31,8 @@ class Template:
         self.atoms, self.bonds, self.sites, self.orders, self.links, self.points = [], [], {}, {}, {}, []
 
     @classmethod
-    def of_sketch(cls, sketch):
-        made, table = cls(), Table(sketch_lines(sketch))
+    def of_sketch(cls, drawn):
+        made, table = cls(), Table(files.sketch(drawn))
         made.atoms = asked_atoms(table)
         made.bonds = [(first - 1, second - 1, kind, topology) for first, second, kind, topology in table.bonds]
         for site, label in table.entries("RGP"):
@@ -89,20 +79,17 @@ class Template:
         """What the table asks, where it has no slots."""
         return Graph(self.atoms, self.counted_bonds())
 
-    def lines(self, logic=()):
+    def lines(self, lines=(), valences=()):
         more = []
         for site, labels in self.sites.items():
-            more.append(f"M  RGP{len(labels):3}" + "".join(f"{site + 1:4}{label:4}" for label in labels))
-        for site, order in self.orders.items():
-            entries = sorted((atom + 1, place) for place, atom in enumerate(order, 1))
-            more.append(f"M  AAL{site + 1:4}{len(order):3}" + "".join(f"{atom:4}{place:4}" for atom, place in entries))
-        for link, (most, first, second) in self.links.items():
-            more.append(f"M  LIN  1{link + 1:4}{most:4}{first + 1:4}{second + 1:4}")
+            more += files.entries("RGP", [(site + 1, label) for label in labels])
+        more += [files.order(site + 1, [atom + 1 for atom in atoms]) for site, atoms in self.orders.items()]
+        more += [files.link(atom + 1, most, first + 1, second + 1) for atom, (most, first, second) in self.links.items()]
         if len(self.points) == 2 and self.points[0] == self.points[1]:
-            more.append(f"M  APO  1{self.points[0] + 1:4}   3")
-        elif self.points:
-            more.append(f"M  APO{len(self.points):3}" + "".join(f"{atom + 1:4}{point:4}" for point, atom in enumerate(self.points, 1)))
-        return list(asked_lines(self.atoms, self.counted_bonds(), [*more, *logic]))
+            more += files.entries("APO", [(self.points[0] + 1, 3)])
+        else:
+            more += files.entries("APO", [(atom + 1, point) for point, atom in enumerate(self.points, 1)])
+        return asked_lines(self.atoms, self.counted_bonds(), [*more, *lines], valences)
 
 
 class Claim:
@@ -131,7 +118,7 @@ class Claim:
         claim.root, claim.groups, claim.logic = Template.of_sketch(root), {}, {}
         for number, member in groups:
             claim.groups.setdefault(number, []).append(Template.of_sketch(member))
-        for line in sketch_lines(root):
+        for line in files.sketch(root):
             if line[:6] == "M  LOG":
                 claim.logic[int(line[10:13])] = int(line[14:17]), int(line[18:21]) == 1, line[22:]
         return claim
@@ -222,8 +209,8 @@ class Claim:
             table.bonds[place] = first, second, kind, draw.choice((1, 2)) if draw.random() < 0.04 else topology
 
     def lines(self):
-        logic = [f"M  LOG  1{number:4}{then:4}{int(rest):4} {text}".rstrip() for number, (then, rest, text) in self.logic.items()]
-        return rgfile(self.root.lines(logic), {number: [member.lines() for member in members] for number, members in self.groups.items()})
+        lines = [files.logic(number, sites, then, rest) for number, (then, rest, sites) in self.logic.items()]
+        return files.rgfile(self.root.lines(lines), {number: [member.lines() for member in members] for number, members in self.groups.items()})
 
     # ---- codes
 

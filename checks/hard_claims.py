@@ -5,41 +5,25 @@ checks/budgets and bench/turns import it.
 """
 import itertools
 
+import files
+from files import entries, link, logic, short_table
+
 # ---- files
 
 
-def table(atoms, bonds, lines=()):
-    """A connection table of these symbols, of bonds with their two ends and a type, else a single one, and of property lines."""
-    made = [f"{len(atoms):3}{len(bonds):3}", *(f"{'':31}{symbol}" for symbol in atoms)]
-    made += [f"{a:3}{b:3}{(*kind, 1)[0]:3}" for a, b, *kind in bonds]
-    return "\n".join([*made, *lines, "M  END", ""])
-
-
-def molfile(atoms, bonds):
-    return "\n\n\n" + table(atoms, bonds)
-
-
-def labels(pairs):
-    """Property lines that give atoms their groups."""
-    for part in (pairs[at:at + 8] for at in range(0, len(pairs), 8)):
-        yield f"M  RGP{len(part):3}" + "".join(f"{atom:4}{group:4}" for atom, group in part)
-
-
-def logic(group, text, then=0):
-    return f"M  LOG  1{group:4}{then:4}   0 {text}"
+def molfile(atoms, bonds, lines=()):
+    """A molfile of these symbols, of bonds with their two ends and a type, else a single one, and of property lines."""
+    return files.text(files.molfile(short_table(atoms, bonds, lines)))
 
 
 def member(atoms, bonds=(), lines=()):
     """A member that is joined on by its first atom."""
-    return table(atoms, bonds, [*lines, "M  APO  1   1   1"])
+    return short_table(atoms, bonds, [*lines, *entries("APO", [(1, 1)])])
 
 
 def claim(root, groups):
     """An RGfile: a root, and by their numbers groups with their members."""
-    made = f"$MDL  REV  1\n$MOL\n$HDR\n\n\n\n$END HDR\n$CTAB\n{root}$END CTAB\n"
-    for number, members in groups.items():
-        made += f"$RGP\n{number:3}\n" + "".join(f"$CTAB\n{one}$END CTAB\n" for one in members) + "$END RGP\n"
-    return made + "$END MOL\n"
+    return files.text(files.rgfile(root, groups, width=3))
 
 
 # ---- molecules, and roots of claims
@@ -107,7 +91,7 @@ def sites(drawing, groups, lines=()):
     """The root of a drawing, whose sites all bear these labels."""
     atoms, bonds = drawing
     pairs = [(at, group) for at, symbol in enumerate(atoms, 1) if symbol == "R#" for group in groups]
-    return table(atoms, bonds, [*labels(pairs), *lines])
+    return short_table(atoms, bonds, [*entries("RGP", pairs), *lines])
 
 
 # ---- claims
@@ -131,7 +115,7 @@ def two_of_32():
 def four_and_five():
     """Eight sites of R1, four of them filled, and in each member a site of R2, five of them filled."""
     root = sites(bearing(*ring("C", 8), ["R#"] * 8), (1,), [logic(1, "4"), logic(2, "5")])
-    bearers = [member([s, "R#"], [(1, 2)], labels([(2, 2)])) for s in ("C", "N", "O", "S", "P", "B", "Si", "Se")]
+    bearers = [member([s, "R#"], [(1, 2)], entries("RGP", [(2, 2)])) for s in ("C", "N", "O", "S", "P", "B", "Si", "Se")]
     atoms, bonds = bearing(*ring("C", 8), ["C"] * 8)
     return (atoms + ["F"] * 8, bonds + [(at, at + 8) for at in range(9, 17)]), claim(root, {1: bearers, 2: [member([s]) for s in TEN]})
 
@@ -169,21 +153,21 @@ def two_hundred_sites():
 def nested():
     """One site, whose member bears a further one."""
     root = sites((["C", "R#"], [(1, 2)]), (1,))
-    return chain("C", 3), claim(root, {1: [member(["C", "R#"], [(1, 2)], labels([(2, 2)]))], 2: [member(["C"])]})
+    return chain("C", 3), claim(root, {1: [member(["C", "R#"], [(1, 2)], entries("RGP", [(2, 2)]))], 2: [member(["C"])]})
 
 
 def not_asked():
     """Of R1 there is one or none, and where there is one, five of R2: one site of each, both unfilled."""
-    root = table(["C", "R#", "R#"], [(1, 2), (1, 3)], [*labels([(2, 1), (3, 2)]), logic(1, "0-1", 2), logic(2, "5")])
+    root = short_table(["C", "R#", "R#"], [(1, 2), (1, 3)], [*entries("RGP", [(2, 1), (3, 2)]), logic(1, "0-1", 2), logic(2, "5")])
     return (["C"], []), claim(root, {1: FLUORINE, 2: [member(["Cl"])]})
 
 
 def links():
     """Twenty links of up to ten carbons in a row between two bromines, which are farther from each other in the molecule."""
-    lines = [f"M  LIN  1{at:4}  10{at - 1:4}{at + 1:4}" for at in range(3, 42, 2)]
+    lines = [link(at, 10, at - 1, at + 1) for at in range(3, 42, 2)]
     atoms, bonds = chain("C", 43)
     longer = chain("C", 250)
-    return (["Br", *longer[0][1:-1], "Br"], longer[1]), molfile(["Br", *atoms[1:-1], "Br"], bonds).replace("M  END", "\n".join([*lines, "M  END"]))
+    return (["Br", *longer[0][1:-1], "Br"], longer[1]), molfile(["Br", *atoms[1:-1], "Br"], bonds, lines)
 
 
 CLAIMS = [

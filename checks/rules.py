@@ -6,6 +6,8 @@ Nothing here is fast, and nothing is taken from the program. The scripts beside 
 """
 import dataclasses
 
+import files
+
 SYMBOLS = """H He Li Be B C N O F Ne Na Mg Al Si P S Cl Ar K Ca Sc Ti V Cr Mn Fe Co Ni Cu Zn Ga Ge As Se Br Kr Rb Sr Y Zr Nb Mo Tc Ru Rh Pd Ag Cd
 In Sn Sb Te I Xe Cs Ba La Ce Pr Nd Pm Sm Eu Gd Tb Dy Ho Er Tm Yb Lu Hf Ta W Re Os Ir Pt Au Hg Tl Pb Bi Po At Rn Fr Ra Ac Th Pa U Np Pu Am Cm Bk
 Cf Es Fm Md No Lr Rf Db Sg Bh Hs Mt Ds Rg Cn Nh Fl Mc Lv Ts Og""".split()
@@ -326,46 +328,17 @@ def hits(graph, mol):
 
 # ---- texts
 
-SIGNS = {"-": 1, "=": 2, "#": 3, ":": 4}
 
-
-def sketch_lines(sketch, valence=0):
-    """The lines of the table that a sketch draws (docs/TESTING.md, "Tables of tests"), with one valence column for all atoms that name none.
-
-    A bond may have any type too, as in `1~2(8)`.
-    """
-    atoms, _, rest = sketch.partition("|")
-    bonds, *properties = rest.split("{")
-    atom_lines, bond_lines = [], []
-    for word in atoms.split():
-        symbol, *columns = word.rstrip(")").replace(")(", "(").split("(")
-        told = {column[0]: int(column[1:]) for column in columns}
-        atom_lines.append(
-            f"    0.0000    0.0000    0.0000 {symbol:<3} 0{told.get('c', 0):3}  0{told.get('h', 0):3}  0{told.get('v', valence):3}"
-        )
-    for word in bonds.split():
-        word, _, topology = word.partition("/")
-        word, _, kind = word.rstrip(")").partition("(")
-        sign = next(sign for sign in "-=#:~" if sign in word)
-        first, second = word.split(sign)
-        bond_lines.append(f"{int(first):3}{int(second):3}{int(kind or SIGNS[sign]):3}  0  0{int(topology or 0):3}")
-    counts = f"{len(atom_lines):3}{len(bond_lines):3}  0  0  0  0            999 V2000"
-    return [counts, *atom_lines, *bond_lines, *(line.strip().rstrip("}") for line in properties), "M  END"]
-
-
-def asked_lines(atoms, bonds, more=()):
-    """The lines of a table of atoms that ask, with bonds of first, second, type and topology that count from 1."""
-    yield f"{len(atoms):3}{len(bonds):3}  0  0  0  0            999 V2000"
-    for asked in atoms:
-        yield f"    0.0000    0.0000    0.0000 {asked.symbol:<3} 0  0  0{asked.hydrogens:3}"
-    for first, second, kind, topology in bonds:
-        yield f"{first:3}{second:3}{kind:3}  0  0{topology:3}"
+def asked_lines(atoms, bonds, more=(), valences=()):
+    """The lines of a table of atoms that ask, with bonds of first, second, type and topology that count from 1, and perhaps a valence column
+    for all."""
     words = {"CHG": "charge", "RAD": "radical", "RBC": "rings", "SUB": "others", "UNS": "unsaturated"}
+    asks = []
     for n, asked in enumerate(atoms, 1):
         for word, field in words.items():
             if getattr(asked, field):
-                yield f"M  {word}  1{n:4}{int(getattr(asked, field)):4}"
+                asks += files.entries(word, [(n, int(getattr(asked, field)))])
         if asked.members:
-            yield f"M  ALS{n:4}{len(asked.members):3} {'T' if asked.excluded else 'F'} " + "".join(f"{member:<4}" for member in asked.members)
-    yield from more
-    yield "M  END"
+            asks.append(files.list_of(n, asked.members, asked.excluded))
+    drawn = [files.Atom(asked.symbol, (0, 0, asked.hydrogens, *valences)) for asked in atoms]
+    return files.table(drawn, [(first, second, kind, 0, 0, topology) for first, second, kind, topology in bonds], [*asks, *more])

@@ -1,8 +1,7 @@
-"""The hits in the compounds of the examples beside what `checks/claims` reasons out by RDKit, which shares nothing with the package."""
+"""The hits in the compounds of the examples beside what `checks/by_rdkit.py` reasons out by RDKit, which shares nothing with the package."""
 from __future__ import annotations
 
-from importlib.machinery import SourceFileLoader
-from importlib.util import module_from_spec, spec_from_loader
+import importlib
 from pathlib import Path
 from typing import Any
 
@@ -15,12 +14,10 @@ CLAIMS = ("amino_chains", "anilinoquinazolines", "benzodiazepines", "beta_blocke
 
 @pytest.fixture(scope="module")
 def plain(top: Path) -> Any:
-    """The program `checks/claims` as a module: it writes codes, logic and expansions out by the rules, and asks RDKit for the rest."""
-    spec = spec_from_loader("claims_by_rdkit", SourceFileLoader("claims_by_rdkit", str(top / "checks" / "claims")))
-    assert spec is not None and spec.loader is not None
-    module = module_from_spec(spec)
-    spec.loader.exec_module(module)
-    return module
+    """The module of `checks/claims`: it writes codes, logic and expansions out by the rules, and asks RDKit for the rest."""
+    with pytest.MonkeyPatch.context() as patch:
+        patch.syspath_prepend(str(top / "checks"))
+        return importlib.import_module("by_rdkit")
 
 
 def test_no_claim_is_left_out(examples: Path) -> None:
